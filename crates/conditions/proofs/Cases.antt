@@ -1,0 +1,25 @@
+-- The sixteen cases hold, by computation.
+use mathlib.Core.Path.{refl}
+use Rattle.tables.specs.Content.{all, numberFrom}
+use Rattle.tables.specs.Refusals.{firstFailing, firstOf}
+use Rattle.tables.specs.Typing.{typed}
+use Rattle.values.specs.Comparison.{byteOrder, comparison}
+use Rattle.values.specs.Classes.{classHolds}
+use Rattle.values.specs.Switches.{switchHolds}
+use Rattle.values.specs.Truth.{outcome}
+use Rattle.grammar.specs.Grammar.{class}
+use Rattle.grammar.specs.Parser.{on, parse-condition, read}
+use Rattle.grammar.specs.Depth.{depthFrom}
+use Rattle.grammar.specs.Typed.{typingFrom}
+use Rattle.grammar.specs.Expanded.{full-form, expanded}
+use Rattle.grammar.specs.Judging.{leaves, when, at, judged}
+use Rattle.grammar.specs.Plan.{rowsOf, flat, planned, planRow, planRowSound, follow, run}
+use Rattle.conditions.specs.Calls.{expandGives, planGives, judgeGives, runGives}
+use Rattle.conditions.specs.Cases.{SixteenCases, sixteen}
+
+pub sixteen-cases : SixteenCases
+unfolding all numberFrom firstFailing firstOf typed byteOrder comparison classHolds switchHolds outcome class on parse-condition read depthFrom typingFrom full-form expanded leaves when at judged rowsOf flat planned planRow planRowSound follow run expandGives planGives judgeGives runGives sixteen
+sixteen-cases =
+    record {
+      hold = (refl, (refl, (refl, (refl, (refl, ((refl, refl, refl), ((refl, refl, refl), ((refl, refl, refl), ((refl, refl, refl), ((refl, refl, refl), (refl, (refl, ((refl, refl), ((refl, refl), ((refl, refl), ((refl, refl), ((refl, refl), ((refl, refl), ((refl, refl), ((refl, refl), ((refl, refl), ((refl, refl), ((refl, refl), ((refl, refl), tt))))))))))))))))))))))));
+    }

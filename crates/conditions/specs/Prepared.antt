@@ -1,0 +1,50 @@
+-- What the functions below the calls promise: the lines 1 to 9 have been tried, and the rows of the condition's tree stand in a
+-- buffer.
+use mathlib.Core.Path.{_≡_}
+use mathlib.Core.List.{List, [], _∷_}
+use Prim.Native.Nat.{ℕ, _*_}
+use lib.ListN.{take}
+use Rattle.tables.specs.declared.Refusal.the-variants.{Grammar}
+use Rattle.tables.specs.declared.Check.{Check}
+use Rattle.tables.specs.declared.Check.the-variants.{Sound, Refused}
+use Rattle.tables.specs.Operands.{Lent}
+use Rattle.tables.specs.Refusals.{firstOf}
+use Rattle.tables.specs.Tables.{tableLines, recordCheck}
+use Rattle.grammar.specs.declared.Parse.{Parse}
+use Rattle.grammar.specs.declared.Parse.the-variants.{Accepted, Refused as Unparsed}
+use Rattle.grammar.specs.Grammar.{Tree}
+use Rattle.grammar.specs.Parser.{Reading, accepted, read}
+use Rattle.grammar.specs.Judging.{leaves}
+use Rattle.grammar.specs.Plan.{planned, planCheck}
+use Rattle.conditions.specs.declared.Prepared.{Prepared}
+use Rattle.conditions.specs.declared.Prepared.the-variants.{Rows, Refused as Unprepared}
+use Rattle.conditions.specs.Calls.{grammarLines, conditionLines}
+
+-- 7, of what was parsed
+abbrev pub parseCheck : Parse → Check
+parseCheck (Accepted n) = Sound
+parseCheck (Unparsed at) = Refused (Grammar at)
+
+-- so many rows of a tree stand at the start of the buffer
+pub record Stands (reading : Reading) (count : ℕ) (after : List ℕ) : Type 0 where
+  pub tree : Tree
+  pub read-as : reading ≡ accepted tree
+  pub counted : count ≡ leaves tree
+  pub rows : take (count * 5) after ≡ planned tree
+
+-- what is prepared: the refusal of the lines, or the rows
+abbrev pub Readies : Check → Reading → Prepared → List ℕ → Type 0
+Readies check reading (Unprepared refusal) after = check ≡ Refused refusal
+Readies check reading (Rows count) after = (check ≡ Sound) × Stands reading count after
+
+abbrev pub Resolves : Lent → List ℕ → Prepared → List ℕ → Type 0
+Resolves lent tokens r after = Readies (firstOf (grammarLines lent tokens)) (read tokens) r after
+
+abbrev pub Prepares : Lent → List ℕ → Prepared → List ℕ → Type 0
+Prepares lent tokens r after = Readies (firstOf (conditionLines lent tokens)) (read tokens) r after
+
+-- refusals 1 to 4, 11 and 12 are ruled out
+pub record Runnable (lent : Lent) (plan content : List ℕ) : Type 0 where
+  pub tables : firstOf (tableLines lent) ≡ Sound
+  pub sound : planCheck lent plan ≡ Sound
+  pub holds : recordCheck lent content ≡ Sound

@@ -1,0 +1,104 @@
+// Expand, plan and judge a condition.
+ghost use mathlib.Core.Path.{_≡_};
+ghost use mathlib.Core.List.{_++_};
+ghost use Prim.Native.Nat.{_≤_};
+ghost use lib.ListN.{length, drop};
+ghost use Rattle.tables.specs.Operands.{lend};
+ghost use Rattle.conditions.specs.Calls.{expandGives, planGives, judgeGives, Leaves};
+use crate::Prepared;
+use crate::prepare::prepare;
+use crate::runner::run_rows;
+use grammar::expand::expanded_length;
+use grammar::expand::write_expanded;
+use tables::Check;
+use tables::Refusal;
+use tables::Verdict;
+use tables::Written;
+use tables::checks::check_record;
+
+// The expanded form of a condition, written from the start of the output.
+pub fn expand(
+    items: &[u32],
+    literals: &[u32],
+    bytes: &[u8],
+    tokens: &[u32],
+    output: &mut [u32],
+) -> Written
+    ensures { λ r. ⌜ Leaves (expandGives (lend (now (items .entry)) (now (literals .entry)) (now (bytes .entry))) (now (tokens .entry)) (now (output .entry))) r (now (output .exit)) ⌝ }
+{
+    let mut rows = [0u32; 640];
+    let prepared = prepare(items, literals, bytes, tokens, &mut rows);
+    match prepared {
+        Prepared::Refused(refusal) => Written::Refused(refusal),
+        Prepared::Rows(_) => {
+            let needed = expanded_length(tokens);
+            if output.len() < needed {
+                return Written::Refused(Refusal::Room(needed));
+            }
+            Written::Count(write_expanded(tokens, output))
+        }
+    }
+}
+
+// The numbers from the start of a longer output.
+fn copy(numbers: &[u32], output: &mut [u32])
+    requires { ⌜ length (now numbers) ≤ length (now output) ⌝ }
+    ensures { λ _. ⌜ now (output .exit) ≡ now (numbers .entry) ++ drop (length (now (numbers .entry))) (now (output .entry)) ⌝ }
+{
+    let mut i: usize = 0;
+    while i < numbers.len() {
+        output[i] = numbers[i];
+        i += 1;
+    }
+}
+
+// The plan of a condition, five numbers for each simple condition, written from the start of the output.
+pub fn plan(
+    items: &[u32],
+    literals: &[u32],
+    bytes: &[u8],
+    tokens: &[u32],
+    output: &mut [u32],
+) -> Written
+    ensures { λ r. ⌜ Leaves (planGives (lend (now (items .entry)) (now (literals .entry)) (now (bytes .entry))) (now (tokens .entry)) (now (output .entry))) r (now (output .exit)) ⌝ }
+{
+    let mut rows = [0u32; 640];
+    let prepared = prepare(items, literals, bytes, tokens, &mut rows);
+    match prepared {
+        Prepared::Refused(refusal) => Written::Refused(refusal),
+        Prepared::Rows(count) => {
+            let needed = count * 5;
+            if output.len() < needed {
+                return Written::Refused(Refusal::Room(needed));
+            }
+            copy(&rows[..needed], output);
+            Written::Count(needed)
+        }
+    }
+}
+
+// The truth of a condition on a record and a switch byte.
+pub fn judge<'a>(
+    items: &[u32],
+    literals: &[u32],
+    bytes: &'a [u8],
+    tokens: &[u32],
+    record: &'a [u8],
+    switches: u8,
+) -> Verdict
+    ensures { λ r. ⌜ r ≡ judgeGives (lend (now (items .entry)) (now (literals .entry)) (now (bytes .entry))) (now (tokens .entry)) (now («record» .entry)) switches ⌝ }
+{
+    let mut rows = [0u32; 640];
+    let prepared = prepare(items, literals, bytes, tokens, &mut rows);
+    match prepared {
+        Prepared::Refused(refusal) => Verdict::Refused(refusal),
+        Prepared::Rows(count) => {
+            let held = check_record(items, record);
+            if let Check::Refused(refusal) = held {
+                return Verdict::Refused(refusal);
+            }
+            let end = count * 5;
+            run_rows(items, literals, bytes, &rows[..end], record, switches)
+        }
+    }
+}

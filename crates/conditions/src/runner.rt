@@ -1,0 +1,61 @@
+// Running the rows of a plan on a record and a switch byte.
+ghost use mathlib.Core.Path.{_≡_};
+ghost use Rattle.tables.specs.Operands.{lend};
+ghost use Rattle.values.specs.Truth.{outcome};
+ghost use Rattle.grammar.specs.Plan.{run};
+ghost use Rattle.conditions.specs.Prepared.{Runnable};
+use grammar::Target;
+use grammar::plans::plan_row;
+use tables::Outcome;
+use tables::Refusal;
+use tables::Verdict;
+use values::truth::truth_of;
+
+fn wide(x: u32) -> usize
+    ensures { λ r. ⌜ r ≡ x ⌝ }
+{
+    x as usize
+}
+
+// From row 0 on, each row's target is followed: the rows left fall.
+pub fn run_rows<'a>(
+    items: &[u32],
+    literals: &[u32],
+    bytes: &'a [u8],
+    plan: &[u32],
+    record: &'a [u8],
+    switches: u8,
+) -> Verdict
+    requires { ⌜ Runnable (lend (now items) (now literals) (now bytes)) (now plan) (now «record») ⌝ }
+    ensures { λ r. ⌜ r ≡ run (outcome (lend (now (items .entry)) (now (literals .entry)) (now (bytes .entry))) (now («record» .entry)) switches) (now (plan .entry)) ⌝ }
+{
+    let mut at: usize = 0;
+    while at < wide(Target::FALSE) {
+        let row = plan_row(plan, at);
+        let found = truth_of(
+            items,
+            literals,
+            bytes,
+            record,
+            switches,
+            row.subject,
+            row.relation,
+            row.object,
+        );
+        match found {
+            Outcome::True => {
+                at = wide(row.holds);
+            }
+            Outcome::False => {
+                at = wide(row.fails);
+            }
+            Outcome::Fault => {
+                return Verdict::Refused(Refusal::Data(at));
+            }
+        }
+    }
+    if at == wide(Target::TRUE) {
+        return Verdict::True;
+    }
+    Verdict::False
+}

@@ -1,0 +1,12 @@
+pub mod Sound
+pub mod Complete
+pub mod Local
+pub mod Reading
+pub mod Spelling
+pub mod Expansion
+pub mod Size
+pub mod Judging
+pub mod Segment
+pub mod Retarget
+pub mod Typed
+pub mod Planned

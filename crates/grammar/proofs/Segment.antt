@@ -1,0 +1,166 @@
+-- The run of a tree's plan is the judging of the tree.
+use mathlib.Core.Path.{_≡_, refl, sym, ap, _∙_}
+use mathlib.Core.List.{List, [], _∷_, _++_}
+use Prim.Native.Nat.{ℕ, zero, suc, _+_, _*_, _-_, _<_, _≤_}
+use native.Mathlib.Omega.{arith}
+use native.Mathlib.Nat.{zero-add, add-zero, add-assoc}
+use native.Mathlib.Numerals.{one-add}
+use lib.ListN.{length, getD, length-append, List·getD-append}
+use lib.Seq.{getD-append-add}
+use borrow.Author.Tests.{ne-eqb}
+use Rattle.tables.specs.declared.Verdict.{Verdict}
+use Rattle.tables.specs.declared.Verdict.the-variants.{True, False, Refused}
+use Rattle.grammar.specs.declared.PlanRow.{PlanRow}
+use Rattle.grammar.specs.Grammar.{Tree, simple, negated, bracketed, both, either}
+use Rattle.grammar.specs.Judging.{Outcomes, leaves, when, at, judged}
+use Rattle.grammar.specs.Plan.{onFalse, onTrue, rowsOf, flat, planned, planRow, planRows, follow, run}
+use Rattle.grammar.proofs.Judging.{when-same, when-not, steps, steps-le}
+
+pub rows-count : (n y f : ℕ) (t : Tree) → length (rowsOf n y f t) ≡ leaves t
+unfolding leaves rowsOf
+rows-count n y f (simple a r b) = refl
+rows-count n y f (negated t) = rows-count n f y t
+rows-count n y f (bracketed t) = rows-count n y f t
+rows-count n y f (both t u) = rw length-append (omega (arith, rows-count n (n + leaves t) f t, rows-count (n + leaves t) y f u))
+rows-count n y f (either t u) = rw length-append (omega (arith, rows-count n y (n + leaves t) t, rows-count (n + leaves t) y f u))
+
+-- no row: what a lookup past the end gives
+abbrev pub blank : PlanRow
+blank = record { subject = 0; relation = 0; object = 0; holds = 0; fails = 0 }
+
+-- The rows stand in a plan, given by its lookup, from row n on.
+pub record Stands (row : ℕ → PlanRow) (n : ℕ) (rows : List PlanRow) : Type 0 where
+  pub stands : (k : ℕ) → k < length rows → row (n + k) ≡ getD rows k blank
+
+pub stands-left : (row : ℕ → PlanRow) (n : ℕ) (a b : List PlanRow) → Stands row n (a ++ b) → Stands row n a
+stands-left row n a b h =
+    record { stands = λ k l. h .stands k (rw length-append (omega arith)) ∙ List·getD-append a b blank k l }
+
+pub stands-right : (row : ℕ → PlanRow) (n m : ℕ) (a b : List PlanRow) → Stands row n (a ++ b) → length a ≡ m → Stands row (n + m) b
+stands-right row n m a b h e =
+    record {
+      stands = λ k l.
+          ap row (let z : (n + m) + k ≡ n + (length a + k) = omega arith in z)
+          ∙ h .stands (length a + k) (rw length-append (omega arith))
+          ∙ getD-append-add a b k blank;
+    }
+
+-- the one row of a simple condition, and the rows of two trees, one after the other
+pub stands-one : (row : ℕ → PlanRow) (n : ℕ) (r : PlanRow) → Stands row n (r ∷ []) → row n ≡ r
+stands-one row n r h = rw add-zero at (h .stands 0 (omega arith))
+
+pub stands-parts : (row : ℕ → PlanRow) (n y f z g : ℕ) (t u : Tree) → Stands row n (rowsOf n y f t ++ rowsOf (n + leaves t) z g u) →
+    Stands row n (rowsOf n y f t) × Stands row (n + leaves t) (rowsOf (n + leaves t) z g u)
+stands-parts row n y f z g t u h =
+    let a : List PlanRow = rowsOf n y f t in
+    let b : List PlanRow = rowsOf (n + leaves t) z g u in
+    (stands-left row n a b h, stands-right row n (leaves t) a b h (rows-count n y f t))
+
+-- one row
+pub follow-row : (out : Outcomes) (row : ℕ → PlanRow) (m k : ℕ) → k < onFalse →
+    follow out row (suc m) k
+    ≡ when (at k (out (row k .subject) (row k .relation) (row k .object))) (follow out row m (row k .holds)) (follow out row m (row k .fails)) Refused
+unfolding follow
+follow-row out row m k l = rw (ne-eqb k onTrue (λ e. omega arith), ne-eqb k onFalse (λ e. omega arith))
+
+pub follow-true : (out : Outcomes) (row : ℕ → PlanRow) (m : ℕ) → follow out row m onTrue ≡ True
+unfolding follow
+follow-true out row zero = refl
+follow-true out row (suc m) = refl
+
+pub follow-false : (out : Outcomes) (row : ℕ → PlanRow) (m : ℕ) → follow out row m onFalse ≡ False
+unfolding follow
+follow-false out row zero = refl
+follow-false out row (suc m) = refl
+
+-- What comes after the first part of a chain, and of a condition. `F m k` goes on from target k with m rows left; it is a
+-- variable, so that the cases of a verdict are told apart once and not inside the induction.
+module _ (F : ℕ → ℕ → Verdict) where
+  after-both : (v w : Verdict) (j m k y f : ℕ) →
+      F (j + m) k ≡ when w (F m y) (F m f) Refused →
+      when v (F (when v j 0 (λ _. 0) + m) k) (F (when v j 0 (λ _. 0) + m) f) Refused ≡ when (when v w False Refused) (F m y) (F m f) Refused
+  unfolding when
+  after-both True w j m k y f h = h
+  after-both False w j m k y f h = rw zero-add
+  after-both (Refused refusal) w j m k y f h = refl
+
+  after-either : (v w : Verdict) (j m k y f : ℕ) →
+      F (j + m) k ≡ when w (F m y) (F m f) Refused →
+      when v (F (when v 0 j (λ _. 0) + m) y) (F (when v 0 j (λ _. 0) + m) k) Refused ≡ when (when v True w Refused) (F m y) (F m f) Refused
+  unfolding when
+  after-either True w j m k y f h = rw zero-add
+  after-either False w j m k y f h = h
+  after-either (Refused refusal) w j m k y f h = refl
+
+-- The rows of a tree, wherever they stand, are run as the tree is judged: with the steps of the judging, and m more, the run
+-- comes to the exit of the verdict with m left, or stops with the same refusal.
+pub segment : (out : Outcomes) (row : ℕ → PlanRow) (t : Tree) (n y f m : ℕ) → n + leaves t ≤ onFalse → Stands row n (rowsOf n y f t) →
+    follow out row (steps out n t + m) n ≡ when (judged out n t) (follow out row m y) (follow out row m f) Refused
+unfolding leaves rowsOf judged steps
+segment out row (simple a r b) n y f m l h =
+    rw one-add (follow-row out row m n (omega arith) ∙ rw (stands-one row n (record { subject = a; relation = r; object = b; holds = y; fails = f }) h))
+segment out row (negated t) n y f m l h = segment out row t n f y m l h ∙ when-not (judged out n t) _ _ Refused
+segment out row (bracketed t) n y f m l h = segment out row t n y f m l h
+segment out row (both t u) n y f m l h =
+    let p = stands-parts row n (n + leaves t) f y f t u h in
+    rw add-assoc
+    (segment out row t n (n + leaves t) f (when (judged out n t) (steps out (n + leaves t) u) 0 (λ _. 0) + m) (omega arith) (p .0)
+    ∙ after-both (follow out row) (judged out n t) (judged out (n + leaves t) u) (steps out (n + leaves t) u) m (n + leaves t) y f
+    (segment out row u (n + leaves t) y f m (omega arith) (p .1)))
+segment out row (either t u) n y f m l h =
+    let p = stands-parts row n y (n + leaves t) y f t u h in
+    rw add-assoc
+    (segment out row t n y (n + leaves t) (when (judged out n t) 0 (steps out (n + leaves t) u) (λ _. 0) + m) (omega arith) (p .0)
+    ∙ after-either (follow out row) (judged out n t) (judged out (n + leaves t) u) (steps out (n + leaves t) u) m (n + leaves t) y f
+    (segment out row u (n + leaves t) y f m (omega arith) (p .1)))
+
+-- any plan that holds the rows of a tree from row 0 on, run through as many rows as the tree has or more
+pub plan-runs : (out : Outcomes) (row : ℕ → PlanRow) (t : Tree) (m : ℕ) → leaves t ≤ onFalse → leaves t ≤ m → Stands row 0 (rowsOf 0 onTrue onFalse t) →
+    follow out row m 0 ≡ judged out 0 t
+plan-runs out row t m l g h =
+    let e : m ≡ steps out 0 t + (m - steps out 0 t) = omega (arith, steps-le out 0 t) in
+    ap (λ w. follow out row w 0) e
+    ∙ segment out row t 0 onTrue onFalse (m - steps out 0 t) (omega arith) h
+    ∙ rw (follow-true, follow-false) (sym (when-same (judged out 0 t)))
+
+-- the numbers of rows hold the rows
+pub flat-length : (rows : List PlanRow) → length (flat rows) ≡ length rows * 5
+unfolding flat
+flat-length [] = refl
+flat-length (r ∷ rows) = omega (arith, flat-length rows)
+
+pub row-of-flat : (rows : List PlanRow) (k : ℕ) → k < length rows → planRow (flat rows) k ≡ getD rows k blank
+unfolding planRow flat
+row-of-flat [] k l = absurd (omega arith)
+row-of-flat (r ∷ rows) zero l = refl
+row-of-flat (r ∷ rows) (suc k) l = next ∙ row-of-flat rows k (omega arith)
+  where
+    past : (x y : ℕ) → x ≡ suc (suc (suc (suc (suc y)))) → getD (flat (r ∷ rows)) x 0 ≡ getD (flat rows) y 0
+    past x y e = rw e
+
+    next : planRow (flat (r ∷ rows)) (suc k) ≡ planRow (flat rows) k
+    next =
+        λ i.
+        record {
+          subject = past (suc k * 5) (k * 5) (omega arith) i;
+          relation = past (suc k * 5 + 1) (k * 5 + 1) (omega arith) i;
+          object = past (suc k * 5 + 2) (k * 5 + 2) (omega arith) i;
+          holds = past (suc k * 5 + 3) (k * 5 + 3) (omega arith) i;
+          fails = past (suc k * 5 + 4) (k * 5 + 4) (omega arith) i;
+        }
+
+pub planned-length : (t : Tree) → length (planned t) ≡ leaves t * 5
+unfolding planned
+planned-length t = flat-length (rowsOf 0 onTrue onFalse t) ∙ ap (λ w. w * 5) (rows-count 0 onTrue onFalse t)
+
+pub planned-rows : (t : Tree) → planRows (planned t) ≡ leaves t
+planned-rows t = omega (arith, planned-length t)
+
+pub planned-stands : (t : Tree) → Stands (planRow (planned t)) 0 (rowsOf 0 onTrue onFalse t)
+unfolding planned
+planned-stands t = record { stands = λ k l. rw zero-add (row-of-flat (rowsOf 0 onTrue onFalse t) k l) }
+
+-- whichever way a row was reached, the run goes on as the judging does
+pub run-is-judging : (out : Outcomes) (t : Tree) → leaves t < 65534 → run out (planned t) ≡ judged out 0 t
+unfolding run
+run-is-judging out t l = plan-runs out (planRow (planned t)) t (planRows (planned t)) (omega arith) (omega (arith, planned-length t)) (planned-stands t)

@@ -1,0 +1,62 @@
+-- Document 01, "Truth on a record": judging a tree from left to right.
+use Prim.Native.Nat.{ℕ, _+_}
+use mathlib.Core.List.{List, [], _∷_}
+use Rattle.tables.specs.declared.Outcome.{Outcome}
+use Rattle.tables.specs.declared.Outcome.the-variants.{True as Holds, False as Fails, Fault}
+use Rattle.tables.specs.declared.Verdict.{Verdict}
+use Rattle.tables.specs.declared.Verdict.the-variants.{True, False, Refused}
+use Rattle.tables.specs.declared.Refusal.{Refusal}
+use Rattle.tables.specs.declared.Refusal.the-variants.{Data}
+use Rattle.grammar.specs.Grammar.{Tree, simple, negated, bracketed, both, either}
+
+-- what each simple condition comes to, by its subject, relation and object
+abbrev pub Outcomes : Type 0
+Outcomes = ℕ → ℕ → ℕ → Outcome
+
+-- how many simple conditions a tree has
+unfoldable pub leaves : Tree → ℕ
+leaves (simple a n b) = 1
+leaves (negated t) = leaves t
+leaves (bracketed t) = leaves t
+leaves (both t u) = leaves t + leaves u
+leaves (either t u) = leaves t + leaves u
+
+-- the first answer where the verdict is true, the second where it is false, the third where judging has stopped
+unfoldable pub when : {A : Type 0} → Verdict → A → A → (Refusal → A) → A
+when True a b s = a
+when False a b s = b
+when (Refused refusal) a b s = s refusal
+
+-- "A simple condition gives true, false or its stop", with refusal 13 at "its simple condition"
+unfoldable pub at : ℕ → Outcome → Verdict
+at n Holds = True
+at n Fails = False
+at n Fault = Refused (Data n)
+
+-- "Simple conditions are numbered from 0 in text order": those of the tree are numbered from n on. "NOT exchanges true and
+-- false. A chain judges its terms in order up to the first that is false or stops, and is true if there is none. A condition
+-- judges its chains in order up to the first that is true or stops, and is false if there is none. A bracketed condition gives
+-- what is inside. A stop ends all judging and is the answer, with its refusal number and place."
+unfoldable pub judged : Outcomes → ℕ → Tree → Verdict
+judged out n (simple a r b) = at n (out a r b)
+judged out n (negated t) = when (judged out n t) False True Refused
+judged out n (bracketed t) = judged out n t
+judged out n (both t u) = when (judged out n t) (judged out (n + leaves t) u) False Refused
+judged out n (either t u) = when (judged out n t) True (judged out (n + leaves t) u) Refused
+
+-- the same of a chain and of a condition as the list of its parts
+unfoldable pub chain-of : Tree → List Tree → Tree
+chain-of t [] = t
+chain-of t (u ∷ us) = both t (chain-of u us)
+
+unfoldable pub condition-of : Tree → List Tree → Tree
+condition-of t [] = t
+condition-of t (u ∷ us) = either t (condition-of u us)
+
+unfoldable pub judged-terms : Outcomes → ℕ → List Tree → Verdict
+judged-terms out n [] = True
+judged-terms out n (t ∷ ts) = when (judged out n t) (judged-terms out (n + leaves t) ts) False Refused
+
+unfoldable pub judged-chains : Outcomes → ℕ → List Tree → Verdict
+judged-chains out n [] = False
+judged-chains out n (t ∷ ts) = when (judged out n t) True (judged-chains out (n + leaves t) ts) Refused

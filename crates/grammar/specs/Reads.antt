@@ -1,0 +1,134 @@
+-- What the parser's functions promise: each answers as the parser of Parser.antt does on the tokens from its place on, and
+-- leaves the rows of the tree in the buffer.
+use mathlib.Core.Path.{_≡_}
+use mathlib.Core.Bool.{true, cond}
+use mathlib.Core.List.{List, [], _∷_, _++_, map}
+use Prim.Native.Nat.{ℕ, _+_, _*_, _-_, _≤_, _<_}
+use lib.ListN.{length, getD, take, drop}
+use lib.Dec.{eqb}
+use Rattle.tables.specs.declared.Check.{Check}
+use Rattle.tables.specs.declared.Refusal.the-variants.{Typing}
+use Rattle.tables.specs.Operands.{Lent}
+use Rattle.tables.specs.Refusals.{firstFailing}
+use Rattle.tables.specs.Tests.{testOf}
+use Rattle.tables.specs.Shape.{shapeSound}
+use Rattle.tables.specs.Typing.{typed}
+use Rattle.grammar.specs.declared.Carried.{Carried}
+use Rattle.grammar.specs.declared.Single.{Single}
+use Rattle.grammar.specs.declared.Single.the-variants.{Row, Stuck as Lost}
+use Rattle.grammar.specs.declared.Answer.{Answer}
+use Rattle.grammar.specs.declared.Answer.the-variants.{Parsed, Stuck}
+use Rattle.grammar.specs.declared.Parse.{Parse}
+use Rattle.grammar.specs.declared.Parse.the-variants.{Accepted, Refused}
+use Rattle.grammar.specs.declared.PlanRow.{PlanRow}
+use Rattle.grammar.specs.Grammar.{Carry, nothing, carried, Tree, simple}
+use Rattle.grammar.specs.Parser.{Result, parsed, stuck, Parser, Reading, accepted, refused, read}
+use Rattle.grammar.specs.Judging.{leaves}
+use Rattle.grammar.specs.Plan.{onTrue, onFalse, rowsOf, flat, planned, planRow}
+
+-- the token at a place, or a number that is no token
+unfoldable pub tok : List ℕ → ℕ → ℕ
+tok tokens at = getD tokens at 4294967295
+
+-- relation 0 says that nothing is carried
+unfoldable pub carryOf : Carried → Carry
+carryOf c = cond (eqb (c .relation) 0) nothing (carried (c .subject) (c .relation))
+
+-- a simple condition that was read is the parser's result
+pub data Found (tokens : List ℕ) : Single → Result → Type 0 where
+  none-found : {p : ℕ} {rest : List ℕ} → rest ≡ drop p tokens → Found tokens (Lost p) (stuck rest)
+  found-row : {a n b p : ℕ} {c : Carried} {d : Carry} {rest : List ℕ} →
+      rest ≡ drop p tokens → carryOf c ≡ d → Found tokens (Row a n b p c) (parsed (simple a n b) d rest)
+
+abbrev pub endOf : Single → ℕ
+endOf (Row a n b p c) = p
+endOf (Lost p) = p
+
+-- how many tokens a simple condition has taken at least
+abbrev pub taken : ℕ → Single → ℕ
+taken least (Row a n b p c) = least
+taken least (Lost p) = 0
+
+pub record Reads (parser : Parser) (least : ℕ) (tokens : List ℕ) (at : ℕ) (r : Single) : Type 0 where
+  pub found : Found tokens r (parser (drop at tokens))
+  pub from : taken least r + at ≤ endOf r
+  pub upto : endOf r ≤ length tokens
+
+-- a verdict becomes the target that it leads to
+unfoldable pub aim : ℕ → ℕ → ℕ → ℕ
+aim y f target = cond (eqb target onTrue) y (cond (eqb target onFalse) f target)
+
+unfoldable pub retargeted : ℕ → ℕ → PlanRow → PlanRow
+retargeted y f r =
+    record { subject = r .subject; relation = r .relation; object = r .object; holds = aim y f (r .holds); fails = aim y f (r .fails) }
+
+-- Of the rows up to `end`, those from `from` on are retargeted, whatever rows stand there; what is before them is unchanged.
+unfoldable pub Turned : ℕ → ℕ → ℕ → List ℕ → List ℕ → ℕ → Type 0
+Turned y f end after before from =
+    (front : List ℕ) (rows : List PlanRow) → take (end * 5) before ≡ front ++ flat rows → length front ≡ from * 5 →
+    take (end * 5) after ≡ front ++ flat (map (retargeted y f) rows)
+
+-- one more row, whose targets are the verdicts
+unfoldable pub Added : ℕ → List ℕ → ℕ → ℕ → ℕ → List ℕ → Type 0
+Added row before a n b after = take ((row + 1) * 5) after ≡ take (row * 5) before ++ flat (rowsOf row onTrue onFalse (simple a n b))
+
+-- the row of a simple condition that was read
+abbrev pub Placeable : Single → ℕ → Type 0
+Placeable (Lost p) row = Unit {0}
+Placeable (Row a n b p c) row = row < 128
+
+abbrev pub Placed : Single → ℕ → List ℕ → Answer → List ℕ → Type 0
+Placed (Lost p) row before r after = r ≡ Stuck p
+Placed (Row a n b p c) row before r after = (r ≡ Parsed p c (row + 1)) × Added row before a n b after
+
+-- What a call at a place and a row needs: each row before it has a token of its own and an AND or OR after it, so 256 tokens have
+-- at most 128 rows.
+pub record Room (tokens : List ℕ) (at row : ℕ) (before : List ℕ) : Type 0 where
+  pub within : at ≤ length tokens
+  pub short : length tokens ≤ 256
+  pub few : 2 * row ≤ at
+  pub wide : 640 ≤ length before
+
+-- the answer, with the rows that it leaves, is the parser's result
+pub data Told (tokens : List ℕ) (row : ℕ) (before after : List ℕ) : Answer → Result → Type 0 where
+  stuck-at : {p : ℕ} {rest : List ℕ} → rest ≡ drop p tokens → Told tokens row before after (Stuck p) (stuck rest)
+  parsed-to : {p n : ℕ} {c : Carried} {t : Tree} {d : Carry} {rest : List ℕ} →
+      rest ≡ drop p tokens → carryOf c ≡ d → n ≡ row + leaves t →
+      take (n * 5) after ≡ take (row * 5) before ++ flat (rowsOf row onTrue onFalse t) →
+      Told tokens row before after (Parsed p c n) (parsed t d rest)
+
+abbrev pub placeOf : Answer → ℕ
+placeOf (Parsed p c n) = p
+placeOf (Stuck p) = p
+
+abbrev pub nextRow : ℕ → Answer → ℕ
+nextRow row (Parsed p c n) = n
+nextRow row (Stuck p) = row
+
+-- The call answers as the parser does, with every fuel above the measure: 4 for each token left, and the level.
+pub record Plans (parser : ℕ → Carry → Parser) (level : ℕ) (tokens : List ℕ) (at : ℕ) (carry : Carried) (row : ℕ) (before : List ℕ)
+    (r : Answer) (after : List ℕ) : Type 0 where
+  pub told : (f : ℕ) → 4 * (length tokens - at) + level < f → Told tokens row before after r (parser f (carryOf carry) (drop at tokens))
+  pub from : at ≤ placeOf r
+  pub upto : placeOf r ≤ length tokens
+  pub above : row ≤ nextRow row r
+  pub spare : 2 * nextRow row r ≤ placeOf r + 1
+
+-- the whole sequence is read, and its plan stands at the start of the buffer
+unfoldable pub Whole : Parse → List ℕ → Reading → Type 0
+Whole r after (accepted t) = (r ≡ Accepted (leaves t)) × (take (leaves t * 5) after ≡ planned t)
+Whole r after (refused n) = r ≡ Refused n
+
+abbrev pub Parses : List ℕ → Parse → List ℕ → Type 0
+Parses tokens r after = Whole r after (read tokens)
+
+-- each of so many rows in the buffer has a sound shape
+pub record Shaped (lent : Lent) (rows : List ℕ) (count : ℕ) : Type 0 where
+  pub inside : count * 5 ≤ length rows
+  pub shape : (k : ℕ) → k < count →
+      shapeSound lent (testOf (planRow rows k .relation)) (planRow rows k .subject) (planRow rows k .object) ≡ true
+
+-- 9, over rows: "first such simple condition"
+abbrev pub typedRows : Lent → List ℕ → ℕ → Check
+typedRows lent rows count =
+    firstFailing (λ k. typed lent (planRow rows k .subject) (planRow rows k .relation) (planRow rows k .object)) Typing 0 count

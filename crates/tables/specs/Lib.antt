@@ -1,0 +1,9 @@
+pub mod Tokens
+pub mod Rows
+pub mod Content
+pub mod Operands
+pub mod Refusals
+pub mod Tables
+pub mod Tests
+pub mod Typing
+pub mod Shape

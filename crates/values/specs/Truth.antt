@@ -1,0 +1,83 @@
+-- Document 01, "Truth on a record": what one simple condition comes to.
+use mathlib.Core.Path.{_≡_}
+use mathlib.Core.Bool.{Bool, true, false, not, cond, _||_}
+use mathlib.Core.List.{List}
+use Prim.Native.Nat.{ℕ, _≤_}
+use lib.ListN.{length}
+use lib.IntN.{pos}
+use Rattle.tables.specs.declared.Outcome.{Outcome}
+use Rattle.tables.specs.declared.Outcome.the-variants.{True, False, Fault}
+use Rattle.tables.specs.declared.Test.{Test}
+use Rattle.tables.specs.declared.Test.the-variants.{Switch, Relation, Class, Sign, Unknown}
+use Rattle.tables.specs.declared.Check.the-variants.{Sound}
+use Rattle.tables.specs.declared.Row.{Row}
+use Rattle.tables.specs.Rows.{rowSound}
+use Rattle.tables.specs.Content.{digitBytes}
+use Rattle.tables.specs.Operands.{Lent, Within}
+use Rattle.tables.specs.Refusals.{firstOf}
+use Rattle.tables.specs.Tables.{tableLines, recordCheck}
+use Rattle.tables.specs.Tests.{testOf}
+use Rattle.tables.specs.Shape.{shapeSound}
+use Rattle.tables.specs.Typing.{typed}
+use Rattle.values.specs.Order.{orderℤ, relationHolds, signHolds}
+use Rattle.values.specs.Comparison.{Side, sideOf, valueOf, comparison, invalid, faulty}
+use Rattle.values.specs.Classes.{classHolds}
+use Rattle.values.specs.Switches.{switchHolds}
+
+abbrev pub truth : Bool → Outcome
+truth true = True
+truth false = False
+
+-- NOT that belongs to a word
+abbrev pub turned : Bool → Bool → Bool
+turned negated b = cond negated (not b) b
+
+-- "A reached relation or sign condition that uses a numeric item's value or digits with invalid content stops all with refusal
+-- 13. Class conditions never stop."
+abbrev pub relationOutcome : ℕ → Bool → Side → Side → Outcome
+relationOutcome word negated s o =
+    cond (faulty s o || faulty o s) Fault (truth (turned negated (relationHolds word (comparison s o))))
+
+abbrev pub classOutcome : ℕ → Bool → Side → Outcome
+classOutcome word negated s = truth (turned negated (classHolds word (s .row .kind) (s .bytes)))
+
+abbrev pub signOutcome : ℕ → Bool → Side → Outcome
+signOutcome word negated s = cond (invalid s) Fault (truth (turned negated (signHolds word (orderℤ (valueOf s) (pos 0)))))
+
+module _ (lent : Lent) (content : List ℕ) (switches : ℕ) where
+  abbrev pub testOutcome : Test → ℕ → ℕ → Outcome
+  testOutcome Switch subject object = truth (switchHolds switches subject)
+  testOutcome (Relation word negated) subject object =
+      relationOutcome word negated (sideOf lent content subject) (sideOf lent content object)
+  testOutcome (Class word negated) subject object = classOutcome word negated (sideOf lent content subject)
+  testOutcome (Sign word negated) subject object = signOutcome word negated (sideOf lent content subject)
+  -- no simple condition that is well typed asks this
+  testOutcome Unknown subject object = Fault
+
+  -- "A simple condition gives true, false or its stop."
+  unfoldable pub outcome : ℕ → ℕ → ℕ → Outcome
+  outcome subject relation object = testOutcome (testOf relation) subject object
+
+-- What the code needs to know of a simple condition before it reads the record: refusals 1 to 4 and 12 are ruled out, and the
+-- condition has a sound shape and is well typed.
+pub record Readable (lent : Lent) (content : List ℕ) (subject relation object : ℕ) : Type 0 where
+  pub tables : firstOf (tableLines lent) ≡ Sound
+  pub holds : recordCheck lent content ≡ Sound
+  pub shape : shapeSound lent (testOf relation) subject object ≡ true
+  pub well : typed lent subject relation object ≡ true
+
+-- a side whose row is sound, with as many bytes as its row says
+pub record Fit (s : Side) : Type 0 where
+  pub sound : rowSound (s .row) ≡ true
+  pub sized : length (s .bytes) ≡ s .row .size
+
+-- an operand within its table and its bytes, whose side is fit to be read
+pub record Sided (lent : Lent) (content : List ℕ) (token : ℕ) : Type 0 where
+  pub within : Within lent content token
+  pub fit : Fit (sideOf lent content token)
+
+-- a side that holds a number: at most 18 digits, at most 18 of them after the point
+pub record Numeral (row : Row) (bytes : List ℕ) : Type 0 where
+  pub some : 1 ≤ length bytes
+  pub digits : length (digitBytes (row .kind) bytes) ≤ 18
+  pub scaled : row .scale ≤ 18

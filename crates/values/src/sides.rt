@@ -1,0 +1,93 @@
+// The two sides of a relation: whether one is faulty, and how they compare.
+ghost use mathlib.Core.Path.{_≡_};
+ghost use mathlib.Core.Bool.{cond, not, _&&_};
+ghost use Prim.Native.Nat.{_≤_};
+ghost use lib.ListN.{length};
+ghost use Rattle.tables.specs.Rows.{isGroup, isNumeric};
+ghost use Rattle.tables.specs.Content.{digitBytes, value};
+ghost use Rattle.values.specs.Comparison.{side, scaledOrder, comparison, invalid};
+ghost use Rattle.values.specs.Truth.{Fit, Numeral};
+use crate::Order;
+use crate::characters::compare_characters;
+use crate::numbers::compare_scaled;
+use crate::numbers::magnitude_of;
+use tables::Row;
+use tables::content::digit_bytes;
+use tables::content::is_minus;
+use tables::content::valid_content;
+use tables::rows::is_group;
+use tables::rows::is_numeric;
+
+// Whether a side is a numeric item with invalid content.
+pub fn is_invalid(item: bool, row: Row, bytes: &[u8]) -> bool
+    requires { ⌜ 1 ≤ length (now bytes) ⌝ }
+    ensures { λ r. ⌜ r ≡ invalid (side item row (now (bytes .entry))) ⌝ }
+{
+    if item & is_numeric(row) {
+        return !valid_content(row.kind, bytes);
+    }
+    false
+}
+
+// Whether a relation with another side stops at this one. Beside a group it is not looked at.
+pub fn is_faulty(item: bool, row: Row, bytes: &[u8], other: Row) -> bool
+    requires { ⌜ 1 ≤ length (now bytes) ⌝ }
+    ensures { λ r. ⌜ r ≡ (invalid (side item row (now (bytes .entry))) && not (isGroup other)) ⌝ }
+{
+    if is_group(other) {
+        return false;
+    }
+    is_invalid(item, row, bytes)
+}
+
+fn gives_digits(item: bool, row: Row, other: Row) -> bool
+    ensures { λ r. ⌜ r ≡ (isNumeric row && not (item && isGroup other)) ⌝ }
+{
+    is_numeric(row) & !(item & is_group(other))
+}
+
+// The bytes of a side that are compared: those of its digits, or all.
+fn compared_part(digits: bool, kind: u32, bytes: &[u8]) -> &[u8]
+    requires { ⌜ 1 ≤ length (now bytes) ⌝ }
+    ensures { λ r. ⌜ now r ≡ cond digits (digitBytes kind (now (bytes .entry))) (now (bytes .entry)) ⌝ }
+{
+    if digits {
+        return digit_bytes(kind, bytes);
+    }
+    bytes
+}
+
+fn compare_values(row1: Row, bytes1: &[u8], row2: Row, bytes2: &[u8]) -> Order
+    requires { ⌜ Numeral row1 (now bytes1) × Numeral row2 (now bytes2) ⌝ }
+    ensures { λ r. ⌜ r ≡ scaledOrder (value (row1 .kind) (now (bytes1 .entry))) (row1 .scale) (value (row2 .kind) (now (bytes2 .entry))) (row2 .scale) ⌝ }
+{
+    let minus1 = is_minus(row1.kind, bytes1);
+    let d1 = magnitude_of(row1.kind, bytes1);
+    let minus2 = is_minus(row2.kind, bytes2);
+    let d2 = magnitude_of(row2.kind, bytes2);
+    compare_scaled(minus1, d1, row1.scale, minus2, d2, row2.scale)
+}
+
+pub fn compare_sides(
+    item1: bool,
+    row1: Row,
+    bytes1: &[u8],
+    item2: bool,
+    row2: Row,
+    bytes2: &[u8],
+) -> Order
+    requires { ⌜ Fit (side item1 row1 (now bytes1)) × Fit (side item2 row2 (now bytes2)) ⌝ }
+    ensures { λ r. ⌜ r ≡ comparison (side item1 row1 (now (bytes1 .entry))) (side item2 row2 (now (bytes2 .entry))) ⌝ }
+{
+    if is_numeric(row1) & is_numeric(row2) {
+        return compare_values(row1, bytes1, row2, bytes2);
+    }
+    let digits1 = gives_digits(item1, row1, row2);
+    let digits2 = gives_digits(item2, row2, row1);
+    compare_characters(
+        compared_part(digits1, row1.kind, bytes1),
+        digits1 & (row1.kind == 4),
+        compared_part(digits2, row2.kind, bytes2),
+        digits2 & (row2.kind == 4),
+    )
+}
