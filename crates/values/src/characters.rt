@@ -1,13 +1,14 @@
 // Comparison by characters, the shorter side filled on the right with hex 20.
 ghost use mathlib.Core.Path.{_≡_};
-ghost use Prim.Native.Nat.{max};
-ghost use lib.ListN.{getD};
+ghost use Prim.Native.Nat.{_≤_, max};
+ghost use lib.ListN.{length, getD};
 ghost use Rattle.tables.specs.Content.{unsignedLast};
 ghost use Rattle.values.specs.Comparison.{characterOrder};
 use crate::Order;
 
 // Character i of a side, whose last byte may hold a sign beside its digit.
 fn character_at(bytes: &[u8], signed_last: bool, i: usize) -> u8
+    requires { ⌜ 1 ≤ length (now bytes) ⌝ }
     ensures { λ r. ⌜ r ≡ getD (unsignedLast «signed_last» (now (bytes .entry))) i 0x20 ⌝ }
 {
     if bytes.len() <= i {
@@ -29,6 +30,7 @@ fn longer(a: usize, b: usize) -> usize
 }
 
 pub fn compare_characters(left: &[u8], left_signed: bool, right: &[u8], right_signed: bool) -> Order
+    requires { ⌜ (1 ≤ length (now left)) × (1 ≤ length (now right)) ⌝ }
     ensures { λ r. ⌜ r ≡ characterOrder (unsignedLast «left_signed» (now (left .entry))) (unsignedLast «right_signed» (now (right .entry))) ⌝ }
 {
     let n = longer(left.len(), right.len());

@@ -1,0 +1,90 @@
+-- Document 01, "How strong a promise is": demands 2 and 3, over the definitions that the calls' contracts cite. Their proofs are
+-- in proofs/Demands.antt.
+use mathlib.Core.Path.{_≡_}
+use mathlib.Core.Bool.{true}
+use mathlib.Core.List.{List, _++_}
+use Prim.Native.Nat.{ℕ, _≤_}
+use lib.ListN.{length, take, drop}
+use Rattle.tables.specs.declared.Refusal.the-variants.{Data}
+use Rattle.tables.specs.declared.Check.the-variants.{Sound}
+use Rattle.tables.specs.declared.Written.the-variants.{Count}
+use Rattle.tables.specs.declared.Verdict.{Verdict}
+use Rattle.tables.specs.declared.Verdict.the-variants.{True, False, Refused}
+use Rattle.tables.specs.Operands.{Lent}
+use Rattle.tables.specs.Refusals.{firstOf}
+use Rattle.tables.specs.Tables.{recordCheck}
+use Rattle.tables.specs.Typing.{typed}
+use Rattle.values.specs.Truth.{outcome}
+use Rattle.grammar.specs.Grammar.{Tree, simple, negated, bracketed, both, either, Derives}
+use Rattle.grammar.specs.Depth.{depthCheck}
+use Rattle.grammar.specs.Expanded.{expanded}
+use Rattle.grammar.specs.Judging.{judged}
+use Rattle.grammar.specs.Plan.{planned}
+use Rattle.conditions.specs.Calls.{Gives, tokenLines, answers, expandGives, planGives, judgeGives, runGives}
+
+-- every part of the tree is well typed
+abbrev pub WellTyped : Lent → Tree → Type 0
+WellTyped lent (simple a r b) = typed lent a r b ≡ true
+WellTyped lent (negated t) = WellTyped lent t
+WellTyped lent (bracketed t) = WellTyped lent t
+WellTyped lent (both t u) = WellTyped lent t × WellTyped lent u
+WellTyped lent (either t u) = WellTyped lent t × WellTyped lent u
+
+-- "the rules derive a condition tree whose parts are well typed"
+pub record Accepted (lent : Lent) (tokens : List ℕ) (t : Tree) : Type 0 where
+  pub derives : Derives tokens t
+  pub typed : WellTyped lent t
+
+-- "the count of numbers written from the start of the output, the rest of it unchanged"
+abbrev pub writtenOver : List ℕ → List ℕ → Gives
+writtenOver numbers output = record { answer = Count (length numbers); output = numbers ++ drop (length numbers) output }
+
+-- "The rules' answer .. is refusal 12 where the table below gives it, else the answer of the derived tree."
+abbrev pub rulesAnswer : Lent → List ℕ → ℕ → Tree → Verdict
+rulesAnswer lent content switches t = answers (recordCheck lent content) (judged (outcome lent content switches) 0 t)
+
+-- a truth value, or a stop on invalid data
+abbrev pub Judges : Verdict → Type 0
+Judges True = Unit {0}
+Judges False = Unit {0}
+Judges (Refused refusal) = (condition : ℕ) × (refusal ≡ Data condition)
+
+-- Demand 2. For tables and tokens that refusals 1 to 6 and 8 do not refuse: a condition is accepted exactly when the rules derive
+-- a tree whose parts are well typed; and its expanded form, its plan, its truth and its stop are those of that tree.
+pub record Demand2 (lent : Lent) (tokens : List ℕ) : Type 0 where
+  pub expands : (t : Tree) → Accepted lent tokens t → (output : List ℕ) → length (expanded t) ≤ length output →
+      expandGives lent tokens output ≡ writtenOver (expanded t) output
+  pub plans : (t : Tree) → Accepted lent tokens t → (output : List ℕ) → length (planned t) ≤ length output →
+      planGives lent tokens output ≡ writtenOver (planned t) output
+  pub judges : (t : Tree) → Accepted lent tokens t → (content : List ℕ) (switches : ℕ) →
+      judgeGives lent tokens content switches ≡ rulesAnswer lent content switches t
+  -- and no other condition is accepted
+  pub expand-only : (output : List ℕ) (n : ℕ) → expandGives lent tokens output .answer ≡ Count n → (t : Tree) × Accepted lent tokens t
+  pub plan-only : (output : List ℕ) (n : ℕ) → planGives lent tokens output .answer ≡ Count n → (t : Tree) × Accepted lent tokens t
+  pub judge-only : (content : List ℕ) (switches : ℕ) → Judges (judgeGives lent tokens content switches) → (t : Tree) × Accepted lent tokens t
+
+abbrev pub DemandTwo : Type 0
+DemandTwo = (lent : Lent) (tokens : List ℕ) → firstOf (tokenLines lent tokens) ≡ Sound → depthCheck tokens ≡ Sound → Demand2 lent tokens
+
+-- Demand 3, of a condition for which a plan is written, with the numbers that plan counted.
+pub record Demand3 (lent : Lent) (tokens plan : List ℕ) : Type 0 where
+  -- the rules' tree
+  pub tree : Tree
+  pub accepted : Accepted lent tokens tree
+  -- "row for row as "The plan" says"
+  pub rows : plan ≡ planned tree
+  -- "For every record and switch byte, what run gives equals the rules' answer for the condition"
+  pub runs : (content : List ℕ) (switches : ℕ) → runGives lent plan content switches ≡ rulesAnswer lent content switches tree
+  -- "Expand succeeds on the same condition with every output that has room, and the tokens that it counts are the rules' own
+  -- expanded form."
+  pub expands : (output : List ℕ) → length (expanded tree) ≤ length output →
+      expandGives lent tokens output ≡ writtenOver (expanded tree) output
+  -- "If they are at most 256, plan succeeds on them with every output that has room for the first plan's numbers, and gives the
+  -- same count and the same numbers."
+  pub plans-again : length (expanded tree) ≤ 256 → (output : List ℕ) → length plan ≤ length output →
+      planGives lent (expanded tree) output ≡ writtenOver plan output
+
+-- "A plan is written where plan succeeds .. run gets exactly the numbers that plan counted"
+abbrev pub DemandThree : Type 0
+DemandThree = (lent : Lent) (tokens output : List ℕ) (n : ℕ) → planGives lent tokens output .answer ≡ Count n →
+    Demand3 lent tokens (take n (planGives lent tokens output .output))
