@@ -1,1 +1,4 @@
 pub mod Cases
+pub mod Passing
+pub mod Demands
+pub mod Running

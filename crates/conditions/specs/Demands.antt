@@ -3,20 +3,23 @@
 use mathlib.Core.Path.{_≡_}
 use mathlib.Core.Bool.{true}
 use mathlib.Core.List.{List, _++_}
-use Prim.Native.Nat.{ℕ, _≤_}
+use Prim.Native.Nat.{ℕ, _≤_, _<_}
 use lib.ListN.{length, take, drop}
-use Rattle.tables.specs.declared.Refusal.the-variants.{Data}
-use Rattle.tables.specs.declared.Check.the-variants.{Sound}
-use Rattle.tables.specs.declared.Written.the-variants.{Count}
+use Rattle.tables.specs.declared.Refusal.{Refusal}
+use Rattle.tables.specs.declared.Refusal.the-variants.{Grammar}
+use Rattle.tables.specs.declared.Check.the-variants.{Sound, Refused as Unsound}
+use Rattle.tables.specs.declared.Written.{Written}
+use Rattle.tables.specs.declared.Written.the-variants.{Count, Refused as Unwritten}
 use Rattle.tables.specs.declared.Verdict.{Verdict}
 use Rattle.tables.specs.declared.Verdict.the-variants.{True, False, Refused}
 use Rattle.tables.specs.Operands.{Lent}
-use Rattle.tables.specs.Refusals.{firstOf}
+use Rattle.tables.specs.Refusals.{number, firstOf}
 use Rattle.tables.specs.Tables.{recordCheck}
 use Rattle.tables.specs.Typing.{typed}
 use Rattle.values.specs.Truth.{outcome}
-use Rattle.grammar.specs.Grammar.{Tree, simple, negated, bracketed, both, either, Derives}
+use Rattle.grammar.specs.Grammar.{Tree, simple, negated, bracketed, both, either, Derives, Place}
 use Rattle.grammar.specs.Depth.{depthCheck}
+use Rattle.grammar.specs.Typed.{typingFrom}
 use Rattle.grammar.specs.Expanded.{expanded}
 use Rattle.grammar.specs.Judging.{judged}
 use Rattle.grammar.specs.Plan.{planned}
@@ -43,11 +46,21 @@ writtenOver numbers output = record { answer = Count (length numbers); output = 
 abbrev pub rulesAnswer : Lent → List ℕ → ℕ → Tree → Verdict
 rulesAnswer lent content switches t = answers (recordCheck lent content) (judged (outcome lent content switches) 0 t)
 
--- a truth value, or a stop on invalid data
+-- an answer that is none of the refusals 1 to 9
+abbrev pub Writes : Written → Type 0
+Writes (Count n) = Unit {0}
+Writes (Unwritten refusal) = 9 < number refusal
+
 abbrev pub Judges : Verdict → Type 0
 Judges True = Unit {0}
 Judges False = Unit {0}
-Judges (Refused refusal) = (condition : ℕ) × (refusal ≡ Data condition)
+Judges (Refused refusal) = 9 < number refusal
+
+-- expand, plan and judge give this refusal
+pub record Refuses (lent : Lent) (tokens : List ℕ) (refusal : Refusal) : Type 0 where
+  pub expand : (output : List ℕ) → expandGives lent tokens output ≡ record { answer = Unwritten refusal; output = output }
+  pub plan : (output : List ℕ) → planGives lent tokens output ≡ record { answer = Unwritten refusal; output = output }
+  pub judge : (content : List ℕ) (switches : ℕ) → judgeGives lent tokens content switches ≡ Refused refusal
 
 -- Demand 2. For tables and tokens that refusals 1 to 6 and 8 do not refuse: a condition is accepted exactly when the rules derive
 -- a tree whose parts are well typed; and its expanded form, its plan, its truth and its stop are those of that tree.
@@ -58,21 +71,24 @@ pub record Demand2 (lent : Lent) (tokens : List ℕ) : Type 0 where
       planGives lent tokens output ≡ writtenOver (planned t) output
   pub judges : (t : Tree) → Accepted lent tokens t → (content : List ℕ) (switches : ℕ) →
       judgeGives lent tokens content switches ≡ rulesAnswer lent content switches t
-  -- and no other condition is accepted
-  pub expand-only : (output : List ℕ) (n : ℕ) → expandGives lent tokens output .answer ≡ Count n → (t : Tree) × Accepted lent tokens t
-  pub plan-only : (output : List ℕ) (n : ℕ) → planGives lent tokens output .answer ≡ Count n → (t : Tree) × Accepted lent tokens t
+  -- and no other condition is accepted: what has no tree is refused with 7, and what is ill typed with 9
+  pub expand-only : (output : List ℕ) → Writes (expandGives lent tokens output .answer) → (t : Tree) × Accepted lent tokens t
+  pub plan-only : (output : List ℕ) → Writes (planGives lent tokens output .answer) → (t : Tree) × Accepted lent tokens t
   pub judge-only : (content : List ℕ) (switches : ℕ) → Judges (judgeGives lent tokens content switches) → (t : Tree) × Accepted lent tokens t
+  pub underived : ((t : Tree) → ¬ Derives tokens t) → (at : ℕ) → Place tokens at → Refuses lent tokens (Grammar at)
+  pub ill-typed : (t : Tree) → Derives tokens t → (refusal : Refusal) → typingFrom lent 0 t ≡ Unsound refusal → Refuses lent tokens refusal
 
 abbrev pub DemandTwo : Type 0
 DemandTwo = (lent : Lent) (tokens : List ℕ) → firstOf (tokenLines lent tokens) ≡ Sound → depthCheck tokens ≡ Sound → Demand2 lent tokens
 
 -- Demand 3, of a condition for which a plan is written, with the numbers that plan counted.
-pub record Demand3 (lent : Lent) (tokens plan : List ℕ) : Type 0 where
+pub record Demand3 (lent : Lent) (tokens plan : List ℕ) (n : ℕ) : Type 0 where
   -- the rules' tree
   pub tree : Tree
   pub accepted : Accepted lent tokens tree
   -- "row for row as "The plan" says"
   pub rows : plan ≡ planned tree
+  pub counts : n ≡ length plan
   -- "For every record and switch byte, what run gives equals the rules' answer for the condition"
   pub runs : (content : List ℕ) (switches : ℕ) → runGives lent plan content switches ≡ rulesAnswer lent content switches tree
   -- "Expand succeeds on the same condition with every output that has room, and the tokens that it counts are the rules' own
@@ -87,4 +103,4 @@ pub record Demand3 (lent : Lent) (tokens plan : List ℕ) : Type 0 where
 -- "A plan is written where plan succeeds .. run gets exactly the numbers that plan counted"
 abbrev pub DemandThree : Type 0
 DemandThree = (lent : Lent) (tokens output : List ℕ) (n : ℕ) → planGives lent tokens output .answer ≡ Count n →
-    Demand3 lent tokens (take n (planGives lent tokens output .output))
+    Demand3 lent tokens (take n (planGives lent tokens output .output)) n

@@ -10,3 +10,10 @@ pub mod Segment
 pub mod Retarget
 pub mod Typed
 pub mod Planned
+pub mod Lent
+pub mod Shapes
+pub mod Again
+pub mod Buffer
+pub mod Looking
+pub mod Resolving
+pub mod Steps

@@ -11,6 +11,7 @@ use Rattle.tables.specs.Operands.{Lent}
 use Rattle.tables.specs.Refusals.{firstFailing, firstOf}
 use Rattle.tables.specs.Tests.{testOf}
 use Rattle.tables.specs.Typing.{typed}
+use Rattle.tables.proofs.Lines.{Throughout, throughout-one, throughout-join, line-last, every-sound, failing-none}
 use Rattle.grammar.specs.declared.PlanRow.{PlanRow}
 use Rattle.grammar.specs.Grammar.{Tree, simple, negated, bracketed, both, either}
 use Rattle.grammar.specs.Judging.{leaves}
@@ -19,7 +20,7 @@ use Rattle.tables.specs.Shape.{shapeSound}
 use Rattle.grammar.specs.Plan.{onFalse, onTrue, rowsOf, planned, planRow, planRows, targetSound, planRowSound, planLengthSound, planCheck}
 use Rattle.grammar.proofs.Judging.{some-leaf}
 use Rattle.grammar.proofs.Segment.{Stands, stands-one, stands-parts, planned-length, planned-rows, planned-stands}
-use Rattle.grammar.proofs.Typed.{Throughout, throughout-one, throughout-join, first-one, failing-none, failing-passes, typing-of-rows}
+use Rattle.grammar.proofs.Typed.{typing-of-rows}
 
 -- each simple condition of the tree, by its subject, relation and object
 abbrev pub Each : (ℕ → ℕ → ℕ → Type 0) → Tree → Type 0
@@ -95,14 +96,14 @@ planned-length-sound t l =
     )
 
 -- each simple condition of the tree has its tokens within their tables, a relation of the grammar, and 0 where 0 is named
-abbrev pub Shaped : Lent → Tree → Type 0
-Shaped lent t = Each (λ a r b. shapeSound lent (testOf r) a b ≡ true) t
+abbrev pub ShapedTree : Lent → Tree → Type 0
+ShapedTree lent t = Each (λ a r b. shapeSound lent (testOf r) a b ≡ true) t
 
-pub planned-sound : (lent : Lent) (t : Tree) → leaves t ≤ 128 → typingFrom lent 0 t ≡ Sound → Shaped lent t → planCheck lent (planned t) ≡ Sound
+pub planned-sound : (lent : Lent) (t : Tree) → leaves t ≤ 128 → typingFrom lent 0 t ≡ Sound → ShapedTree lent t → planCheck lent (planned t) ≡ Sound
 unfolding firstOf planRowSound
 planned-sound lent t l typing shapes =
     rw (planned-length-sound t l)
-    (first-one (firstFailing (λ k. planRowSound lent rows k (row k)) PlanFault 0 rows)
+    (line-last (firstFailing (λ k. planRowSound lent rows k (row k)) PlanFault 0 rows)
     ∙ failing-none (λ k. planRowSound lent rows k (row k)) PlanFault 0 rows row-sound)
   where
     rows : ℕ
@@ -115,9 +116,9 @@ planned-sound lent t l typing shapes =
     shape = each-row (λ a r b. shapeSound lent (testOf r) a b ≡ true) row 0 onTrue onFalse t (planned-stands t) shapes
 
     well-typed : Throughout (λ k. typed lent (row k .subject) (row k .relation) (row k .object) ≡ true) 0 (leaves t)
-    well-typed =
-        failing-passes (λ k. typed lent (row k .subject) (row k .relation) (row k .object)) Typing 0 (leaves t)
-        (sym (typing-of-rows lent row 0 onTrue onFalse t (planned-stands t)) ∙ typing)
+    well-typed k g h =
+        every-sound (λ i. typed lent (row i .subject) (row i .relation) (row i .object)) Typing (leaves t)
+        (sym (typing-of-rows lent row 0 onTrue onFalse t (planned-stands t)) ∙ typing) k (omega arith)
 
     targets : Throughout (λ k. Targets rows k (row k)) 0 (leaves t)
     targets = targets-of-rows rows row 0 onTrue onFalse t (planned-stands t) (omega (arith, planned-rows t)) (exit-true rows _) (exit-false rows _)

@@ -31,7 +31,7 @@ abbrev Each : (ℕ → Type 0) → ℕ → ℕ → Type 0
 Each P low zero = Unit {0}
 Each P low (suc n) = P low × Each P (suc low) n
 
-among : (P : ℕ → Type 0) (low n x : ℕ) → low ≤ x → x < low + n → Each P low n → P x
+pub among : (P : ℕ → Type 0) (low n x : ℕ) → low ≤ x → x < low + n → Each P low n → P x
 among P low zero x h g ps = absurd (omega arith)
 among P low (suc n) x h g ps =
     elim (ℕ-discrete x low) [

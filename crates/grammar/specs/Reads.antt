@@ -2,7 +2,7 @@
 -- leaves the rows of the tree in the buffer.
 use mathlib.Core.Path.{_≡_}
 use mathlib.Core.Bool.{true, cond}
-use mathlib.Core.List.{List, [], _∷_, _++_, map}
+use mathlib.Core.List.{List, _++_, map}
 use Prim.Native.Nat.{ℕ, _+_, _*_, _-_, _≤_, _<_}
 use lib.ListN.{length, getD, take, drop}
 use lib.Dec.{eqb}
@@ -35,10 +35,9 @@ unfoldable pub carryOf : Carried → Carry
 carryOf c = cond (eqb (c .relation) 0) nothing (carried (c .subject) (c .relation))
 
 -- a simple condition that was read is the parser's result
-pub data Found (tokens : List ℕ) : Single → Result → Type 0 where
-  none-found : {p : ℕ} {rest : List ℕ} → rest ≡ drop p tokens → Found tokens (Lost p) (stuck rest)
-  found-row : {a n b p : ℕ} {c : Carried} {d : Carry} {rest : List ℕ} →
-      rest ≡ drop p tokens → carryOf c ≡ d → Found tokens (Row a n b p c) (parsed (simple a n b) d rest)
+abbrev pub Found : List ℕ → Single → Result → Type 0
+Found tokens (Row a n b p c) result = result ≡ parsed (simple a n b) (carryOf c) (drop p tokens)
+Found tokens (Lost p) result = result ≡ stuck (drop p tokens)
 
 abbrev pub endOf : Single → ℕ
 endOf (Row a n b p c) = p
@@ -63,13 +62,12 @@ retargeted y f r =
     record { subject = r .subject; relation = r .relation; object = r .object; holds = aim y f (r .holds); fails = aim y f (r .fails) }
 
 -- Of the rows up to `end`, those from `from` on are retargeted, whatever rows stand there; what is before them is unchanged.
-unfoldable pub Turned : ℕ → ℕ → ℕ → List ℕ → List ℕ → ℕ → Type 0
-Turned y f end after before from =
-    (front : List ℕ) (rows : List PlanRow) → take (end * 5) before ≡ front ++ flat rows → length front ≡ from * 5 →
-    take (end * 5) after ≡ front ++ flat (map (retargeted y f) rows)
+pub record Turned (y f end : ℕ) (after before : List ℕ) (from : ℕ) : Type 0 where
+  pub turned : (front : List ℕ) (rows : List PlanRow) → take (end * 5) before ≡ front ++ flat rows → length front ≡ from * 5 →
+      take (end * 5) after ≡ front ++ flat (map (retargeted y f) rows)
 
 -- one more row, whose targets are the verdicts
-unfoldable pub Added : ℕ → List ℕ → ℕ → ℕ → ℕ → List ℕ → Type 0
+abbrev pub Added : ℕ → List ℕ → ℕ → ℕ → ℕ → List ℕ → Type 0
 Added row before a n b after = take ((row + 1) * 5) after ≡ take (row * 5) before ++ flat (rowsOf row onTrue onFalse (simple a n b))
 
 -- the row of a simple condition that was read
@@ -89,21 +87,26 @@ pub record Room (tokens : List ℕ) (at row : ℕ) (before : List ℕ) : Type 0 
   pub few : 2 * row ≤ at
   pub wide : 640 ≤ length before
 
+-- the result is a tree, and its rows stand in the buffer after those before `row`
+pub record Laid (tokens : List ℕ) (row : ℕ) (before after : List ℕ) (p : ℕ) (c : Carried) (n : ℕ) (result : Result) : Type 0 where
+  pub tree : Tree
+  pub gives : result ≡ parsed tree (carryOf c) (drop p tokens)
+  pub count : n ≡ row + leaves tree
+  pub rows : take (n * 5) after ≡ take (row * 5) before ++ flat (rowsOf row onTrue onFalse tree)
+
 -- the answer, with the rows that it leaves, is the parser's result
-pub data Told (tokens : List ℕ) (row : ℕ) (before after : List ℕ) : Answer → Result → Type 0 where
-  stuck-at : {p : ℕ} {rest : List ℕ} → rest ≡ drop p tokens → Told tokens row before after (Stuck p) (stuck rest)
-  parsed-to : {p n : ℕ} {c : Carried} {t : Tree} {d : Carry} {rest : List ℕ} →
-      rest ≡ drop p tokens → carryOf c ≡ d → n ≡ row + leaves t →
-      take (n * 5) after ≡ take (row * 5) before ++ flat (rowsOf row onTrue onFalse t) →
-      Told tokens row before after (Parsed p c n) (parsed t d rest)
+abbrev pub Told : List ℕ → ℕ → List ℕ → List ℕ → Answer → Result → Type 0
+Told tokens row before after (Stuck p) result = result ≡ stuck (drop p tokens)
+Told tokens row before after (Parsed p c n) result = Laid tokens row before after p c n result
 
 abbrev pub placeOf : Answer → ℕ
 placeOf (Parsed p c n) = p
 placeOf (Stuck p) = p
 
-abbrev pub nextRow : ℕ → Answer → ℕ
-nextRow row (Parsed p c n) = n
-nextRow row (Stuck p) = row
+-- the next row, after rows that each have a token of their own and all but the last an AND or OR after it
+abbrev pub Fits : ℕ → Answer → Type 0
+Fits row (Parsed p c n) = (row ≤ n) × (2 * n ≤ p + 1)
+Fits row (Stuck p) = Unit {0}
 
 -- The call answers as the parser does, with every fuel above the measure: 4 for each token left, and the level.
 pub record Plans (parser : ℕ → Carry → Parser) (level : ℕ) (tokens : List ℕ) (at : ℕ) (carry : Carried) (row : ℕ) (before : List ℕ)
@@ -111,8 +114,7 @@ pub record Plans (parser : ℕ → Carry → Parser) (level : ℕ) (tokens : Lis
   pub told : (f : ℕ) → 4 * (length tokens - at) + level < f → Told tokens row before after r (parser f (carryOf carry) (drop at tokens))
   pub from : at ≤ placeOf r
   pub upto : placeOf r ≤ length tokens
-  pub above : row ≤ nextRow row r
-  pub spare : 2 * nextRow row r ≤ placeOf r + 1
+  pub fits : Fits row r
 
 -- the whole sequence is read, and its plan stands at the start of the buffer
 unfoldable pub Whole : Parse → List ℕ → Reading → Type 0

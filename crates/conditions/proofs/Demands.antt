@@ -1,0 +1,152 @@
+-- Demands 2 and 3 hold of the definitions that the calls' contracts cite.
+use mathlib.Core.Path.{_≡_, refl, _∙_}
+use mathlib.Core.List.{List, [], _∷_, _++_}
+use Prim.Native.Nat.{ℕ, _≤_}
+use native.Mathlib.Omega.{arith}
+use borrow.Author.Tests.{leb-true, le-leb}
+use lib.ListN.{length, take, drop}
+use lib.Seq.{take-at}
+use Rattle.tables.specs.declared.Refusal.{Refusal}
+use Rattle.tables.specs.declared.Check.{Check}
+use Rattle.tables.specs.declared.Check.the-variants.{Sound, Refused}
+use Rattle.tables.specs.declared.Written.the-variants.{Count}
+use Rattle.tables.specs.Operands.{Lent}
+use Rattle.tables.specs.Refusals.{firstOf}
+use Rattle.tables.specs.Tables.{tableLines, recordCheck}
+use Rattle.tables.proofs.Lines.{test-sound, line-sound, line-refused, line-last, lines-before, lines-sound}
+use Rattle.values.specs.Truth.{outcome}
+use Rattle.grammar.specs.Grammar.{Tree}
+use Rattle.grammar.specs.Parser.{read}
+use Rattle.grammar.specs.Expanded.{expanded}
+use Rattle.grammar.specs.Plan.{planned, planCheck}
+use Rattle.grammar.proofs.Size.{few-rows}
+use Rattle.grammar.proofs.Segment.{run-is-judging}
+use Rattle.grammar.proofs.Shapes.{planned-plan-sound}
+use Rattle.conditions.specs.Calls.{conditionLines, roomCheck, Gives, writes, numbersOf, writing, expandGives, planGives, answers, treeAnswer, judgeGives, runGives}
+use Rattle.conditions.specs.Demands.{Accepted, writtenOver, rulesAnswer, Writes, Judges, Refuses, DemandTwo, Demand3, DemandThree}
+use Rattle.conditions.proofs.Passing.{typing-passes, after-lines, both-sound, Passes, passed, read-as, condition-passes, tables-pass, few-tokens, tokens-exist, passes-again, Nine, condition-nine, underived-refused, ill-typed-refused}
+
+-- what the calls give of a condition that passes
+module _ {lent : Lent} {tokens : List ℕ} {t : Tree} (p : Passes lent tokens t) where
+  writes-over : (make : Tree → List ℕ) (output : List ℕ) → length (make t) ≤ length output →
+      writing make lent tokens output ≡ writtenOver (make t) output
+  unfolding firstOf
+  writes-over make output l =
+      rw (after-lines (conditionLines lent tokens) (roomCheck (numbersOf make (read tokens)) output ∷ []) (condition-passes p), read-as p, le-leb _ _ l)
+
+  judges-as : (content : List ℕ) (switches : ℕ) → judgeGives lent tokens content switches ≡ rulesAnswer lent content switches t
+  unfolding judgeGives
+  judges-as content switches =
+      rw (after-lines (conditionLines lent tokens) (recordCheck lent content ∷ []) (condition-passes p), line-last, read-as p)
+
+  runs-as : (content : List ℕ) (switches : ℕ) → runGives lent (planned t) content switches ≡ rulesAnswer lent content switches t
+  unfolding runGives
+  runs-as content switches =
+      let h = p .accepts .derives in
+      let e = planned-plan-sound lent h (few-tokens p) (tokens-exist p) (typing-passes lent 0 t (p .accepts .typed)) in
+      rw (
+        after-lines (tableLines lent) (planCheck lent (planned t) ∷ recordCheck lent content ∷ []) (tables-pass p),
+        line-sound (recordCheck lent content ∷ []) e,
+        line-last,
+        run-is-judging (outcome lent content switches) t (omega (arith, few-rows h (few-tokens p))),
+      )
+
+-- what they give of one that a line refuses
+module _ (lent : Lent) (tokens : List ℕ) {refusal : Refusal} (e : firstOf (conditionLines lent tokens) ≡ Refused refusal) where
+  before : (others : List Check) → firstOf (conditionLines lent tokens ++ others) ≡ Refused refusal
+  before others = lines-before (conditionLines lent tokens) others ∙ line-refused others e
+
+  refuses : Refuses lent tokens refusal
+  unfolding expandGives planGives judgeGives
+  refuses =
+      record {
+        expand = λ output. rw (before (roomCheck (numbersOf expanded (read tokens)) output ∷ []));
+        plan = λ output. rw (before (roomCheck (numbersOf planned (read tokens)) output ∷ []));
+        judge = λ content switches. rw (before (recordCheck lent content ∷ []));
+      }
+
+-- no condition is written, nor judged, but one that passes
+module _ (lent : Lent) (tokens : List ℕ) where
+  written-only : (make : Tree → List ℕ) → Nine (firstOf (conditionLines lent tokens)) → (output : List ℕ) → Writes (writing make lent tokens output .answer) → (t : Tree) × Passes lent tokens t
+  unfolding firstOf
+  written-only make s output w =
+      go (firstOf (conditionLines lent tokens)) refl s (rw (lines-before (conditionLines lent tokens) (roomCheck (numbersOf make (read tokens)) output ∷ [])) at w)
+    where
+      go : (line : Check) → firstOf (conditionLines lent tokens) ≡ line → Nine line →
+          Writes (writes (firstOf (line ∷ roomCheck (numbersOf make (read tokens)) output ∷ [])) (numbersOf make (read tokens)) output .answer) → (t : Tree) × Passes lent tokens t
+      go Sound q s w = passed lent tokens q
+      go (Refused refusal) q s w = absurd (omega arith)
+
+  judged-only : Nine (firstOf (conditionLines lent tokens)) → (content : List ℕ) (switches : ℕ) → Judges (judgeGives lent tokens content switches) → (t : Tree) × Passes lent tokens t
+  unfolding judgeGives firstOf
+  judged-only s content switches j =
+      go (firstOf (conditionLines lent tokens)) refl s (rw (lines-before (conditionLines lent tokens) (recordCheck lent content ∷ [])) at j)
+    where
+      go : (line : Check) → firstOf (conditionLines lent tokens) ≡ line → Nine line →
+          Judges (answers (firstOf (line ∷ recordCheck lent content ∷ [])) (treeAnswer lent content switches (read tokens))) → (t : Tree) × Passes lent tokens t
+      go Sound q s j = passed lent tokens q
+      go (Refused refusal) q s j = absurd (omega arith)
+
+  -- where numbers are counted, they are those of the tree
+  counted : (make : Tree → List ℕ) (output : List ℕ) (n : ℕ) → writing make lent tokens output .answer ≡ Count n →
+      (t : Tree) × Passes lent tokens t × (length (make t) ≤ length output)
+  counted make output n e = go (firstOf (conditionLines lent tokens ++ room ∷ [])) refl e
+    where
+      room : Check
+      room = roomCheck (numbersOf make (read tokens)) output
+
+      go : (line : Check) → firstOf (conditionLines lent tokens ++ room ∷ []) ≡ line →
+          writes line (numbersOf make (read tokens)) output .answer ≡ Count n → (t : Tree) × Passes lent tokens t × (length (make t) ≤ length output)
+      go Sound q e =
+          let (f, g) = both-sound (conditionLines lent tokens) (room ∷ []) q in
+          let (t, p) = passed lent tokens f in
+          (t, p, leb-true _ _ (test-sound _ _ (rw (read-as p) at (lines-sound (room ∷ []) g .0))))
+      go (Refused refusal) q e = absurd (let z : _≡_ {A = ℕ} 0 1 = cc in omega arith)
+
+pub demand-two : DemandTwo
+unfolding expandGives planGives
+demand-two lent tokens f d =
+    record {
+      expands = λ t a. writes-over (passes t a) expanded;
+      plans = λ t a. writes-over (passes t a) planned;
+      judges = λ t a. judges-as (passes t a);
+      expand-only = λ output w. let (t, p) = written-only lent tokens expanded nine output w in (t, p .accepts);
+      plan-only = λ output w. let (t, p) = written-only lent tokens planned nine output w in (t, p .accepts);
+      judge-only = λ content switches j. let (t, p) = judged-only lent tokens nine content switches j in (t, p .accepts);
+      underived = λ h at p. refuses lent tokens (underived-refused lent tokens f d h at p);
+      ill-typed = λ t h refusal e. refuses lent tokens (ill-typed-refused lent tokens f d t h refusal e);
+    }
+  where
+    nine : Nine (firstOf (conditionLines lent tokens))
+    nine = condition-nine lent tokens f d
+
+    passes : (t : Tree) → Accepted lent tokens t → Passes lent tokens t
+    passes t a = record { token-lines = f; shallow = d; accepts = a }
+
+-- the numbers that a call counted are those that it wrote
+module _ (gives : Gives) (numbers output : List ℕ) (n : ℕ) (w : gives ≡ writtenOver numbers output) (e : gives .answer ≡ Count n) where
+  count-is : length numbers ≡ n
+  count-is = cc
+
+  numbers-are : take n (gives .output) ≡ numbers
+  numbers-are = rw w (take-at numbers (drop (length numbers) output) n count-is)
+
+demanded : {lent : Lent} {tokens : List ℕ} {t : Tree} (plan : List ℕ) (n : ℕ) → Passes lent tokens t → plan ≡ planned t → length (planned t) ≡ n → Demand3 lent tokens plan n
+unfolding expandGives planGives
+demanded {t = t} plan n p e c =
+    record {
+      tree = t;
+      accepted = p .accepts;
+      rows = e;
+      counts = rw (e, c);
+      runs = λ content switches. rw e (runs-as p content switches);
+      expands = writes-over p expanded;
+      plans-again = λ l output r. rw e (writes-over (passes-again p l) planned output (rw e at r));
+    }
+
+pub demand-three : DemandThree
+unfolding planGives
+demand-three lent tokens output n e =
+    let (t, p, l) = counted lent tokens planned output n e in
+    let w = writes-over p planned output l in
+    demanded _ n p (numbers-are (planGives lent tokens output) (planned t) output n w e) (count-is (planGives lent tokens output) (planned t) output n w e)
