@@ -1,11 +1,12 @@
 // Refusals 1 to 9 in order, and the rows of a condition that none of them refuses.
 ghost use mathlib.Core.Path.{_≡_};
-ghost use mathlib.Core.List.{List};
-ghost use Prim.Native.Nat.{ℕ, _≤_};
+ghost use mathlib.Core.List.{[]};
+ghost use Prim.Native.Nat.{_≤_};
 ghost use lib.ListN.{length};
 ghost use Rattle.tables.specs.declared.Check.the-variants.{Sound};
 ghost use Rattle.tables.specs.Operands.{lend};
 ghost use Rattle.tables.specs.Refusals.{firstOf};
+ghost use Rattle.tables.specs.Tables.{tokenCheck};
 ghost use Rattle.conditions.specs.Calls.{earlier, tokenLines};
 ghost use Rattle.conditions.specs.Prepared.{parseCheck, Resolves, Prepares};
 use crate::Prepared;
@@ -56,8 +57,8 @@ fn earlier_of(parsed: Parse, depth: Check) -> Check
 
 // 7 to 9, of tokens that 1 to 6 do not refuse.
 fn resolve(items: &[u32], literals: &[u32], tokens: &[u32], rows: &mut [u32]) -> Prepared
-    requires { ⌜ (bytes : List ℕ) × (firstOf (tokenLines (lend (now items) (now literals) bytes) (now tokens)) ≡ Sound) × (640 ≤ length (now rows)) ⌝ }
-    ensures { λ r. ⌜ ((bytes : List ℕ) → Resolves (lend (now (items .entry)) (now (literals .entry)) bytes) (now (tokens .entry)) r (now (rows .exit))) ⌝ }
+    requires { ⌜ (length (now tokens) ≤ 256) × (tokenCheck (lend (now items) (now literals) []) (now tokens) ≡ Sound) × (640 ≤ length (now rows)) ⌝ }
+    ensures { λ r. ⌜ Resolves (lend (now (items .entry)) (now (literals .entry)) []) (now (tokens .entry)) r (now (rows .exit)) ⌝ }
 {
     let parsed = parse(tokens, rows);
     let depth = check_depth(tokens);

@@ -55,7 +55,7 @@ at {x} i k p q ts =
     (i .is)
     refl
 
-complete-simple : {c d : Carry} {us : List ℕ} {t : Tree} → Simple c us t d → Logical us → (rest : List ℕ) → Ends 2 rest →
+pub complete-simple : {c d : Carry} {us : List ℕ} {t : Tree} → Simple c us t d → Logical us → (rest : List ℕ) → Ends 2 rest →
     parse-simple c (us ++ rest) ≡ parsed t d rest
 complete-simple (Simple.full i (Relation.ordered (Stated.plain j)) k) g rest s = simp (at i, at j, at k)
 complete-simple (Simple.full i (Relation.ordered (Stated.with-not l j)) k) g rest s = simp (at i, at l, at j, at k)
@@ -81,7 +81,7 @@ skip-opening (Simple.bare i) rest p q = simp (at i)
 skip-not : {us : List ℕ} → Logical us → (rest : List ℕ) (p : ℕ → Parser) (q : Parser) → on not p q (us ++ rest) ≡ q (us ++ rest)
 skip-not (logical g h) rest p q = on-no not p q _ _ (λ e. h (record { is = e }))
 
-skip-order : {us : List ℕ} → Logical us → (rest : List ℕ) (c : Carry) (number : ℕ → ℕ) (q : Parser) →
+pub skip-order : {us : List ℕ} → Logical us → (rest : List ℕ) (c : Carry) (number : ℕ → ℕ) (q : Parser) →
     short-ordered c number q (us ++ rest) ≡ q (us ++ rest)
 skip-order g rest nothing number q = refl
 skip-order (logical g h) rest (carried a m) number q = on-no order _ q _ _ (λ e. g (record { is = e }))

@@ -13,10 +13,10 @@ use Rattle.grammar.specs.Expanded.{stated, full-form, expanded}
 use Rattle.grammar.specs.Judging.{leaves}
 use Rattle.grammar.proofs.Expansion.{relation-worded, full-relation, full-test, full-switch}
 
-stated-width : (n : ℕ) → (1 ≤ length (stated n)) × (length (stated n) ≤ 2)
+pub stated-width : (n : ℕ) → (1 ≤ length (stated n)) × (length (stated n) ≤ 2)
 stated-width n = elim (decLe 32 n) [ yes h ↦ rw (le-ltb n 32 h) (omega arith) | no h ↦ rw (lt-ltb n 32 (omega arith)) (omega arith) ]
 
-full-width : (a n b : ℕ) → length (full-form a n b) ≤ length (stated n) + 2
+pub full-width : (a n b : ℕ) → length (full-form a n b) ≤ length (stated n) + 2
 unfolding full-form
 full-width a n b = go (eqb n 0) (ltb (n % 32) 10)
   where

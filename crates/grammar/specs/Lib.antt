@@ -6,3 +6,4 @@ pub mod Judging
 pub mod Typed
 pub mod Plan
 pub mod Reads
+pub mod Spelled

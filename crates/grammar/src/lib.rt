@@ -2,6 +2,7 @@
 
 pub mod cycle; // condition, chain, term and body
 pub mod depth; // brackets open at once
+pub mod expand; // the expanded form
 pub mod plans; // typing and soundness of rows
 pub mod reader; // one simple condition
 pub mod rows; // the rows of a plan and their targets
