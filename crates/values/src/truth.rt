@@ -50,20 +50,14 @@ fn relation_outcome<'a>(
     let right = row_of(object, items, literals);
     let left_bytes = operand_bytes(subject, items, literals, bytes, record);
     let right_bytes = operand_bytes(object, items, literals, bytes, record);
-    if is_faulty(is_item(subject), left, left_bytes, right) {
+    let left_item = is_item(subject);
+    let right_item = is_item(object);
+    if is_faulty(left_item, left, left_bytes, right)
+        | is_faulty(right_item, right, right_bytes, left)
+    {
         return Outcome::Fault;
     }
-    if is_faulty(is_item(object), right, right_bytes, left) {
-        return Outcome::Fault;
-    }
-    let order = compare_sides(
-        is_item(subject),
-        left,
-        left_bytes,
-        is_item(object),
-        right,
-        right_bytes,
-    );
+    let order = compare_sides(left_item, left, left_bytes, right_item, right, right_bytes);
     truth_value(negated, relation_holds(word, order))
 }
 

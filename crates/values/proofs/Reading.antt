@@ -1,0 +1,145 @@
+-- Laws of reading operands: what sound tables and a record that holds its items say of an operand, what a fit side says in
+-- numbers, and what a readable condition gives to the code.
+use Prim.Native.Nat.{ℕ, _/_, _≤_}
+use native.Mathlib.Omega.{arith}
+use native.Mathlib.Decide.{ℕ-discrete}
+use mathlib.Core.Path.{_≡_, refl, sym, ap₂, subst⁻¹, _∙_}
+use mathlib.Core.Bool.{Bool, true, false, cond, _&&_, _||_, or-false}
+use mathlib.Core.List.{List}
+use mathlib.Core.Logic.{⊎-elim}
+use lib.Dec.{eqb}
+use lib.ListN.{length, length-drop}
+use borrow.Author.Tests.{leb-true, eqb-true, ne-eqb}
+use Rattle.tables.specs.declared.Check.the-variants.{Sound}
+use Rattle.tables.specs.declared.Outcome.the-variants.{Fault}
+use Rattle.tables.specs.declared.Refusal.the-variants.{ItemRow, LiteralRow, Record}
+use Rattle.tables.specs.declared.Row.{Row}
+use Rattle.tables.specs.declared.Test.the-variants.{Switch, Relation, Class, Sign}
+use Rattle.tables.specs.Tokens.{isItem, isOn, isOff, isSwitch, indexOf, exists}
+use Rattle.tables.specs.Rows.{rowCount, rowSound, isNumeric}
+use Rattle.tables.specs.Content.{digitBytes, digitCharacters, unsignedLast}
+use Rattle.tables.specs.Operands.{Lent, operandSound, switchSound, rowOf, operandBytes, liesWithin, Within}
+use Rattle.tables.specs.Refusals.{firstOf}
+use Rattle.tables.specs.Tests.{testOf}
+use Rattle.tables.specs.Typing.{typed}
+use Rattle.tables.specs.Tables.{tableLines, recordCheck}
+use Rattle.tables.proofs.Tests.{both, four, either}
+use Rattle.tables.proofs.Lines.{every-sound, AllSound, lines-sound}
+use Rattle.tables.proofs.Bytes.{row-facts, but-last-length, digits-fit, scale-small, item-there, literal-there, operand-length}
+use Rattle.values.specs.declared.Order.{Order}
+use Rattle.values.specs.Order.{relationHolds}
+use Rattle.values.specs.Comparison.{Side, side, sideOf, givesDigits, characters, comparison, faulty}
+use Rattle.values.specs.Truth.{truth, turned, relationOutcome, Readable, Fit, Sided, Numeral}
+
+-- where no line on the tables applies and the record holds its items, a sound operand is fit to be read
+module _ (lent : Lent) (content : List ℕ) (x : ℕ) (tables : firstOf (tableLines lent) ≡ Sound) (holds : recordCheck lent content ≡ Sound) (there : operandSound lent x ≡ true) where
+  row-lies : (rowSound (rowOf lent x) ≡ true) × (liesWithin lent content x ≡ true)
+  row-lies = by (ℕ-discrete (x / 65536) 0)
+    where
+      lines : AllSound (tableLines lent)
+      lines = lines-sound (tableLines lent) tables
+
+      by : Dec (x / 65536 ≡ 0) → (rowSound (rowOf lent x) ≡ true) × (liesWithin lent content x ≡ true)
+      by (yes k) =
+          let h = item-there lent x there k in
+          rw k (every-sound _ ItemRow _ (lines .1 .0) (indexOf x) (omega arith), every-sound _ Record _ holds (indexOf x) (omega arith))
+      by (no n) =
+          let h = literal-there lent x there n in
+          let f = four _ _ _ _ (every-sound _ LiteralRow _ (lines .1 .1 .1 .0) (indexOf x) (omega arith)) in
+          rw (ne-eqb _ _ n) (f .0, f .2)
+
+  pub operand-within : Within lent content x
+  operand-within = record { there = there; lies = row-lies .1 }
+
+  pub sided : Sided lent content x
+  sided = record { within = operand-within; fit = record { sound = row-lies .0; sized = operand-length operand-within refl } }
+
+-- a switch that is there is one of 0 to 7
+switch-index : (lent : Lent) (x : ℕ) → switchSound lent x ≡ true → indexOf x ≤ 7
+switch-index lent x e =
+    let p = both (isSwitch x) (exists (rowCount (lent .items)) (rowCount (lent .literals)) x) e in
+    ⊎-elim
+    (λ on. leb-true _ _ (simp or-false at (rw (eqb-true (x / 65536) 2 on) at (p .1))))
+    (λ off. leb-true _ _ (simp or-false at (rw (eqb-true (x / 65536) 3 off) at (p .1))))
+    (either (isOn x) (isOff x) (p .0))
+
+-- a fit side has bytes, and holds a number where its row is numeric
+pub some-bytes : {s : Side} → Fit s → 1 ≤ length (s .bytes)
+some-bytes {s} f = omega (arith, row-facts (s .row) (f .sound) .some)
+
+pub numeral : {s : Side} → Fit s → isNumeric (s .row) ≡ true → Numeral (s .row) (s .bytes)
+numeral {s} f n =
+    record {
+      some = some-bytes f;
+      digits = digits-fit (s .row) (s .bytes) (f .sound) n (f .sized);
+      scaled = scale-small (s .row) (f .sound);
+    }
+
+-- nor are its digits none, so that there is a character to compare
+pub some-compared : {s : Side} → Fit s → (digits : Bool) → 1 ≤ length (cond digits (digitBytes (s .row .kind) (s .bytes)) (s .bytes))
+some-compared f false = some-bytes f
+some-compared {s} f true = by (ℕ-discrete (s .row .kind) 5) (ℕ-discrete (s .row .kind) 6)
+  where
+    by : Dec (s .row .kind ≡ 5) → Dec (s .row .kind ≡ 6) → 1 ≤ length (digitBytes (s .row .kind) (s .bytes))
+    by (yes p) d = rw p (omega (arith, length-drop 1 (s .bytes), row-facts (s .row) (f .sound) .apart (omega arith)))
+    by (no p) (yes q) = rw q (omega (arith, but-last-length (s .bytes), row-facts (s .row) (f .sound) .apart (omega arith)))
+    by (no p) (no q) = rw (ne-eqb _ _ p, ne-eqb _ _ q) (some-bytes f)
+
+-- the characters that a side gives beside another are those of its part that is compared, without the sign of kind 4
+pub part-characters : (s o : Side) {digits : Bool} {part : List ℕ} → digits ≡ givesDigits s o
+    → part ≡ cond digits (digitBytes (s .row .kind) (s .bytes)) (s .bytes)
+    → unsignedLast (digits && eqb (s .row .kind) 4) part ≡ characters s o
+part-characters s o {digits} e p = rw (p, ← e) (by digits)
+  where
+    by : (d : Bool)
+        → unsignedLast (d && eqb (s .row .kind) 4) (cond d (digitBytes (s .row .kind) (s .bytes)) (s .bytes))
+        ≡ cond d (digitCharacters (s .row .kind) (s .bytes)) (s .bytes)
+    by true = refl
+    by false = refl
+
+-- the side that the code reads of an operand
+pub read-some : {lent : Lent} {content : List ℕ} {x : ℕ} → Sided lent content x → {bytes : List ℕ} → bytes ≡ operandBytes lent content x
+    → 1 ≤ length bytes
+read-some s b = rw b (some-bytes (s .fit))
+
+module _ {lent : Lent} {content : List ℕ} {x : ℕ} (s : Sided lent content x) {row : Row} {bytes : List ℕ} {item : Bool}
+    (r : row ≡ rowOf lent x) (b : bytes ≡ operandBytes lent content x) (i : item ≡ isItem x) where
+  pub read-side : side item row bytes ≡ sideOf lent content x
+  read-side = rw (i, r, b)
+
+  pub read-fit : Fit (side item row bytes)
+  read-fit = subst⁻¹ Fit read-side (s .fit)
+
+-- what a relation comes to, by the flags and the order that the code has of the two sides that it reads
+module _ (word : ℕ) (negated : Bool) {s s' o o' : Side} (left : s ≡ s') (right : o ≡ o') {f g : Bool} (e : f ≡ faulty s o) (h : g ≡ faulty o s) where
+  stops : f || g ≡ faulty s' o' || faulty o' s'
+  stops = ap₂ _||_ (e ∙ ap₂ faulty left right) (h ∙ ap₂ faulty right left)
+
+  pub relation-stops : f || g ≡ true → Fault ≡ relationOutcome word negated s' o'
+  relation-stops t = rw (sym stops ∙ t)
+
+  pub relation-goes : f || g ≡ false → {order : Order} → order ≡ comparison s o
+      → truth (turned negated (relationHolds word order)) ≡ relationOutcome word negated s' o'
+  relation-goes t k = rw (sym stops ∙ t, k ∙ ap₂ comparison left right)
+
+-- what a readable condition gives to the code, by what it tests
+module _ {lent : Lent} {content : List ℕ} {subject relation object : ℕ} (readable : Readable lent content subject relation object) where
+  side-of : {x : ℕ} → operandSound lent x ≡ true → Sided lent content x
+  side-of {x} there = sided lent content x (readable .tables) (readable .holds) there
+
+  pub read-switch : testOf relation ≡ Switch → indexOf subject ≤ 7
+  read-switch e = switch-index lent subject (both (switchSound lent subject) _ (rw e at (readable .shape)) .0)
+
+  module _ {word : ℕ} {negated : Bool} where
+    pub read-relation : testOf relation ≡ Relation word negated → Sided lent content subject × Sided lent content object
+    read-relation e =
+        let there = both (operandSound lent subject) (operandSound lent object) (rw e at (readable .shape)) in
+        (side-of (there .0), side-of (there .1))
+
+    pub read-class : testOf relation ≡ Class word negated → Sided lent content subject
+    read-class e = side-of (both (operandSound lent subject) _ (rw e at (readable .shape)) .0)
+
+    pub read-sign : testOf relation ≡ Sign word negated → Sided lent content subject × (isNumeric (rowOf lent subject) ≡ true)
+    unfolding typed
+    read-sign e =
+        (side-of (both (operandSound lent subject) _ (rw e at (readable .shape)) .0), both (isItem subject) _ (rw e at (readable .well)) .1)
