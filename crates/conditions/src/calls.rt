@@ -1,20 +1,22 @@
-// Expand, plan and judge a condition.
+// Expand, plan and judge a condition, and run a plan.
 ghost use mathlib.Core.Path.{_≡_};
 ghost use mathlib.Core.List.{_++_};
 ghost use Prim.Native.Nat.{_≤_};
 ghost use lib.ListN.{length, drop};
 ghost use Rattle.tables.specs.Operands.{lend};
-ghost use Rattle.conditions.specs.Calls.{expandGives, planGives, judgeGives, Leaves};
+ghost use Rattle.conditions.specs.Calls.{expandGives, planGives, judgeGives, runGives, Leaves};
 use crate::Prepared;
 use crate::prepare::prepare;
 use crate::runner::run_rows;
 use grammar::expand::expanded_length;
 use grammar::expand::write_expanded;
+use grammar::plans::check_plan;
 use tables::Check;
 use tables::Refusal;
 use tables::Verdict;
 use tables::Written;
 use tables::checks::check_record;
+use tables::checks::check_tables;
 
 // The expanded form of a condition, written from the start of the output.
 pub fn expand(
@@ -101,4 +103,30 @@ pub fn judge<'a>(
             run_rows(items, literals, bytes, &rows[..end], record, switches)
         }
     }
+}
+
+// The run of a plan, whatever numbers it has, on a record and a switch byte.
+pub fn run<'a>(
+    items: &[u32],
+    literals: &[u32],
+    bytes: &'a [u8],
+    plan: &[u32],
+    record: &'a [u8],
+    switches: u8,
+) -> Verdict
+    ensures { λ r. ⌜ r ≡ runGives (lend (now (items .entry)) (now (literals .entry)) (now (bytes .entry))) (now (plan .entry)) (now («record» .entry)) switches ⌝ }
+{
+    let tables = check_tables(items, literals, bytes);
+    if let Check::Refused(refusal) = tables {
+        return Verdict::Refused(refusal);
+    }
+    let rows = check_plan(items, literals, plan);
+    if let Check::Refused(refusal) = rows {
+        return Verdict::Refused(refusal);
+    }
+    let held = check_record(items, record);
+    if let Check::Refused(refusal) = held {
+        return Verdict::Refused(refusal);
+    }
+    run_rows(items, literals, bytes, plan, record, switches)
 }

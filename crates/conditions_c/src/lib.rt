@@ -4,7 +4,6 @@ ghost use mathlib.Core.Path.{_≡_};
 ghost use Rattle.tables.specs.Operands.{lend};
 ghost use Rattle.conditions.specs.Calls.{expandGives, planGives, judgeGives};
 ghost use Rattle.conditions_c.specs.Packed.{refusalPacked, writtenPacked, verdictPacked, Leaves};
-
 use tables::Refusal;
 use tables::Verdict;
 use tables::Written;
@@ -73,7 +72,5 @@ pub extern "C" fn oboecurlew_judge<'a>(
 ) -> u64
     ensures { λ r. ⌜ r ≡ verdictPacked (judgeGives (lend (now (items .entry)) (now (literals .entry)) (now (bytes .entry))) (now (tokens .entry)) (now («record» .entry)) switches) ⌝ }
 {
-    verdict_packed(conditions::calls::judge(
-        items, literals, bytes, tokens, record, switches,
-    ))
+    verdict_packed(conditions::calls::judge(items, literals, bytes, tokens, record, switches))
 }
