@@ -37,11 +37,13 @@ abbrev pub Readies : Check → Reading → Prepared → List ℕ → Type 0
 Readies check reading (Unprepared refusal) after = check ≡ Refused refusal
 Readies check reading (Rows count) after = (check ≡ Sound) × Stands reading count after
 
-abbrev pub Resolves : Lent → List ℕ → Prepared → List ℕ → Type 0
-Resolves lent tokens r after = Readies (firstOf (grammarLines lent tokens)) (read tokens) r after
+-- 7 to 9
+pub record Resolves (lent : Lent) (tokens : List ℕ) (r : Prepared) (after : List ℕ) : Type 0 where
+  pub readied : Readies (firstOf (grammarLines lent tokens)) (read tokens) r after
 
-abbrev pub Prepares : Lent → List ℕ → Prepared → List ℕ → Type 0
-Prepares lent tokens r after = Readies (firstOf (conditionLines lent tokens)) (read tokens) r after
+-- 1 to 9
+pub record Prepares (lent : Lent) (tokens : List ℕ) (r : Prepared) (after : List ℕ) : Type 0 where
+  pub readied : Readies (firstOf (conditionLines lent tokens)) (read tokens) r after
 
 -- refusals 1 to 4, 11 and 12 are ruled out
 pub record Runnable (lent : Lent) (plan content : List ℕ) : Type 0 where
