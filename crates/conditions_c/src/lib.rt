@@ -2,7 +2,7 @@
 // upper half (0: success), and in the lower half the count, 1 or 0 for true or false, or the refusal's place.
 ghost use mathlib.Core.Path.{_≡_};
 ghost use Rattle.tables.specs.Operands.{lend};
-ghost use Rattle.conditions.specs.Calls.{expandGives, planGives, judgeGives};
+ghost use Rattle.conditions.specs.Calls.{expandGives, planGives, judgeGives, runGives};
 ghost use Rattle.conditions_c.specs.Packed.{refusalPacked, writtenPacked, verdictPacked, Leaves};
 use tables::Refusal;
 use tables::Verdict;
@@ -73,4 +73,18 @@ pub extern "C" fn oboecurlew_judge<'a>(
     ensures { λ r. ⌜ r ≡ verdictPacked (judgeGives (lend (now (items .entry)) (now (literals .entry)) (now (bytes .entry))) (now (tokens .entry)) (now («record» .entry)) switches) ⌝ }
 {
     verdict_packed(conditions::calls::judge(items, literals, bytes, tokens, record, switches))
+}
+
+#[no_mangle]
+pub extern "C" fn oboecurlew_run<'a>(
+    items: &[u32],
+    literals: &[u32],
+    bytes: &'a [u8],
+    plan: &[u32],
+    record: &'a [u8],
+    switches: u8,
+) -> u64
+    ensures { λ r. ⌜ r ≡ verdictPacked (runGives (lend (now (items .entry)) (now (literals .entry)) (now (bytes .entry))) (now (plan .entry)) (now («record» .entry)) switches) ⌝ }
+{
+    verdict_packed(conditions::calls::run(items, literals, bytes, plan, record, switches))
 }
