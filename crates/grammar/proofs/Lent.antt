@@ -13,7 +13,7 @@ use Rattle.grammar.specs.Grammar.{Tree, simple, negated, bracketed, both
 use Rattle.grammar.specs.Judging.{leaves}
 use Rattle.grammar.specs.Typed.{typingFrom}
 use Rattle.grammar.specs.Plan.{planRow, planRows, planRowSound, planCheck}
-use Rattle.grammar.specs.Reads.{typedRows}
+use Rattle.grammar.specs.Typed.{typedRows}
 
 module _ (items literals bytes : List ℕ) where
   pub row-lent : (rows k : ℕ) (r : PlanRow) → planRowSound (lend items literals bytes) rows k r ≡ planRowSound (lend items literals []) rows k r

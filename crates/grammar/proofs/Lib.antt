@@ -7,17 +7,8 @@ pub mod Expansion
 pub mod Size
 pub mod Judging
 pub mod Segment
-pub mod Retarget
 pub mod Typed
 pub mod Planned
 pub mod Lent
 pub mod Shapes
 pub mod Again
-pub mod Buffer
-pub mod Looking
-pub mod Resolving
-pub mod Steps
-pub mod Spelled
-pub mod Writing
-pub mod Parting
-pub mod Progress

@@ -24,7 +24,7 @@ use Rattle.grammar.specs.Grammar.{Condition, Chain, Term, Body, Derives}
 use Rattle.grammar.specs.Judging.{leaves}
 use Rattle.grammar.specs.Typed.{typingFrom}
 use Rattle.grammar.specs.Plan.{onFalse, onTrue, rowsOf, planned, planRow, planCheck}
-use Rattle.grammar.specs.Reads.{Shaped, typedRows}
+use Rattle.grammar.specs.Typed.{Shaped, typedRows}
 use Rattle.grammar.proofs.Spelling.{among, spelled, order-token, bound-token, test-token}
 use Rattle.grammar.proofs.Segment.{Stands, rows-count, planned-length, planned-stands}
 use Rattle.grammar.proofs.Size.{few-rows}

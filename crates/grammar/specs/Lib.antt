@@ -5,5 +5,3 @@ pub mod Expanded
 pub mod Judging
 pub mod Typed
 pub mod Plan
-pub mod Reads
-pub mod Spelled

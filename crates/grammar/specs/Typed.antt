@@ -1,13 +1,19 @@
 -- Document 01, refusal 9: "typing broken", "first such simple condition".
+use mathlib.Core.Path.{_≡_}
+use mathlib.Core.Bool.{true}
 use mathlib.Core.List.{List, [], _∷_}
-use Prim.Native.Nat.{ℕ, _+_}
+use Prim.Native.Nat.{ℕ, _+_, _*_, _≤_, _<_}
+use lib.ListN.{length}
 use Rattle.tables.specs.declared.Check.{Check}
 use Rattle.tables.specs.declared.Refusal.the-variants.{Typing}
 use Rattle.tables.specs.Operands.{Lent}
-use Rattle.tables.specs.Refusals.{unless, firstOf}
+use Rattle.tables.specs.Refusals.{unless, firstFailing, firstOf}
+use Rattle.tables.specs.Tests.{testOf}
+use Rattle.tables.specs.Shape.{shapeSound}
 use Rattle.tables.specs.Typing.{typed}
 use Rattle.grammar.specs.Grammar.{Tree, simple, negated, bracketed, both, either}
 use Rattle.grammar.specs.Judging.{leaves}
+use Rattle.grammar.specs.Plan.{planRow}
 
 -- the simple conditions of the tree are numbered from n on
 unfoldable pub typingFrom : Lent → ℕ → Tree → Check
@@ -16,3 +22,14 @@ typingFrom lent n (negated t) = typingFrom lent n t
 typingFrom lent n (bracketed t) = typingFrom lent n t
 typingFrom lent n (both t u) = firstOf (typingFrom lent n t ∷ typingFrom lent (n + leaves t) u ∷ [])
 typingFrom lent n (either t u) = firstOf (typingFrom lent n t ∷ typingFrom lent (n + leaves t) u ∷ [])
+
+-- each of so many rows in the buffer has a sound shape
+pub record Shaped (lent : Lent) (rows : List ℕ) (count : ℕ) : Type 0 where
+  pub inside : count * 5 ≤ length rows
+  pub shape : (k : ℕ) → k < count →
+      shapeSound lent (testOf (planRow rows k .relation)) (planRow rows k .subject) (planRow rows k .object) ≡ true
+
+-- 9, over rows: "first such simple condition"
+abbrev pub typedRows : Lent → List ℕ → ℕ → Check
+typedRows lent rows count =
+    firstFailing (λ k. typed lent (planRow rows k .subject) (planRow rows k .relation) (planRow rows k .object)) Typing 0 count

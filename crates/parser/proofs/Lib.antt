@@ -1,0 +1,9 @@
+pub mod Retarget
+pub mod Buffer
+pub mod Looking
+pub mod Resolving
+pub mod Steps
+pub mod Spelled
+pub mod Writing
+pub mod Parting
+pub mod Progress

@@ -1,0 +1,257 @@
+-- What each `return` of the cycle shows: its answer is the parser's, since the answers of the calls before it are.
+use mathlib.Core.Path.{_≡_, refl, ap, _∙_}
+use mathlib.Core.List.{List, _++_, map, append-assoc}
+use Prim.Native.Nat.{ℕ, zero, suc, _+_, _*_, _-_, _≤_, _<_}
+use native.Mathlib.Omega.{arith}
+use lib.ListN.{length, take, drop, length-drop, drop-of-length-le}
+use lib.Seq.{length-take-le}
+use Rattle.parser.specs.declared.Carried.{Carried}
+use Rattle.parser.specs.declared.Single.{Single}
+use Rattle.parser.specs.declared.Single.the-variants.{Row, Stuck as Lost}
+use Rattle.parser.specs.declared.Answer.{Answer}
+use Rattle.parser.specs.declared.Answer.the-variants.{Parsed, Stuck}
+use Rattle.parser.specs.declared.Parse.the-variants.{Accepted, Refused}
+use Rattle.grammar.specs.Grammar.{Class, other, not, and, or, opening, closing, Is, Carry, nothing, Tree, simple, negated, bracketed, both, either}
+use Rattle.grammar.specs.Parser.{Result, Parser, _then_, continue, done, fail, on, object, parse-simple, read, parse-condition, parse-chain, parse-term, parse-body}
+use Rattle.grammar.specs.Judging.{leaves}
+use Rattle.grammar.specs.Plan.{onTrue, onFalse, rowsOf, flat, planned}
+use Rattle.parser.specs.Reads.{tok, carryOf, Reads, retargeted, Turned, Placeable, Placed, Told, placeOf, Fits, Room, Plans, Whole, Parses}
+use Rattle.grammar.proofs.Sound.{Differ}
+use Rattle.grammar.proofs.Spelling.{is-or, is-and, is-not, is-opening, is-closing, or-token, and-token, not-token, opening-token, closing-token}
+use Rattle.parser.proofs.Retarget.{rows-bracketed, rows-negated, rows-both, rows-either}
+use Rattle.parser.proofs.Buffer.{flat-append}
+use Rattle.parser.proofs.Looking.{stands, from-here, take-on, pass-on}
+use Rattle.parser.proofs.Resolving.{at-short, at-no-short}
+
+-- each level takes one unit of fuel
+plans : {parser : ℕ → Carry → Parser} {level at row : ℕ} {tokens before after : List ℕ} {c : Carried} {r : Answer} →
+    ((f : ℕ) → 4 * (length tokens - at) + level ≤ f → Told tokens row before after r (parser (suc f) (carryOf c) (drop at tokens))) →
+    at ≤ placeOf r → placeOf r ≤ length tokens → Fits row r → Plans parser level tokens at c row before r after
+plans {parser} {level} {at} {row} {tokens} {before} {after} {c} {r} h from upto fits = record { told = told; from = from; upto = upto; fits = fits }
+  where
+    told : (f : ℕ) → 4 * (length tokens - at) + level < f → Told tokens row before after r (parser f (carryOf c) (drop at tokens))
+    told zero l = absurd (omega arith)
+    told (suc f) l = h f (omega arith)
+
+-- A condition and a chain are read alike: a part, and after the word `w`, of class `k`, the rest. What is true of the part goes on
+-- to `y`, and what is false to `n`, of the first row of the rest.
+pub record Joins (k : Class) (w : ℕ) (join : Tree → Tree → Tree) (y n : ℕ → ℕ) (lower self : ℕ → Carry → Parser) : Type 0 where
+  pub word : Differ k other
+  pub is : (x : ℕ) → x ≡ w → Is k x
+  pub token : (x : ℕ) → Is k x → x ≡ w
+  pub step : (f : ℕ) (c : Carry) (ts : List ℕ) →
+      self (suc f) c ts ≡ (lower f c then λ t d. on k (λ _. self f d then λ u e. done (join t u) e) (done t d)) ts
+  pub rows : (r : ℕ) (t u : Tree) → r + leaves t ≤ onFalse →
+      rowsOf r onTrue onFalse (join t u)
+      ≡ map (retargeted (y (r + leaves t)) (n (r + leaves t))) (rowsOf r onTrue onFalse t) ++ rowsOf (r + leaves t) onTrue onFalse u
+  pub size : (t u : Tree) → leaves (join t u) ≡ leaves t + leaves u
+
+pub conditions : Joins or 262148 either (λ _. onTrue) (λ r. r) parse-chain parse-condition
+unfolding parse-condition leaves
+conditions = record { word = tt; is = is-or; token = or-token; step = λ f c ts. refl; rows = rows-either; size = λ t u. refl }
+
+pub chains : Joins and 262147 both (λ r. r) (λ _. onFalse) parse-term parse-chain
+unfolding parse-condition leaves
+chains = record { word = tt; is = is-and; token = and-token; step = λ f c ts. refl; rows = rows-both; size = λ t u. refl }
+
+-- the rows of a part, retargeted
+turned-rows : {y n at row next : ℕ} {tokens before middle after : List ℕ} (t : Tree) → Room tokens at row before → Turned y n next after middle row →
+    take (next * 5) middle ≡ take (row * 5) before ++ flat (rowsOf row onTrue onFalse t) →
+    take (next * 5) after ≡ take (row * 5) before ++ flat (map (retargeted y n) (rowsOf row onTrue onFalse t))
+turned-rows {row} {before} t room h e = h .turned (take (row * 5) before) (rowsOf row onTrue onFalse t) e (length-take-le (row * 5) before (omega arith))
+
+-- an answer for later rows serves for earlier ones
+fits-more : (row next : ℕ) (r : Answer) → row ≤ next → Fits next r → Fits row r
+fits-more row next (Parsed p c n) l h = omega arith
+fits-more row next (Stuck p) l h = tt
+
+module _ {k : Class} {w : ℕ} {join : Tree → Tree → Tree} {y n : ℕ → ℕ} {lower self : ℕ → Carry → Parser} (j : Joins k w join y n lower self) where
+  pub joins-stuck : {level at row p : ℕ} {tokens before after : List ℕ} {c : Carried} →
+      Plans lower level tokens at c row before (Stuck p) after → Plans self (level + 1) tokens at c row before (Stuck p) after
+  joins-stuck h = plans (λ f l. j .step f _ _ ∙ rw (h .told f (omega arith))) (h .from) (h .upto) (h .fits)
+
+  pub joins-part : {level at row p next x : ℕ} {tokens before after : List ℕ} {c d : Carried} →
+      Plans lower level tokens at c row before (Parsed p d next) after → x ≡ tok tokens p → (x ≡ w → ⊥) →
+      Plans self (level + 1) tokens at c row before (Parsed p d next) after
+  joins-part {p} {tokens} h e i =
+      plans
+      (λ f l.
+      let g = h .told f (omega arith) in
+      record { tree = g .tree; gives = j .step f _ _ ∙ rw (g .gives) (pass-on tokens p e (λ s. i (j .token _ s)) _ _); count = g .count; rows = g .rows })
+      (h .from)
+      (h .upto)
+      (h .fits)
+
+  -- the rest is told of its own rows: those of the part, retargeted, stand before them
+  joined : (tokens before between after : List ℕ) (row next : ℕ) (t : Tree) → next ≡ row + leaves t → next ≤ onFalse →
+      take (next * 5) between ≡ take (row * 5) before ++ flat (map (retargeted (y next) (n next)) (rowsOf row onTrue onFalse t)) →
+      (r : Answer) (o : Result) → Told tokens next between after r o → Told tokens row before after r (continue o (λ u e. done (join t u) e))
+  joined tokens before between after row next t e l h (Stuck p) o g = rw g
+  joined tokens before between after row next t e l h (Parsed p d m) o g =
+      let u = g .tree in
+      let first = map (retargeted (y next) (n next)) (rowsOf row onTrue onFalse t) in
+      let rest = rowsOf next onTrue onFalse u in
+      let both-rows : rowsOf row onTrue onFalse (join t u) ≡ first ++ rest = rw e (j .rows row t u (omega arith)) in
+      record {
+        tree = join t u;
+        gives = rw (g .gives);
+        count = rw (j .size) (omega (arith, g .count));
+        rows = g .rows ∙ rw (h, both-rows, flat-append) (append-assoc (take (row * 5) before) (flat first) (flat rest));
+      }
+
+  pub joins-more : {level at row p next x : ℕ} {tokens before middle between after : List ℕ} {c d : Carried} {r : Answer} →
+      Room tokens at row before → Plans lower level tokens at c row before (Parsed p d next) middle → x ≡ tok tokens p → x ≡ w →
+      Turned (y next) (n next) next between middle row → Plans self (level + 1) tokens (p + 1) d next between r after →
+      Plans self (level + 1) tokens at c row before r after
+  joins-more {row} {p} {next} {tokens} {before} {between} {after} {r} room h e i turned g =
+      let low : p < length tokens = stands tokens p e (j .is _ i) (j .word) in
+      plans
+      (λ f l.
+      let t = h .told f (omega arith) in
+      rw (j .step, t .gives, take-on tokens p e (j .is _ i) (j .word))
+      (joined tokens before between after row next (t .tree) (t .count) (omega arith) (turned-rows (t .tree) room turned (t .rows)) r _
+      (g .told f (omega arith))))
+      (omega (arith, g .from))
+      (g .upto)
+      (fits-more row next r (omega arith) (g .fits))
+
+-- A simple condition, which `q` reads from this or a later place on, is all that is read, and its row is put.
+pub placeable : {q : Parser} {at from row : ℕ} {tokens before : List ℕ} (s : Single) → Room tokens at row before → Reads q 1 tokens from s → at ≤ from → Placeable s row
+placeable (Row a n b p d) room h l = omega arith
+placeable (Lost p) room h l = tt
+
+pub single : {parser : ℕ → Carry → Parser} {q : Parser} {level at from row : ℕ} {tokens before after : List ℕ} {c : Carried} {r : Answer} (s : Single) →
+    Room tokens at row before → Reads q 1 tokens from s → Placed s row before r after → at ≤ from →
+    ((f : ℕ) → parser (suc f) (carryOf c) (drop at tokens) ≡ q (drop from tokens)) → Plans parser level tokens at c row before r after
+unfolding leaves
+single (Row a n b p d) room h placed l step =
+    rw (placed .0)
+    (plans (λ f _. record { tree = simple a n b; gives = step f ∙ h .found; count = refl; rows = placed .1 }) (omega arith) (omega arith) (omega arith))
+single (Lost p) room h placed l step = rw placed (plans (λ f _. step f ∙ h .found) (omega arith) (omega arith) tt)
+
+-- a term, by its first token
+module _ (tokens : List ℕ) (at : ℕ) (c : Carried) {x : ℕ} (e : x ≡ tok tokens at) where
+  pub term-order : (c .relation ≡ 0 → ⊥) → 262149 ≤ x → x ≤ 262151 →
+      (f : ℕ) → parse-term (suc f) (carryOf c) (drop at tokens) ≡ object (c .subject) (x - 262144) (drop (at + 1) tokens)
+  unfolding parse-condition
+  term-order n l h f =
+      pass-on tokens at e {k = not} (λ i. let g = not-token x i in omega arith) _ _
+      ∙ at-short tokens at e c (λ m. m) _ n l h
+
+  pub term-plain : {row : ℕ} {before after : List ℕ} {r : Answer} → (x ≡ 262146 → ⊥) → ((c .relation ≡ 0 → ⊥) → 262149 ≤ x → 262151 < x) →
+      Plans parse-body 0 tokens at c row before r after → Plans parse-term 1 tokens at c row before r after
+  unfolding parse-condition
+  term-plain g far h =
+      plans
+      (λ f l. rw (pass-on tokens at e {k = not} (λ i. g (not-token x i)), at-no-short tokens at e c) (h .told f (omega arith)))
+      (h .from) (h .upto) (h .fits)
+
+  -- after NOT
+  module _ {y : ℕ} (g : x ≡ 262146) (d : y ≡ tok tokens (at + 1)) where
+    pub term-not-order : (c .relation ≡ 0 → ⊥) → 262149 ≤ y → y ≤ 262151 →
+        (f : ℕ) → parse-term (suc f) (carryOf c) (drop at tokens) ≡ object (c .subject) (y - 262144 + 32) (drop (at + 2) tokens)
+    unfolding parse-condition
+    term-not-order n l h f =
+        let two : at + 1 + 1 ≡ at + 2 = omega arith in
+        take-on tokens at e (is-not x g) tt _ _ ∙ at-short tokens (at + 1) d c (λ m. m + 32) _ n l h ∙ rw two
+
+    module _ (far : (c .relation ≡ 0 → ⊥) → 262149 ≤ y → 262151 < y) where
+      term-not : (f : ℕ) →
+          parse-term (suc f) (carryOf c) (drop at tokens) ≡ continue (parse-body f (carryOf c) (drop (at + 1) tokens)) (λ t k. done (negated t) k)
+      unfolding parse-condition
+      term-not f = take-on tokens at e (is-not x g) tt _ _ ∙ at-no-short tokens (at + 1) d c _ _ far
+
+      pub term-not-stuck : {row p : ℕ} {before after : List ℕ} →
+          Plans parse-body 0 tokens (at + 1) c row before (Stuck p) after → Plans parse-term 1 tokens at c row before (Stuck p) after
+      term-not-stuck h = plans (λ f l. term-not f ∙ rw (h .told f (omega arith))) (omega (arith, h .from)) (h .upto) tt
+
+      pub term-not-row : {row p next : ℕ} {before middle after : List ℕ} {k : Carried} → Room tokens at row before →
+          Plans parse-body 0 tokens (at + 1) c row before (Parsed p k next) middle → Turned onFalse onTrue next after middle row →
+          Plans parse-term 1 tokens at c row before (Parsed p k next) after
+      unfolding leaves
+      term-not-row {row} room h turned =
+          plans
+          (λ f l.
+          let t = h .told f (omega arith) in
+          record {
+            tree = negated (t .tree);
+            gives = term-not f ∙ rw (t .gives);
+            count = t .count;
+            rows = rw (rows-negated row (t .tree) (omega (arith, t .count))) (turned-rows (t .tree) room turned (t .rows));
+          })
+          (omega arith)
+          (omega arith)
+          (omega arith)
+
+-- nothing is carried into a bracket, out of it, and at the start
+abbrev none : Carried
+none = record { subject = 0; relation = 0 }
+
+-- a body, by its first token
+module _ (tokens : List ℕ) (at : ℕ) (c : Carried) {x : ℕ} (e : x ≡ tok tokens at) where
+  pub body-simple : (x ≡ 262144 → ⊥) → (f : ℕ) → parse-body (suc f) (carryOf c) (drop at tokens) ≡ parse-simple (carryOf c) (drop at tokens)
+  unfolding parse-condition
+  body-simple g f = pass-on tokens at e {k = opening} (λ i. g (opening-token x i)) _ _
+
+  module _ (g : x ≡ 262144) where
+    low : at < length tokens
+    low = stands tokens at e (is-opening x g) tt
+
+    body-open : (f : ℕ) →
+        parse-body (suc f) (carryOf c) (drop at tokens)
+        ≡ continue (parse-condition f nothing (drop (at + 1) tokens)) (λ t _. on closing (λ _. done (bracketed t) nothing) fail)
+    unfolding parse-condition
+    body-open f = take-on tokens at e (is-opening x g) tt _ _
+
+    pub body-stuck : {row p : ℕ} {before after : List ℕ} →
+        Plans parse-condition 3 tokens (at + 1) none row before (Stuck p) after → Plans parse-body 0 tokens at c row before (Stuck p) after
+    unfolding carryOf
+    body-stuck h = plans (λ f l. body-open f ∙ rw (h .told f (omega (arith, low)))) (omega (arith, h .from)) (h .upto) tt
+
+    module _ {row p next z : ℕ} {before after : List ℕ} {d : Carried}
+        (h : Plans parse-condition 3 tokens (at + 1) none row before (Parsed p d next) after) (y : z ≡ tok tokens p) where
+      pub body-shut : z ≡ 262145 → Plans parse-body 0 tokens at c row before (Parsed (p + 1) none next) after
+      unfolding carryOf leaves
+      body-shut k =
+          plans
+          (λ f l.
+          let t = h .told f (omega (arith, low)) in
+          record {
+            tree = bracketed (t .tree);
+            gives = body-open f ∙ rw (t .gives) (take-on tokens p y (is-closing z k) tt _ _);
+            count = t .count;
+            rows = rw rows-bracketed (t .rows);
+          })
+          (omega arith)
+          (omega (arith, stands tokens p y (is-closing z k) tt))
+          (omega arith)
+
+      pub body-not-shut : (z ≡ 262145 → ⊥) → Plans parse-body 0 tokens at c row before (Stuck p) after
+      unfolding carryOf
+      body-not-shut k =
+          plans
+          (λ f l. body-open f ∙ rw (h .told f (omega (arith, low)) .gives) (pass-on tokens p y {k = closing} (λ i. k (closing-token z i)) _ _))
+          (omega arith)
+          (omega arith)
+          tt
+
+-- a whole sequence, of which all is read, or a part
+module _ {tokens before after : List ℕ} where
+  pub whole-stuck : {p : ℕ} → Plans parse-condition 3 tokens 0 none 0 before (Stuck p) after → Parses tokens (Refused p) after
+  unfolding read carryOf Whole
+  whole-stuck {p} h = rw (h .told (4 * length tokens + 4) (omega arith), length-drop) (ap Refused (omega (arith, h .upto)))
+
+  module _ {p n : ℕ} {d : Carried} (h : Plans parse-condition 3 tokens 0 none 0 before (Parsed p d n) after) where
+    pub whole-part : (p ≡ length tokens → ⊥) → Parses tokens (Refused p) after
+    unfolding read carryOf Whole
+    whole-part g =
+        rw (h .told (4 * length tokens + 4) (omega arith) .gives, from-here tokens p refl (omega (arith, h .upto)))
+        (ap Refused (omega (arith, length-drop (p + 1) tokens, h .upto)))
+
+    pub whole-read : p ≡ length tokens → Parses tokens (Accepted n) after
+    unfolding read carryOf Whole planned
+    whole-read g =
+        let t = h .told (4 * length tokens + 4) (omega arith) in
+        let m : n ≡ leaves (t .tree) = omega (arith, t .count) in
+        let l : length tokens ≤ p = omega arith in
+        rw (t .gives, drop-of-length-le tokens l, ← m) (refl, t .rows)

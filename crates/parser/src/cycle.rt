@@ -1,0 +1,166 @@
+// Condition, chain, term and body call each other over the tokens. Each writes the rows of what it reads as if it were the whole
+// condition; whoever called it turns their verdicts into the targets that they lead to.
+ghost use mathlib.Core.Path.{_≡_};
+ghost use Prim.Native.Nat.{_≤_};
+ghost use lib.ListN.{length};
+ghost use Rattle.grammar.specs.Parser.{parse-condition, parse-chain, parse-term, parse-body};
+ghost use Rattle.parser.specs.Reads.{Room, Plans, Placeable, Placed, Parses};
+use crate::Answer;
+use crate::Carried;
+use crate::Parse;
+use crate::Single;
+use crate::Target;
+use crate::reader::read_object;
+use crate::reader::read_simple;
+use crate::rows::put_row;
+use crate::rows::retarget;
+use crate::words::AND;
+use crate::words::CLOSE;
+use crate::words::NOT;
+use crate::words::OPEN;
+use crate::words::OR;
+use crate::words::is_order;
+use crate::words::peek;
+
+fn condition(tokens: &[u32], at: usize, carry: Carried, row: usize, rows: &mut [u32]) -> Answer
+    requires { ⌜ Room (now tokens) at row (now rows) ⌝ }
+    ensures { λ r. ⌜ Plans parse-condition 3 (now (tokens .entry)) at carry row (now (rows .entry)) r (now (rows .exit)) ⌝ }
+{
+    let first = chain(tokens, at, carry, row, rows);
+    match first {
+        Answer::Stuck(place) => Answer::Stuck(place),
+        Answer::Parsed(place, kept, next) => {
+            if peek(tokens, place) == OR {
+                retarget(rows, row, next, Target::verdict(true), Target::later(next));
+                condition(tokens, place + 1, kept, next, rows)
+            } else {
+                Answer::Parsed(place, kept, next)
+            }
+        }
+    }
+}
+
+fn chain(tokens: &[u32], at: usize, carry: Carried, row: usize, rows: &mut [u32]) -> Answer
+    requires { ⌜ Room (now tokens) at row (now rows) ⌝ }
+    ensures { λ r. ⌜ Plans parse-chain 2 (now (tokens .entry)) at carry row (now (rows .entry)) r (now (rows .exit)) ⌝ }
+{
+    let first = term(tokens, at, carry, row, rows);
+    match first {
+        Answer::Stuck(place) => Answer::Stuck(place),
+        Answer::Parsed(place, kept, next) => {
+            if peek(tokens, place) == AND {
+                retarget(rows, row, next, Target::later(next), Target::verdict(false));
+                chain(tokens, place + 1, kept, next, rows)
+            } else {
+                Answer::Parsed(place, kept, next)
+            }
+        }
+    }
+}
+
+// NOT before > < = belongs to the relation, where one is carried; any other NOT is logical.
+fn term(tokens: &[u32], at: usize, carry: Carried, row: usize, rows: &mut [u32]) -> Answer
+    requires { ⌜ Room (now tokens) at row (now rows) ⌝ }
+    ensures { λ r. ⌜ Plans parse-term 1 (now (tokens .entry)) at carry row (now (rows .entry)) r (now (rows .exit)) ⌝ }
+{
+    let here = peek(tokens, at);
+    let after = peek(tokens, at + 1);
+    let relation = carry.relation;
+    if is_order(here) & (relation != 0) {
+        return put_single(
+            read_object(tokens, at + 1, carry.subject, here - 262144),
+            row,
+            rows,
+        );
+    }
+    if here != NOT {
+        return body(tokens, at, carry, row, rows);
+    }
+    if is_order(after) & (relation != 0) {
+        return put_single(
+            read_object(tokens, at + 2, carry.subject, after - 262144 + 32),
+            row,
+            rows,
+        );
+    }
+    let inner = body(tokens, at + 1, carry, row, rows);
+    match inner {
+        Answer::Stuck(place) => Answer::Stuck(place),
+        Answer::Parsed(place, kept, next) => {
+            retarget(
+                rows,
+                row,
+                next,
+                Target::verdict(false),
+                Target::verdict(true),
+            );
+            Answer::Parsed(place, kept, next)
+        }
+    }
+}
+
+fn body(tokens: &[u32], at: usize, carry: Carried, row: usize, rows: &mut [u32]) -> Answer
+    requires { ⌜ Room (now tokens) at row (now rows) ⌝ }
+    ensures { λ r. ⌜ Plans parse-body 0 (now (tokens .entry)) at carry row (now (rows .entry)) r (now (rows .exit)) ⌝ }
+{
+    if peek(tokens, at) != OPEN {
+        return put_single(read_simple(tokens, at, carry), row, rows);
+    }
+    let nothing = Carried {
+        subject: 0,
+        relation: 0,
+    };
+    let inner = condition(tokens, at + 1, nothing, row, rows);
+    match inner {
+        Answer::Stuck(place) => Answer::Stuck(place),
+        Answer::Parsed(place, _, next) => {
+            if peek(tokens, place) == CLOSE {
+                Answer::Parsed(place + 1, nothing, next)
+            } else {
+                Answer::Stuck(place)
+            }
+        }
+    }
+}
+
+// The row of a simple condition that was read.
+fn put_single(single: Single, row: usize, rows: &mut [u32]) -> Answer
+    requires { ⌜ Placeable single row × (640 ≤ length (now rows)) ⌝ }
+    ensures { λ r. ⌜ Placed single row (now (rows .entry)) r (now (rows .exit)) ⌝ }
+{
+    match single {
+        Single::Stuck(place) => Answer::Stuck(place),
+        Single::Row {
+            subject,
+            relation,
+            object,
+            next,
+            carry,
+        } => {
+            put_row(rows, row, subject, relation, object);
+            Answer::Parsed(next, carry, row + 1)
+        }
+    }
+}
+
+// The plan's rows of a whole sequence, from the start of the buffer, or refusal 7's place.
+pub fn parse(tokens: &[u32], rows: &mut [u32]) -> Parse
+    requires { ⌜ (length (now tokens) ≤ 256) × (640 ≤ length (now rows)) ⌝ }
+    ensures { λ r. ⌜ Parses (now (tokens .entry)) r (now (rows .exit)) ⌝ }
+{
+    let nothing = Carried {
+        subject: 0,
+        relation: 0,
+    };
+    let whole = condition(tokens, 0, nothing, 0, rows);
+    match whole {
+        Answer::Stuck(place) => Parse::Refused(place),
+        Answer::Parsed(place, _, count) => {
+            if place == tokens.len() {
+                Parse::Accepted(count)
+            } else {
+                Parse::Refused(place)
+            }
+        }
+    }
+}
