@@ -1,69 +1,26 @@
 -- Demands 2 and 3 hold of the definitions that the calls' contracts cite.
-use mathlib.Core.Path.{_≡_, refl, _∙_}
+use mathlib.Core.Path.{_≡_, refl}
 use mathlib.Core.List.{List, [], _∷_, _++_}
 use Prim.Native.Nat.{ℕ, _≤_}
 use native.Mathlib.Omega.{arith}
-use borrow.Author.Tests.{leb-true, le-leb}
+use borrow.Author.Tests.{leb-true}
 use lib.ListN.{length, take, drop}
 use lib.Seq.{take-at}
-use Rattle.tables.specs.declared.Refusal.{Refusal}
 use Rattle.tables.specs.declared.Check.{Check}
 use Rattle.tables.specs.declared.Check.the-variants.{Sound, Refused}
 use Rattle.tables.specs.declared.Written.the-variants.{Count}
 use Rattle.tables.specs.Operands.{Lent}
 use Rattle.tables.specs.Refusals.{firstOf}
-use Rattle.tables.specs.Tables.{tableLines, recordCheck}
-use Rattle.tables.proofs.Lines.{test-sound, line-sound, line-refused, line-last, lines-before, lines-sound}
-use Rattle.values.specs.Truth.{outcome}
+use Rattle.tables.specs.Tables.{recordCheck}
+use Rattle.tables.proofs.Lines.{test-sound, lines-before, lines-sound}
 use Rattle.grammar.specs.Grammar.{Tree}
 use Rattle.grammar.specs.Parser.{read}
 use Rattle.grammar.specs.Expanded.{expanded}
-use Rattle.grammar.specs.Plan.{planned, planCheck}
-use Rattle.grammar.proofs.Size.{few-rows}
-use Rattle.grammar.proofs.Segment.{run-is-judging}
-use Rattle.grammar.proofs.Shapes.{planned-plan-sound}
-use Rattle.conditions.specs.Calls.{conditionLines, roomCheck, Gives, writes, numbersOf, writing, expandGives, planGives, answers, treeAnswer, judgeGives, runGives}
-use Rattle.conditions.specs.Demands.{Accepted, writtenOver, rulesAnswer, Writes, Judges, Refuses, DemandTwo, Demand3, DemandThree}
-use Rattle.conditions.proofs.Passing.{typing-passes, after-lines, both-sound, Passes, passed, read-as, condition-passes, tables-pass, few-tokens, tokens-exist, passes-again, Nine, condition-nine, underived-refused, ill-typed-refused}
-
--- what the calls give of a condition that passes
-module _ {lent : Lent} {tokens : List ℕ} {t : Tree} (p : Passes lent tokens t) where
-  writes-over : (make : Tree → List ℕ) (output : List ℕ) → length (make t) ≤ length output →
-      writing make lent tokens output ≡ writtenOver (make t) output
-  unfolding firstOf
-  writes-over make output l =
-      rw (after-lines (conditionLines lent tokens) (roomCheck (numbersOf make (read tokens)) output ∷ []) (condition-passes p), read-as p, le-leb _ _ l)
-
-  judges-as : (content : List ℕ) (switches : ℕ) → judgeGives lent tokens content switches ≡ rulesAnswer lent content switches t
-  unfolding judgeGives
-  judges-as content switches =
-      rw (after-lines (conditionLines lent tokens) (recordCheck lent content ∷ []) (condition-passes p), line-last, read-as p)
-
-  runs-as : (content : List ℕ) (switches : ℕ) → runGives lent (planned t) content switches ≡ rulesAnswer lent content switches t
-  unfolding runGives
-  runs-as content switches =
-      let h = p .accepts .derives in
-      let e = planned-plan-sound lent h (few-tokens p) (tokens-exist p) (typing-passes lent 0 t (p .accepts .typed)) in
-      rw (
-        after-lines (tableLines lent) (planCheck lent (planned t) ∷ recordCheck lent content ∷ []) (tables-pass p),
-        line-sound (recordCheck lent content ∷ []) e,
-        line-last,
-        run-is-judging (outcome lent content switches) t (omega (arith, few-rows h (few-tokens p))),
-      )
-
--- what they give of one that a line refuses
-module _ (lent : Lent) (tokens : List ℕ) {refusal : Refusal} (e : firstOf (conditionLines lent tokens) ≡ Refused refusal) where
-  before : (others : List Check) → firstOf (conditionLines lent tokens ++ others) ≡ Refused refusal
-  before others = lines-before (conditionLines lent tokens) others ∙ line-refused others e
-
-  refuses : Refuses lent tokens refusal
-  unfolding expandGives planGives judgeGives
-  refuses =
-      record {
-        expand = λ output. rw (before (roomCheck (numbersOf expanded (read tokens)) output ∷ []));
-        plan = λ output. rw (before (roomCheck (numbersOf planned (read tokens)) output ∷ []));
-        judge = λ content switches. rw (before (recordCheck lent content ∷ []));
-      }
+use Rattle.grammar.specs.Plan.{planned}
+use Rattle.conditions.specs.Calls.{conditionLines, roomCheck, Gives, writes, numbersOf, writing, expandGives, planGives, answers, treeAnswer, judgeGives}
+use Rattle.conditions.specs.Demands.{Accepted, writtenOver, Writes, Judges, DemandTwo, Demand3, DemandThree}
+use Rattle.conditions.proofs.Passing.{both-sound, Passes, passed, read-as, passes-again, Nine, condition-nine, underived-refused, ill-typed-refused}
+use Rattle.conditions.proofs.Calling.{writes-over, judges-as, runs-as, refuses}
 
 -- no condition is written, nor judged, but one that passes
 module _ (lent : Lent) (tokens : List ℕ) where

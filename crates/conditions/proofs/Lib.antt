@@ -1,5 +1,6 @@
 pub mod Cases
 pub mod Passing
-pub mod Demands
-pub mod Running
 pub mod Preparing
+pub mod Running
+pub mod Calling
+pub mod Demands

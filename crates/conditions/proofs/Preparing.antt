@@ -16,15 +16,16 @@ use Rattle.tables.specs.Refusals.{place, firstOf}
 use Rattle.tables.specs.Tables.{tableLines, tokenCountCheck, tokenCheck}
 use Rattle.tables.proofs.Lines.{test-sound, line-sound, line-refused, line-last, lines-before, lines-sound}
 use Rattle.tables.proofs.Tests.{both}
-use Rattle.grammar.specs.declared.Parse.{Parse}
-use Rattle.grammar.specs.declared.Parse.the-variants.{Accepted, Refused as Unparsed}
+use Rattle.parser.specs.declared.Parse.{Parse}
+use Rattle.parser.specs.declared.Parse.the-variants.{Accepted, Refused as Unparsed}
 use Rattle.grammar.specs.Grammar.{Tree}
 use Rattle.grammar.specs.Parser.{Reading, accepted, refused, read}
 use Rattle.grammar.specs.Depth.{depthCheck}
 use Rattle.grammar.specs.Typed.{typingFrom}
 use Rattle.grammar.specs.Judging.{leaves}
 use Rattle.grammar.specs.Plan.{planned}
-use Rattle.grammar.specs.Reads.{Shaped, typedRows, Whole, Parses}
+use Rattle.grammar.specs.Typed.{Shaped, typedRows}
+use Rattle.parser.specs.Reads.{Whole, Parses}
 use Rattle.grammar.proofs.Reading.{sound}
 use Rattle.grammar.proofs.Lent.{typing-lent}
 use Rattle.grammar.proofs.Shapes.{shaped, rows-shaped, rows-typed}

@@ -10,8 +10,8 @@ use Rattle.tables.specs.declared.Check.the-variants.{Sound, Refused}
 use Rattle.tables.specs.Operands.{Lent}
 use Rattle.tables.specs.Refusals.{firstOf}
 use Rattle.tables.specs.Tables.{tableLines, recordCheck}
-use Rattle.grammar.specs.declared.Parse.{Parse}
-use Rattle.grammar.specs.declared.Parse.the-variants.{Accepted, Refused as Unparsed}
+use Rattle.parser.specs.declared.Parse.{Parse}
+use Rattle.parser.specs.declared.Parse.the-variants.{Accepted, Refused as Unparsed}
 use Rattle.grammar.specs.Grammar.{Tree}
 use Rattle.grammar.specs.Parser.{Reading, accepted, read}
 use Rattle.grammar.specs.Judging.{leaves}

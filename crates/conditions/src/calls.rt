@@ -8,9 +8,9 @@ ghost use Rattle.conditions.specs.Calls.{expandGives, planGives, judgeGi
 use crate::Prepared;
 use crate::prepare::prepare;
 use crate::runner::run_rows;
-use grammar::expand::expanded_length;
-use grammar::expand::write_expanded;
-use grammar::plans::check_plan;
+use parser::expand::expanded_length;
+use parser::expand::write_expanded;
+use parser::plans::check_plan;
 use tables::Check;
 use tables::Refusal;
 use tables::Verdict;

@@ -5,9 +5,22 @@ pub mod prepare; // refusals 1 to 9, and the rows of a condition
 pub mod runner; // running rows
 
 use tables::Refusal;
+use tables::Verdict;
+use tables::Written;
 
 // What refusals 1 to 9 leave: the number of rows, or a refusal.
 pub enum Prepared {
     Rows(usize),
     Refused(Refusal),
+}
+
+// What plan, run, expand and plan again gave.
+pub enum Shown {
+    Refused(Refusal),
+    Calls {
+        count: usize,
+        verdict: Verdict,
+        expanded: Written,
+        again: Written,
+    },
 }

@@ -109,7 +109,7 @@ fn say_plan(plan: &[u32]) {
     let rows = plan.len() / 5;
     let mut k: usize = 0;
     while k < rows {
-        let row = grammar::plans::plan_row(plan, k);
+        let row = parser::plans::plan_row(plan, k);
         say(b"  row ");
         say_number(k);
         say(b": ");

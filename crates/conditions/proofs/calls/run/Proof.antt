@@ -1,0 +1,80 @@
+-- Rests on what the checks ensure: the first line that refuses, or a plan that can be run.
+use mathlib.Core.Path.{sym, _∙_}
+use borrow.Author.Needs.{needs}
+use Rattle.conditions.proofs.Calling.{tables-refuse, plan-refuses, run-record-refuses, plan-runnable, run-answers}
+use Rattle.conditions.proofs.calls.run.Statement.{statement}
+use Rattle.conditions.proofs.calls.run.Tie as tie
+
+check-tables-requires : tie.Need-check-tables-requires
+check-tables-requires c κs = search needs
+
+enum-known-tables : tie.Need-enum-known-tables
+enum-known-tables c = search needs
+
+returns : tie.Need-returns
+returns c = tables-refuse _ _ _ _ (sym (c .before .before .before .check-tables .ensures) ∙ c .before .tables .given .1)
+
+enum-told : tie.Need-enum-told
+enum-told c = search needs
+
+check-plan-requires : tie.Need-check-plan-requires
+check-plan-requires c κs = search needs
+
+enum-known-rows : tie.Need-enum-known-rows
+enum-known-rows c = search needs
+
+returns-2 : tie.Need-returns-2
+returns-2 c =
+    plan-refuses _ _ _ _ _ (sym (c .before .before .before .before .before .before .check-tables .ensures) ∙ c .before .before .before .before .enum-told .given .1) _
+    (sym (c .before .before .before .check-plan .ensures) ∙ c .before .rows .given .1)
+
+enum-told-2 : tie.Need-enum-told-2
+enum-told-2 c = search needs
+
+check-record-requires : tie.Need-check-record-requires
+check-record-requires c κs = search needs
+
+enum-known-held : tie.Need-enum-known-held
+enum-known-held c = search needs
+
+returns-3 : tie.Need-returns-3
+returns-3 c =
+    run-record-refuses _ _ _ _ _ (sym (c .before .before .before .before .before .before .before .before .before .check-tables .ensures) ∙ c .before .before .before .before .before .before .before .enum-told .given .1) _
+    (sym (c .before .before .before .before .before .before .check-plan .ensures) ∙ c .before .before .before .before .enum-told2 .given .1)
+    (sym (c .before .before .before .check-record .ensures) ∙ c .before .held .given .1)
+
+enum-told-3 : tie.Need-enum-told-3
+enum-told-3 c = search needs
+
+run-rows-requires : tie.Need-run-rows-requires
+run-rows-requires c κs =
+    plan-runnable _ _ _ _ _ (sym (c .before .before .before .before .before .before .before .before .check-tables .ensures) ∙ c .before .before .before .before .before .before .enum-told .given .1)
+    (sym (c .before .before .before .before .before .check-plan .ensures) ∙ c .before .before .before .enum-told2 .given .1)
+    (sym (c .before .before .check-record .ensures) ∙ c .enum-told3 .given .1)
+
+returns-4 : tie.Need-returns-4
+returns-4 c =
+    run-answers _ _ _ _
+    (plan-runnable _ _ _ _ _ (sym (c .before .before .before .before .before .before .before .before .before .check-tables .ensures) ∙ c .before .before .before .before .before .before .before .enum-told .given .1)
+    (sym (c .before .before .before .before .before .before .check-plan .ensures) ∙ c .before .before .before .before .enum-told2 .given .1)
+    (sym (c .before .before .before .check-record .ensures) ∙ c .before .enum-told3 .given .1))
+    (c .run-rows .ensures)
+
+pub run-spec : {M : Type 1} → statement M
+run-spec =
+    tie.close
+    (tie.spec
+    check-tables-requires
+    enum-known-tables
+    returns
+    enum-told
+    check-plan-requires
+    enum-known-rows
+    returns-2
+    enum-told-2
+    check-record-requires
+    enum-known-held
+    returns-3
+    enum-told-3
+    run-rows-requires
+    returns-4)
