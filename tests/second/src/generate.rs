@@ -1,0 +1,169 @@
+//! Random cases, the same for the same seed and index: well-typed abbreviated
+//! conditions, nearly valid ones and damaged ones, with tables, records and
+//! plans of the same sorts.
+
+mod condition;
+mod content;
+mod damage;
+mod plans;
+mod tables;
+
+use crate::answers::ENOUGH;
+use crate::case::Case;
+use crate::random::Random;
+use crate::rules::{self, Refusal};
+
+/// Case `index` of a seed.
+pub fn case(seed: u64, index: u64) -> Case {
+    let mut random = Random::new(seed, index);
+    let mut case = Case {
+        switches: random.any() as u8,
+        ..Case::default()
+    };
+    tables::fill(&mut random, &mut case);
+    case.tokens = condition::tokens(&mut random, &case);
+    case.plan = plans::plan(&mut random, &case);
+    damage::cut_record(&mut random, &mut case);
+    damage::damage_tables(&mut random, &mut case);
+    choose_rooms(&mut random, &mut case);
+    case
+}
+
+/// Room for the outputs, around what is needed: expand tells it of an output
+/// without room, and a condition has one simple condition more than joiners.
+fn choose_rooms(random: &mut Random, case: &mut Case) {
+    let told = rules::expand(&case.tables(), &case.tokens, &mut []);
+    let (expanded, planned) = match told {
+        Err(Refusal { number: 10, place }) => (place, 5 * (joiners(&case.tokens) + 1)),
+        _ => (random.below(30), random.below(30)),
+    };
+    case.expand_room = room(random, expanded);
+    case.plan_room = room(random, planned);
+}
+
+fn joiners(tokens: &[u32]) -> u32 {
+    let is_joiner = |&&token: &&u32| matches!(token, condition::AND | condition::OR);
+    tokens.iter().filter(is_joiner).count() as u32
+}
+
+fn room(random: &mut Random, needed: u32) -> usize {
+    let room = match random.below(100) {
+        0..=39 => needed,
+        40..=49 => needed.saturating_sub(1),
+        50..=89 => needed + random.between(1, 12),
+        90..=93 => random.below(needed + 1),
+        94..=95 => ENOUGH as u32 + random.below(9),
+        _ => 0,
+    };
+    room as usize
+}
+
+/// What the parts of the generator need to know of an operand's row.
+#[derive(Clone, Copy)]
+struct Facts {
+    kind: u32,
+    scale: u32,
+    literal: bool,
+}
+
+impl Facts {
+    fn of(case: &Case, token: u32) -> Facts {
+        let literal = token >> 16 == 1;
+        let table = if literal { &case.literals } else { &case.items };
+        let row = 4 * (token & 0xFFFF) as usize;
+        Facts {
+            kind: table[row],
+            scale: table[row + 3],
+            literal,
+        }
+    }
+
+    fn numeric(&self) -> bool {
+        self.kind >= 3
+    }
+
+    /// Whether this may stand in a relation with that side.
+    fn fits(&self, other: &Facts) -> bool {
+        let scaled = |side: &Facts| side.numeric() && side.scale > 0;
+        let one_numeric = self.numeric() != other.numeric();
+        let two_literals = self.literal && other.literal;
+        !two_literals && !(one_numeric && (scaled(self) || scaled(other)))
+    }
+
+    /// Whether a class or sign word may stand behind this.
+    fn bears(&self, word: u32) -> bool {
+        let kinds = match word {
+            10 => 2..=6,
+            11..=13 => 0..=2,
+            _ => 3..=6,
+        };
+        !self.literal && kinds.contains(&self.kind)
+    }
+}
+
+/// Any operand of the tables, items more often than literals.
+fn any_operand(random: &mut Random, case: &Case) -> Option<u32> {
+    let (items, literals) = (case.items.len() / 4, case.literals.len() / 4);
+    let literal = match (items, literals) {
+        (0, 0) => return None,
+        (0, _) => true,
+        (_, 0) => false,
+        _ => random.chance(220),
+    };
+    Some(if literal {
+        65_536 + random.below(literals as u32)
+    } else {
+        random.below(items as u32)
+    })
+}
+
+/// A random operand with a wanted property, if a few tries find one.
+fn find_operand(random: &mut Random, case: &Case, wanted: impl Fn(&Facts) -> bool) -> Option<u32> {
+    (0..6)
+        .map_while(|_| any_operand(random, case))
+        .find(|&token| wanted(&Facts::of(case, token)))
+}
+
+fn any_switch(random: &mut Random) -> u32 {
+    random.between(2, 3) * 65_536 + random.below(8)
+}
+
+/// A well-typed simple condition as the first three numbers of a plan row.
+fn simple_condition(random: &mut Random, case: &Case) -> [u32; 3] {
+    let triple = match random.below(20) {
+        0..=2 => None,
+        3..=5 => test_of(random, case, &[10, 10, 11, 12, 13]),
+        6..=7 => test_of(random, case, &[14, 15, 16]),
+        _ => relation_of(random, case),
+    };
+    triple.unwrap_or_else(|| [any_switch(random), 0, 0])
+}
+
+fn test_of(random: &mut Random, case: &Case, words: &[u32]) -> Option<[u32; 3]> {
+    let word = random.pick(words);
+    let subject = find_operand(random, case, |facts| facts.bears(word))?;
+    let not = if random.chance(300) { 32 } else { 0 };
+    Some([subject, word + not, 0])
+}
+
+fn relation_of(random: &mut Random, case: &Case) -> Option<[u32; 3]> {
+    let subject = any_operand(random, case)?;
+    let facts = Facts::of(case, subject);
+    let object = find_operand(random, case, |other| facts.fits(other))?;
+    let relation = random.pick(&[5, 6, 7, 7, 8, 9, 37, 38, 39]);
+    Some([subject, relation, object])
+}
+
+#[cfg(test)]
+mod tests {
+    use super::*;
+
+    #[test]
+    fn same_seed_same_case() {
+        for index in 0..500 {
+            assert_eq!(case(3, index), case(3, index));
+        }
+        assert_ne!(case(3, 0), case(4, 0));
+        assert_ne!(case(3, 0), case(3, 1));
+    }
+}

@@ -1,0 +1,158 @@
+//! Contents of items and literals: values near a common one, so that equal,
+//! less and greater all occur, and invalid numeric contents.
+
+use crate::random::Random;
+
+/// What the contents of one case are gathered around.
+pub struct Theme {
+    number: u64,
+    scale: u32,
+    /// Minus signs in a thousand.
+    minus: u32,
+    text: [u8; 8],
+    /// Invalid numeric contents in a thousand.
+    pub rot: u32,
+}
+
+const LETTERS: &[u8] = b"AaBbZz  MmBBB";
+const EDGES: &[u8] = &[
+    0x00, 0x1F, 0x20, 0x21, 0x2F, 0x30, 0x39, 0x3A, 0x40, 0x41, 0x5A, 0x5B, 0x60, 0x61, 0x7A, 0x7B,
+    0x7F, 0x80, 0xFF,
+];
+
+impl Theme {
+    pub fn choose(random: &mut Random) -> Theme {
+        let whole = random.any() % 1_000_000_000_000_000_000;
+        let number = match random.below(8) {
+            0 => 0,
+            1 => 1,
+            2 => 999_999_999_999_999_999,
+            3 => 10_u64.pow(random.below(18)),
+            4 => whole,
+            _ => whole % 10_u64.pow(random.between(1, 5)),
+        };
+        let mut text = *b"        ";
+        let length = random.between(1, 8) as usize;
+        for byte in &mut text[..length] {
+            *byte = random.pick(LETTERS);
+        }
+        Theme {
+            number,
+            scale: random.pick(&[0, 0, 0, 1, 2, 5, 18]),
+            minus: random.pick(&[0, 100, 500, 900]),
+            text,
+            rot: random.pick(&[0, 0, 100, 300, 600, 900, 1000]),
+        }
+    }
+
+    /// The common number for so many digits and such a scale, or one near it.
+    fn near(&self, random: &mut Random, digits: u32, scale: u32) -> u64 {
+        let limit = 10_u64.pow(digits);
+        let scaled = u128::from(self.number) * 10_u128.pow(scale) / 10_u128.pow(self.scale);
+        let exact = (scaled % u128::from(limit)) as u64;
+        match random.below(10) {
+            0..=4 => exact,
+            5 => (exact + 1) % limit,
+            6 => exact.saturating_sub(1),
+            7 => 0,
+            8 => limit - 1,
+            _ => random.any() % limit,
+        }
+    }
+}
+
+/// Valid content for a row of that kind and scale.
+pub fn put(random: &mut Random, theme: &Theme, kind: u32, scale: u32, bytes: &mut [u8]) {
+    if kind >= 3 {
+        put_number(random, theme, kind, scale, bytes);
+    } else {
+        put_text(random, theme, bytes);
+    }
+}
+
+fn put_number(random: &mut Random, theme: &Theme, kind: u32, scale: u32, bytes: &mut [u8]) {
+    let digits = bytes.len() - usize::from(kind >= 5);
+    let value = theme.near(random, digits as u32, scale);
+    let minus = random.chance(theme.minus);
+    let sign = if minus { b'-' } else { b'+' };
+    match kind {
+        5 => {
+            bytes[0] = sign;
+            put_digits(value, &mut bytes[1..]);
+        }
+        6 => {
+            put_digits(value, &mut bytes[..digits]);
+            bytes[digits] = sign;
+        }
+        _ => put_digits(value, bytes),
+    }
+    if kind == 4 && minus {
+        bytes[digits - 1] += 0x10;
+    }
+}
+
+fn put_digits(mut value: u64, bytes: &mut [u8]) {
+    for byte in bytes.iter_mut().rev() {
+        *byte = b'0' + (value % 10) as u8;
+        value /= 10;
+    }
+}
+
+fn put_text(random: &mut Random, theme: &Theme, bytes: &mut [u8]) {
+    match random.below(12) {
+        0..=2 => put_common(theme, bytes),
+        3 => {
+            put_common(theme, bytes);
+            put_edge(random, bytes);
+        }
+        4..=6 => put_digit_text(random, theme, bytes),
+        7..=9 => {
+            let letters = random.pick(&[b"AZBM ", b"azbm ", b"AbzZ "]);
+            bytes.fill_with(|| random.pick(letters));
+            if random.chance(400) {
+                put_edge(random, bytes);
+            }
+        }
+        10 => bytes.fill_with(|| random.pick(b"0123456789")),
+        _ => bytes.fill_with(|| random.pick(EDGES)),
+    }
+}
+
+/// One byte at the edge of a class, near the start.
+fn put_edge(random: &mut Random, bytes: &mut [u8]) {
+    let place = random.index(bytes.len().min(9));
+    bytes[place] = random.pick(EDGES);
+}
+
+fn put_common(theme: &Theme, bytes: &mut [u8]) {
+    bytes.fill(b' ');
+    for (byte, &common) in bytes.iter_mut().zip(&theme.text) {
+        *byte = common;
+    }
+}
+
+/// The common number's digits from the left, then spaces.
+fn put_digit_text(random: &mut Random, theme: &Theme, bytes: &mut [u8]) {
+    bytes.fill(b' ');
+    let widest = bytes.len().min(18);
+    let width = if random.chance(600) {
+        widest
+    } else {
+        1 + random.index(widest)
+    };
+    let value = theme.near(random, width as u32, 0);
+    put_digits(value, &mut bytes[..width]);
+}
+
+/// Makes numeric content invalid, nearly always.
+pub fn spoil(random: &mut Random, bytes: &mut [u8]) {
+    let last = bytes.len() - 1;
+    match random.below(6) {
+        0 => bytes.fill(b' '),
+        1 => bytes[0] = b' ',
+        2 => bytes[random.index(last + 1)] = random.pick(EDGES),
+        3 => bytes[last] = random.pick(&[0x2F, 0x3A, 0x3F, 0x4A, 0x4F, 0x50, 0x59, 0x23, b'-']),
+        4 => bytes[0] = random.pick(&[0x2A, 0x2B, 0x2C, 0x2D, 0x2E, 0x40, 0x41, 0x30]),
+        _ => bytes.swap(0, last),
+    }
+}

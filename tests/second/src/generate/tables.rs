@@ -1,0 +1,141 @@
+//! Valid item and literal tables with their bytes.
+
+use super::content::{self, Theme};
+use crate::case::Case;
+use crate::random::Random;
+
+pub fn fill(random: &mut Random, case: &mut Case) {
+    let theme = Theme::choose(random);
+    fill_items(random, case);
+    fill_record(random, &theme, case);
+    fill_literals(random, &theme, case);
+}
+
+fn fill_items(random: &mut Random, case: &mut Case) {
+    let rows = match random.below(100) {
+        0..=1 => 0,
+        2..=74 => random.between(1, 6),
+        75..=94 => random.between(5, 14),
+        95..=97 => random.between(15, 40),
+        _ => random.between(62, 64),
+    };
+    let kinds: &[u32] = match random.below(4) {
+        0 => &[0, 1, 2, 3, 4, 5, 6],
+        1 => &[3, 3, 4, 4, 5, 6, 2],
+        2 => &[0, 1, 2, 2, 2, 3, 4],
+        _ => &[0, 2, 3, 4, 5],
+    };
+    let mut end = 0;
+    for _ in 0..rows {
+        let kind = random.pick(kinds);
+        let (size, scale) = measures(random, kind);
+        let offset = offset(random, end);
+        case.items.extend([kind, offset, size, scale]);
+        end = end.max(offset + size);
+    }
+}
+
+/// Size and scale within the rules, now and then at their limits.
+fn measures(random: &mut Random, kind: u32) -> (u32, u32) {
+    let wide = random.chance(40);
+    match kind {
+        0 if wide && random.chance(10) => (65_535, 0),
+        0 if wide => (random.between(1, 300), 0),
+        0 => (random.between(1, 8), 0),
+        1 | 2 if wide => (random.between(250, 256), 0),
+        1 | 2 => (random.between(1, 6), 0),
+        _ => {
+            let digits = if wide || random.chance(60) {
+                random.between(16, 18)
+            } else {
+                random.between(1, 5)
+            };
+            let scale = match random.below(10) {
+                0..=5 => 0,
+                6 => digits,
+                _ => random.below(digits + 1),
+            };
+            (digits + u32::from(kind >= 5), scale)
+        }
+    }
+}
+
+/// Mostly behind the rows before, sometimes over them, rarely at the limit.
+fn offset(random: &mut Random, end: u32) -> u32 {
+    let offset = match random.below(1000) {
+        0..=799 => end,
+        800..=829 => end + random.between(1, 4),
+        830..=998 => random.below(end + 1),
+        _ if random.chance(150) => 65_535,
+        _ => end,
+    };
+    offset.min(65_535)
+}
+
+fn span(row: &[u32]) -> std::ops::Range<usize> {
+    let start = row[1] as usize;
+    start..start + row[2] as usize
+}
+
+/// A record that ends where the last item does.
+fn fill_record(random: &mut Random, theme: &Theme, case: &mut Case) {
+    let length = case.items.chunks(4).map(|row| span(row).end).max();
+    case.record = vec![b' '; length.unwrap_or(0)];
+    let mut filled = 0;
+    for row in case.items.chunks(4) {
+        let covers_others = span(row).start < filled;
+        if !covers_others || random.chance(500) {
+            let bytes = &mut case.record[span(row)];
+            content::put(random, theme, row[0], row[3], bytes);
+        }
+        filled = filled.max(span(row).end);
+    }
+    for row in case.items.chunks(4).filter(|row| row[0] >= 3) {
+        if random.chance(theme.rot) {
+            content::spoil(random, &mut case.record[span(row)]);
+        }
+    }
+}
+
+fn fill_literals(random: &mut Random, theme: &Theme, case: &mut Case) {
+    let rows = match random.below(100) {
+        0..=19 => 0,
+        20..=89 => random.between(1, 4),
+        90..=98 => random.between(5, 9),
+        _ => random.between(62, 64),
+    };
+    for _ in 0..rows {
+        if case.literals.is_empty() || random.chance(850) {
+            add_literal(random, theme, case);
+        } else {
+            view_literal_again(random, case);
+        }
+    }
+    if random.chance(300) {
+        case.bytes.push(random.any() as u8);
+    }
+}
+
+fn add_literal(random: &mut Random, theme: &Theme, case: &mut Case) {
+    let kind = random.pick(&[2, 2, 3, 3, 5]);
+    let (size, scale) = measures(random, kind);
+    let start = case.bytes.len();
+    case.literals.extend([kind, start as u32, size, scale]);
+    case.bytes.resize(start + size as usize, b' ');
+    content::put(random, theme, kind, scale, &mut case.bytes[start..]);
+}
+
+/// A row over bytes of an earlier row: the digits behind a sign, or characters.
+fn view_literal_again(random: &mut Random, case: &mut Case) {
+    let row = 4 * random.index(case.literals.len() / 4);
+    let (kind, offset, size) = (
+        case.literals[row],
+        case.literals[row + 1],
+        case.literals[row + 2],
+    );
+    let view = match kind {
+        5 if random.chance(500) => [3, offset + 1, size - 1, 0],
+        _ => [2, offset, random.between(1, size), 0],
+    };
+    case.literals.extend(view);
+}

@@ -1,0 +1,12 @@
+//! The independent second program: the rules of the scope paper, a generator
+//! of random cases, answers to them, and a comparison with the library.
+
+pub mod answers;
+pub mod case;
+#[cfg(feature = "library")]
+pub mod compare;
+pub mod generate;
+pub mod random;
+pub mod rules;
+pub mod show;
+pub mod stats;

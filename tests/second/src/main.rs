@@ -1,0 +1,87 @@
+//! Commands: generate SEED COUNT, answers, stats SEED COUNT, show SEED INDEX,
+//! and with the feature `library` compare SEED COUNT.
+
+use second::answers;
+use second::case::{self, Case};
+use second::{generate, stats};
+use std::env;
+use std::io::{self, BufReader, BufWriter, Write};
+use std::process::ExitCode;
+
+const USAGE: &str = "usage: second generate SEED COUNT   cases to standard output
+       second answers               cases from standard input, lines to standard output
+       second stats SEED COUNT      what occurs in so many cases
+       second show SEED INDEX       one case in readable form
+       second compare SEED COUNT    the library against the rules (feature library)";
+
+fn main() -> ExitCode {
+    let arguments: Vec<String> = env::args().skip(1).collect();
+    let words: Vec<&str> = arguments.iter().map(String::as_str).collect();
+    match dispatch(&words) {
+        Ok(code) => code,
+        Err(error) if error.kind() == io::ErrorKind::BrokenPipe => ExitCode::SUCCESS,
+        Err(error) => {
+            eprintln!("second: {error}");
+            ExitCode::from(2)
+        }
+    }
+}
+
+fn dispatch(words: &[&str]) -> io::Result<ExitCode> {
+    match *words {
+        ["generate", seed, count] => write_cases(number(seed)?, number(count)?)?,
+        ["answers"] => write_answers()?,
+        ["stats", seed, count] => write_stats(number(seed)?, number(count)?)?,
+        ["show", seed, index] => show_case(number(seed)?, number(index)?)?,
+        #[cfg(feature = "library")]
+        ["compare", seed, count] => return Ok(compare(number(seed)?, number(count)?)),
+        _ => return Err(invalid(USAGE)),
+    }
+    Ok(ExitCode::SUCCESS)
+}
+
+fn invalid(what: &str) -> io::Error {
+    io::Error::new(io::ErrorKind::InvalidInput, what)
+}
+
+fn number(text: &str) -> io::Result<u64> {
+    text.parse()
+        .map_err(|_| invalid(&format!("not a number: {text}\n{USAGE}")))
+}
+
+fn write_cases(seed: u64, count: u64) -> io::Result<()> {
+    let count = u32::try_from(count).map_err(|_| invalid("more cases than a word can count"))?;
+    let mut output = BufWriter::with_capacity(1 << 18, io::stdout().lock());
+    output.write_all(&count.to_le_bytes())?;
+    for index in 0..u64::from(count) {
+        generate::case(seed, index).write(&mut output)?;
+    }
+    output.flush()
+}
+
+fn write_answers() -> io::Result<()> {
+    let mut input = BufReader::with_capacity(1 << 18, io::stdin().lock());
+    let mut output = BufWriter::with_capacity(1 << 18, io::stdout().lock());
+    for _ in 0..case::read_word(&mut input)? {
+        let case = Case::read(&mut input)?;
+        writeln!(output, "{}", answers::answer(&case))?;
+    }
+    output.flush()
+}
+
+fn write_stats(seed: u64, count: u64) -> io::Result<()> {
+    write!(io::stdout(), "{}", stats::gather(seed, count))
+}
+
+fn show_case(seed: u64, index: u64) -> io::Result<()> {
+    let case = generate::case(seed, index);
+    writeln!(io::stdout(), "{case}{}", answers::answer(&case))
+}
+
+#[cfg(feature = "library")]
+fn compare(seed: u64, count: u64) -> ExitCode {
+    match second::compare::compare(seed, count) {
+        0 => ExitCode::SUCCESS,
+        _ => ExitCode::from(1),
+    }
+}

@@ -1,0 +1,611 @@
+//! The sixteen cases of the scope paper, its "also run" list, and the
+//! recogniser against an enumeration of the grammar.
+
+use super::*;
+use std::collections::HashSet;
+
+const FALSE: u32 = VERDICT_FALSE;
+const TRUE: u32 = VERDICT_TRUE;
+
+/// Four numeric items a, b, c, d of two digits, one behind the other.
+const ABCD: [u32; 16] = [3, 0, 2, 0, 3, 2, 2, 0, 3, 4, 2, 0, 3, 6, 2, 0];
+
+fn items_only(items: &[u32]) -> Tables<'_> {
+    Tables {
+        items,
+        literals: &[],
+        bytes: &[],
+    }
+}
+
+/// Tokens from words: letters a to h are items 0 to 7, p to s are switches 0 to
+/// 3 on, L0 to L3 are literals.
+fn tokens(text: &str) -> Vec<u32> {
+    text.split_whitespace().map(token).collect()
+}
+
+fn token(word: &str) -> u32 {
+    const WORDS: [&str; 17] = [
+        "(",
+        ")",
+        "NOT",
+        "AND",
+        "OR",
+        ">",
+        "<",
+        "=",
+        ">=",
+        "<=",
+        "NUMERIC",
+        "ALPHABETIC",
+        "ALPHABETIC-LOWER",
+        "ALPHABETIC-UPPER",
+        "POSITIVE",
+        "NEGATIVE",
+        "ZERO",
+    ];
+    if let Some(number) = WORDS.iter().position(|&known| known == word) {
+        return WORD + number as u32;
+    }
+    match word.as_bytes() {
+        [letter @ b'a'..=b'h'] => u32::from(letter - b'a'),
+        [letter @ b'p'..=b's'] => 2 * 65_536 + u32::from(letter - b'p'),
+        [b'L', digit] => 65_536 + u32::from(digit - b'0'),
+        _ => panic!("no such word: {word}"),
+    }
+}
+
+fn expanded(tables: &Tables, tokens: &[u32]) -> Result<Vec<u32>, Refusal> {
+    let mut output = [7; 640];
+    let count = expand(tables, tokens, &mut output)? as usize;
+    assert!(output[count..].iter().all(|&number| number == 7));
+    Ok(output[..count].to_vec())
+}
+
+fn planned(tables: &Tables, tokens: &[u32]) -> Result<Vec<u32>, Refusal> {
+    let mut output = [7; 645];
+    let count = plan(tables, tokens, &mut output)? as usize;
+    assert!(output[count..].iter().all(|&number| number == 7));
+    Ok(output[..count].to_vec())
+}
+
+fn check_expansion(text: &str, full: &str) {
+    let tables = items_only(&ABCD);
+    assert_eq!(expanded(&tables, &tokens(text)), Ok(tokens(full)));
+    assert_eq!(
+        planned(&tables, &tokens(text)),
+        planned(&tables, &tokens(full))
+    );
+}
+
+fn check_refusal(text: &str, number: u32, place: u32) {
+    let tables = items_only(&ABCD);
+    let refusal = Refusal { number, place };
+    assert_eq!(expanded(&tables, &tokens(text)), Err(refusal));
+    assert_eq!(planned(&tables, &tokens(text)), Err(refusal));
+    assert_eq!(judge(&tables, &tokens(text), b"01020304", 0), Err(refusal));
+}
+
+/// Judges, and checks that a run of the plan says the same.
+fn judged(tables: &Tables, text: &str, record: &[u8], switches: u8) -> Result<bool, Refusal> {
+    let condition = tokens(text);
+    let answer = judge(tables, &condition, record, switches);
+    if let Ok(plan) = planned(tables, &condition) {
+        assert_eq!(run(tables, &plan, record, switches), answer);
+    }
+    answer
+}
+
+fn check_judged(items: &[u32], record: &[u8], text: &str, answer: bool) {
+    assert_eq!(
+        judged(&items_only(items), text, record, 0),
+        Ok(answer),
+        "{text}"
+    );
+}
+
+#[test]
+fn case_01_numbers_to_the_letter() {
+    let tables = items_only(&ABCD);
+    let condition = tokens("a > b AND NOT < c OR d");
+    assert_eq!(
+        condition,
+        [0, 262149, 1, 262147, 262146, 262150, 2, 262148, 3]
+    );
+    assert_eq!(
+        expanded(&tables, &condition).unwrap(),
+        [0, 262149, 1, 262147, 0, 262146, 262150, 2, 262148, 0, 262146, 262150, 3]
+    );
+    assert_eq!(
+        planned(&tables, &condition).unwrap(),
+        [0, 5, 1, 1, 2, 0, 38, 2, 65535, 2, 0, 38, 3, 65535, 65534]
+    );
+}
+
+#[test]
+fn case_02_logical_not_is_not_carried() {
+    check_expansion("NOT a = b OR c", "NOT a = b OR a = c");
+}
+
+#[test]
+fn case_03_not_before_joined_relation_is_logical() {
+    check_expansion("a = b AND NOT >= c OR d", "a = b AND NOT a >= c OR a >= d");
+}
+
+#[test]
+fn case_04_not_of_the_relation_is_carried() {
+    check_expansion(
+        "NOT ( a NOT > b AND c AND NOT d )",
+        "NOT ( a NOT > b AND a NOT > c AND NOT a NOT > d )",
+    );
+}
+
+#[test]
+fn cases_05_to_09_refused_with_7() {
+    check_refusal("a = b AND ( c OR d )", 7, 6);
+    check_refusal("( a = b OR c ) AND d", 7, 9);
+    check_refusal("a NOT >= b", 7, 2);
+    check_refusal("a = b OR NOT NOT = c", 7, 5);
+    check_refusal("a", 7, 1);
+}
+
+#[test]
+fn case_10_targets_of_four_switches() {
+    let plan = planned(&items_only(&[]), &tokens("( p OR NOT q ) AND r AND s")).unwrap();
+    let targets: Vec<_> = plan.chunks(5).map(|row| (row[3], row[4])).collect();
+    assert_eq!(targets, [(2, 1), (FALSE, 2), (3, FALSE), (TRUE, FALSE)]);
+    let firsts: Vec<_> = plan.chunks(5).map(|row| &row[..3]).collect();
+    assert_eq!(
+        firsts,
+        [
+            [131072, 0, 0],
+            [131073, 0, 0],
+            [131074, 0, 0],
+            [131075, 0, 0]
+        ]
+    );
+}
+
+#[test]
+fn case_11_sign_in_the_last_byte() {
+    // a is kind 4; b alphanumeric; c a group; d a number for the value.
+    let items = [4, 0, 5, 0, 2, 5, 5, 0, 0, 10, 5, 0, 5, 15, 6, 0];
+    let record = b"\x31\x32\x33\x34\x45123451234E-12345";
+    check_judged(&items, record, "a = d", true);
+    check_judged(&items, record, "a NEGATIVE", true);
+    check_judged(&items, record, "a = b", true);
+    check_judged(&items, record, "a = c", true);
+    check_judged(&items, record, "b = c", false);
+}
+
+#[test]
+fn case_12_zero_has_one_value() {
+    let items = [4, 0, 1, 0, 4, 1, 1, 0];
+    for text in ["a = b", "a ZERO", "b ZERO", "b NOT NEGATIVE"] {
+        check_judged(&items, &[0x30, 0x40], text, true);
+    }
+}
+
+#[test]
+fn case_13_scales() {
+    let items = [3, 0, 3, 2, 3, 3, 2, 1];
+    check_judged(&items, b"15015", "a = b", true);
+}
+
+#[test]
+fn case_14_filling_with_spaces() {
+    let items = [2, 0, 3, 0, 2, 3, 4, 0, 2, 7, 4, 0, 2, 11, 4, 0];
+    let record = b"BBBBBB BBBABBB\0";
+    check_judged(&items, record, "a = b", true);
+    check_judged(&items, record, "a < c", true);
+    check_judged(&items, record, "a > d", true);
+}
+
+#[test]
+fn case_15_an_item_not_reached_is_not_read() {
+    let tables = items_only(&ABCD);
+    let record = b"1212  12";
+    assert_eq!(judged(&tables, "a = b OR c = d", record, 0), Ok(true));
+    let stop = Refusal {
+        number: 13,
+        place: 0,
+    };
+    assert_eq!(judged(&tables, "c = d OR a = b", record, 0), Err(stop));
+}
+
+#[test]
+fn case_16_numeric_guards() {
+    check_judged(&ABCD, b"12  1212", "b NUMERIC AND b > a", false);
+}
+
+#[test]
+fn sixteen_brackets_and_seventeen() {
+    let nested = |depth: usize| {
+        let text = format!("{}p{}", "( ".repeat(depth), " )".repeat(depth));
+        tokens(&text)
+    };
+    let tables = items_only(&[]);
+    assert_eq!(judge(&tables, &nested(16), &[], 0x80), Ok(true));
+    let refusal = Refusal {
+        number: 8,
+        place: 16,
+    };
+    assert_eq!(judge(&tables, &nested(17), &[], 0x80), Err(refusal));
+    assert_eq!(planned(&tables, &nested(17)), Err(refusal));
+    assert_eq!(expanded(&tables, &nested(17)), Err(refusal));
+}
+
+#[test]
+fn seven_and_eight_by_place() {
+    let open = |depth: usize| "( ".repeat(depth);
+    // An unfinished sequence is refused at its end, behind the 17th bracket.
+    check_refusal(&open(17), 8, 16);
+    check_refusal(&open(16), 7, 16);
+    check_refusal(&format!("{}AND", open(17)), 8, 16);
+    // The bracket that would be the 17th cannot stand there: a tie.
+    check_refusal(&format!("{}a {}", open(16), open(1)), 7, 17);
+    check_refusal(&format!("AND {}", open(17)), 7, 0);
+    check_refusal("a = b )", 7, 3);
+}
+
+#[test]
+fn tokens_256_and_257() {
+    let tables = items_only(&ABCD);
+    let mut condition = tokens("NOT a = b");
+    while condition.len() < 256 {
+        condition.extend(tokens("AND c"));
+    }
+    assert_eq!(condition.len(), 256);
+    assert_eq!(planned(&tables, &condition).unwrap().len(), 5 * 127);
+    condition.push(WORD_AND);
+    let refusal = Refusal {
+        number: 5,
+        place: 0,
+    };
+    assert_eq!(planned(&tables, &condition), Err(refusal));
+    assert_eq!(judge(&tables, &condition, b"01020304", 0), Err(refusal));
+    assert_eq!(planned(&tables, &[]), Err(refusal));
+}
+
+#[test]
+fn longest_expansion_and_longest_plan() {
+    let mut condition = tokens("a NOT = b");
+    while condition.len() < 256 {
+        condition.extend(tokens("AND c"));
+    }
+    assert_eq!(expanded(&items_only(&ABCD), &condition).unwrap().len(), 634);
+    let mut switches = tokens("NOT p");
+    while switches.len() < 256 {
+        switches.extend(tokens("OR q"));
+    }
+    assert_eq!(planned(&items_only(&[]), &switches).unwrap().len(), 640);
+}
+
+#[test]
+fn scale_18_of_18_digits_against_1() {
+    let items = [3, 0, 18, 18, 3, 18, 1, 0, 3, 19, 18, 0];
+    let mut record = [b'9'; 37];
+    record[18] = b'1';
+    check_judged(&items, &record, "a < b", true);
+    check_judged(&items, &record, "a < c AND c > a AND c > b", true);
+    record[18] = b'0';
+    check_judged(&items, &record, "a > b AND NOT < b", true);
+}
+
+#[test]
+fn output_one_number_short() {
+    let tables = items_only(&ABCD);
+    let condition = tokens("a > b AND NOT < c OR d");
+    let mut output = [7; 13];
+    let short = |needed| {
+        Err(Refusal {
+            number: 10,
+            place: needed,
+        })
+    };
+    assert_eq!(expand(&tables, &condition, &mut output[..12]), short(13));
+    assert_eq!(output, [7; 13]);
+    assert_eq!(expand(&tables, &condition, &mut output), Ok(13));
+    let mut output = [7; 15];
+    assert_eq!(plan(&tables, &condition, &mut output[..14]), short(15));
+    assert_eq!(output, [7; 15]);
+    assert_eq!(plan(&tables, &condition, &mut output), Ok(15));
+}
+
+#[test]
+fn carry_and_the_words_that_drop_it() {
+    check_expansion(
+        "a = b AND c < d OR NOT a AND > b OR c",
+        "a = b AND c < d OR NOT c < a AND c > b OR c > c",
+    );
+    check_refusal("a = b AND c NUMERIC AND d", 7, 8);
+    check_refusal("a = b AND c NUMERIC AND > d", 7, 7);
+    check_refusal("a = b AND c NOT ZERO AND NOT < d", 7, 9);
+    check_refusal("a = b AND p AND d", 7, 7);
+    check_refusal("a = b AND NOT ( c )", 7, 7);
+    check_refusal("a = b AND c NOT >= d", 7, 6);
+    check_refusal("a = b AND NOT NUMERIC", 7, 5);
+    check_refusal("a = b AND NOT", 7, 5);
+    check_refusal("NOT > a", 7, 1);
+    check_refusal("> a", 7, 0);
+}
+
+#[test]
+fn numeric_beside_text_and_group() {
+    // a kind 5 with a bad sign, b alphanumeric, c group, d kind 6 of scale 0.
+    let items = [5, 0, 3, 0, 2, 3, 2, 0, 0, 5, 3, 0, 6, 8, 3, 0];
+    let record = b"*1212*1212-";
+    let tables = items_only(&items);
+    let stop = Refusal {
+        number: 13,
+        place: 0,
+    };
+    assert_eq!(judged(&tables, "a = b", record, 0), Err(stop));
+    assert_eq!(judged(&tables, "a = c", record, 0), Ok(true));
+    assert_eq!(judged(&tables, "d = b", record, 0), Ok(true));
+    assert_eq!(
+        judged(&tables, "d NEGATIVE AND d NUMERIC", record, 0),
+        Ok(true)
+    );
+    let literals = [5, 0, 3, 0];
+    let with_literal = Tables {
+        literals: &literals,
+        bytes: b"-12",
+        ..items_only(&[0, 0, 2, 0])
+    };
+    assert_eq!(judged(&with_literal, "a = L0", b"12", 0), Ok(true));
+}
+
+#[test]
+fn class_words() {
+    let items = [1, 0, 3, 0, 1, 3, 3, 0, 2, 6, 2, 0, 0, 0, 8, 0];
+    let record = b"A ZaB 12";
+    check_judged(&items, record, "a ALPHABETIC AND a ALPHABETIC-UPPER", true);
+    check_judged(
+        &items,
+        record,
+        "a ALPHABETIC-LOWER OR b ALPHABETIC-UPPER",
+        false,
+    );
+    check_judged(
+        &items,
+        record,
+        "b NOT ALPHABETIC-LOWER AND b ALPHABETIC",
+        true,
+    );
+    check_judged(&items, record, "c NUMERIC AND d NOT ALPHABETIC", true);
+}
+
+#[test]
+fn table_refusals() {
+    let refusal = |items: &[u32], literals: &[u32], bytes: &[u8]| {
+        let tables = Tables {
+            items,
+            literals,
+            bytes,
+        };
+        let refusal = judge(&tables, &tokens("p"), &[0; 80_000], 0).unwrap_err();
+        assert_eq!(
+            run(&tables, &[131072, 0, 0, TRUE, FALSE], &[0; 80_000], 0),
+            Err(refusal)
+        );
+        (refusal.number, refusal.place)
+    };
+    assert_eq!(refusal(&[0; 3], &[], &[]), (1, 0));
+    assert_eq!(refusal(&[0; 260], &[], &[]), (1, 0));
+    let fine = [3, 0, 1, 0];
+    let bad_rows: [[u32; 4]; 14] = [
+        [0, 0, 0, 0],
+        [0, 0, 65_536, 0],
+        [0, 0, 1, 1],
+        [0, 65_536, 1, 0],
+        [1, 0, 257, 0],
+        [2, 0, 0, 0],
+        [2, 0, 1, 1],
+        [3, 0, 19, 0],
+        [3, 0, 0, 0],
+        [4, 0, 5, 6],
+        [5, 0, 1, 0],
+        [6, 0, 20, 0],
+        [6, 0, 5, 5],
+        [7, 0, 1, 0],
+    ];
+    for row in bad_rows {
+        assert_eq!(refusal(&[fine, row].concat(), &[], &[]), (2, 1));
+        assert_eq!(refusal(&fine, &[fine, row].concat(), &[b'0'; 99]), (4, 1));
+    }
+    assert_eq!(refusal(&[], &[2, 0, 1], b"0"), (3, 0));
+    assert_eq!(refusal(&[], &[3, 0, 2, 0], b"0"), (4, 0));
+    assert_eq!(refusal(&[], &[3, 0, 2, 0], b"0 "), (4, 0));
+    assert_eq!(refusal(&[], &[5, 0, 2, 0], b"00"), (4, 0));
+    for kind in [0, 1, 4, 6] {
+        assert_eq!(refusal(&[], &[kind, 0, 2, 0], b"0+"), (4, 0));
+    }
+}
+
+#[test]
+fn record_and_plan_refusals() {
+    let tables = items_only(&ABCD);
+    let refusal = |number, place| Err(Refusal { number, place });
+    assert_eq!(judge(&tables, &tokens("p"), b"0102030", 0), refusal(12, 3));
+    let check = |plan: &[u32], place| {
+        assert_eq!(run(&tables, plan, b"01020304", 0), refusal(11, place));
+    };
+    check(&[], 0);
+    check(&[0, 7, 1, TRUE], 0);
+    check(&[131072, 0, 0, TRUE, FALSE].repeat(129), 0);
+    for row in [
+        [0, 7, 1, 1, TRUE],
+        [0, 7, 1, TRUE, 2],
+        [0, 7, 1, TRUE, 65_536],
+        [0, 40, 1, TRUE, FALSE],
+        [0, 41, 1, TRUE, FALSE],
+        [0, 0, 0, TRUE, FALSE],
+        [0, 17, 0, TRUE, FALSE],
+        [0, 10, 1, TRUE, FALSE],
+        [0, 11, 0, TRUE, FALSE],
+        [0, 7, 131072, TRUE, FALSE],
+        [0, 7, 4, TRUE, FALSE],
+        [131080, 0, 0, TRUE, FALSE],
+        [131072, 0, 1, TRUE, FALSE],
+        [131072, 7, 0, TRUE, FALSE],
+        [262144, 0, 0, TRUE, FALSE],
+    ] {
+        check(&[&[131072, 0, 0, 1, FALSE], &row[..]].concat(), 1);
+    }
+}
+
+/// Sequences of symbols that the grammar derives, each with whether it leaves
+/// a carry, up to a length, made by applying the paper's sentences literally.
+type Derived = HashSet<(Vec<u8>, bool)>;
+
+const OPERAND: u8 = 0;
+const NOT: u8 = 4;
+
+fn all_symbols() -> [Symbol; 10] {
+    use Symbol::*;
+    [
+        Operand, Switch, Open, Close, Not, And, Or, Plain, Joined, Test,
+    ]
+}
+
+/// A token with the symbol of that number.
+fn sample(symbol: u8) -> u32 {
+    [
+        0,
+        131072,
+        WORD_OPEN,
+        WORD_CLOSE,
+        WORD_NOT,
+        WORD_AND,
+        WORD_OR,
+        WORD + 5,
+        WORD + 8,
+        WORD + 10,
+    ][symbol as usize]
+}
+
+fn derive_simple(carry: bool) -> Derived {
+    let relations: [&[u8]; 3] = [&[7], &[NOT, 7], &[8]];
+    let mut derived = Derived::new();
+    for relation in relations {
+        derived.insert(([&[OPERAND], relation, &[OPERAND]].concat(), true));
+        if carry {
+            derived.insert(([relation, &[OPERAND]].concat(), true));
+        }
+    }
+    if carry {
+        derived.insert((vec![OPERAND], true));
+    }
+    derived.insert((vec![OPERAND, 9], false));
+    derived.insert((vec![OPERAND, NOT, 9], false));
+    derived.insert((vec![1], false));
+    derived
+}
+
+fn derive_terms(carry: bool, longest: usize) -> Derived {
+    let mut bodies = derive_simple(carry);
+    if longest >= 3 {
+        for (inside, _) in derive_condition(false, longest - 2) {
+            bodies.insert(([&[2], &inside[..], &[3]].concat(), false));
+        }
+    }
+    let mut terms = bodies.clone();
+    for (body, leaves) in bodies {
+        if body[0] != NOT {
+            terms.insert(([&[NOT], &body[..]].concat(), leaves));
+        }
+    }
+    terms.retain(|(term, _)| term.len() <= longest);
+    terms
+}
+
+/// Terms joined by AND and OR: as a set of sequences, chains joined by OR.
+fn derive_condition(carry: bool, longest: usize) -> Derived {
+    let firsts = derive_terms(carry, longest);
+    let mut derived = firsts.clone();
+    for (first, leaves) in firsts {
+        if first.len() + 2 > longest {
+            continue;
+        }
+        for (rest, leaves) in derive_condition(leaves, longest - first.len() - 1) {
+            for joiner in [5, 6] {
+                derived.insert(([&first[..], &[joiner], &rest[..]].concat(), leaves));
+            }
+        }
+    }
+    derived
+}
+
+/// Every sequence of up to four symbols: the place of refusal 7 against the
+/// longest beginning that some derived sequence of up to nine symbols shares.
+/// Nine are enough: four open brackets, a body of one, four closing ones.
+#[test]
+fn recogniser_against_enumeration() {
+    let derived: HashSet<Vec<u8>> = derive_condition(false, 9)
+        .into_iter()
+        .map(|(sequence, _)| sequence)
+        .collect();
+    assert!(derived.len() > 1_000);
+    let beginnings: HashSet<&[u8]> = derived
+        .iter()
+        .flat_map(|sequence| (0..=sequence.len().min(4)).map(move |length| &sequence[..length]))
+        .collect();
+    let mut checked = 0;
+    for length in 1..=4 {
+        for number in 0..10_usize.pow(length) {
+            let sequence: Vec<u8> = (0..length)
+                .map(|digit| (number / 10_usize.pow(digit) % 10) as u8)
+                .collect();
+            let shared = (0..=sequence.len())
+                .rev()
+                .find(|&length| beginnings.contains(&sequence[..length]))
+                .unwrap();
+            let expected = if derived.contains(&sequence) {
+                Ok(())
+            } else {
+                refuse(7, shared)
+            };
+            let condition: Vec<u32> = sequence.iter().map(|&symbol| sample(symbol)).collect();
+            assert_eq!(recognise(&condition), expected, "{sequence:?}");
+            checked += 1;
+        }
+    }
+    assert_eq!(checked, 11_110);
+    for sequence in &derived {
+        let condition: Vec<u32> = sequence.iter().map(|&symbol| sample(symbol)).collect();
+        assert_eq!(recognise(&condition), Ok(()), "{sequence:?}");
+    }
+}
+
+/// The expanded form holds the condition's tokens in their order, and
+/// expanding it again changes nothing.
+#[test]
+fn expanded_forms_of_generated_cases() {
+    let mut abbreviated = 0;
+    for index in 0..20_000 {
+        let case = crate::generate::case(17, index);
+        let tables = case.tables();
+        let Ok(full) = expanded(&tables, &case.tokens) else {
+            continue;
+        };
+        let mut rest = full.iter();
+        let in_order = case
+            .tokens
+            .iter()
+            .all(|token| rest.any(|other| other == token));
+        assert!(in_order, "case {index}");
+        if full.len() <= 256 {
+            assert_eq!(expanded(&tables, &full), Ok(full.clone()), "case {index}");
+        }
+        abbreviated += u32::from(full.len() > case.tokens.len());
+    }
+    assert!(abbreviated > 2_000);
+}
+
+#[test]
+fn samples_have_their_symbols() {
+    for (number, known) in all_symbols().into_iter().enumerate() {
+        assert_eq!(symbol(sample(number as u8)), known);
+    }
+}
