@@ -2,10 +2,9 @@
 use mathlib.Core.Path.{_≡_}
 use mathlib.Core.List.{List, []}
 use Prim.Native.Nat.{ℕ, _+_}
-use Rattle.tables.specs.declared.Refusal.the-variants.{PlanRow as PlanFault, Typing}
+use Rattle.tables.specs.declared.Refusal.the-variants.{PlanRow as PlanFault}
 use Rattle.tables.specs.Operands.{lend}
 use Rattle.tables.specs.Tests.{testOf}
-use Rattle.tables.specs.Typing.{typed}
 use Rattle.tables.proofs.Lines.{failing-same}
 use Rattle.tables.proofs.Lending.{shape-lent, typed-lent}
 use Rattle.grammar.specs.declared.PlanRow.{PlanRow}
@@ -13,7 +12,6 @@ use Rattle.grammar.specs.Grammar.{Tree, simple, negated, bracketed, both
 use Rattle.grammar.specs.Judging.{leaves}
 use Rattle.grammar.specs.Typed.{typingFrom}
 use Rattle.grammar.specs.Plan.{planRow, planRows, planRowSound, planCheck}
-use Rattle.grammar.specs.Typed.{typedRows}
 
 module _ (items literals bytes : List ℕ) where
   pub row-lent : (rows k : ℕ) (r : PlanRow) → planRowSound (lend items literals bytes) rows k r ≡ planRowSound (lend items literals []) rows k r
@@ -29,12 +27,6 @@ module _ (items literals bytes : List ℕ) where
       rw (failing-same (λ k. planRowSound (lend items literals bytes) (planRows plan) k (planRow plan k))
       (λ k. planRowSound (lend items literals []) (planRows plan) k (planRow plan k))
       PlanFault 0 (planRows plan) (λ k l h. row-lent (planRows plan) k (planRow plan k)))
-
-  pub typed-rows-lent : (rows : List ℕ) (count : ℕ) → typedRows (lend items literals bytes) rows count ≡ typedRows (lend items literals []) rows count
-  typed-rows-lent rows count =
-      failing-same (λ k. typed (lend items literals bytes) (planRow rows k .subject) (planRow rows k .relation) (planRow rows k .object))
-      (λ k. typed (lend items literals []) (planRow rows k .subject) (planRow rows k .relation) (planRow rows k .object))
-      Typing 0 count (λ k l h. typed-lent items literals bytes _ _ _)
 
   pub typing-lent : (n : ℕ) (t : Tree) → typingFrom (lend items literals bytes) n t ≡ typingFrom (lend items literals []) n t
   unfolding typingFrom
