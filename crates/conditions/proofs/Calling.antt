@@ -1,9 +1,8 @@
--- What expand, plan, judge and run give, one law for each of their answers.
+-- What expand, plan, judge and run answer, one law for each of their returns.
 use mathlib.Core.Path.{_≡_, refl, sym, ap, _∙_}
-use mathlib.Core.List.{List, [], _∷_, _++_}
+use mathlib.Core.List.{List, [], _++_}
 use Prim.Native.Nat.{ℕ, _*_, _≤_, _<_}
 use native.Mathlib.Omega.{arith}
-use borrow.Author.Tests.{le-leb, lt-leb}
 use lib.ListN.{length, take, drop}
 use Rattle.tables.specs.declared.Refusal.{Refusal}
 use Rattle.tables.specs.declared.Refusal.the-variants.{Room}
@@ -16,57 +15,24 @@ use Rattle.tables.specs.declared.Verdict.the-variants.{Refused as Unjudged}
 use Rattle.tables.specs.Operands.{Lent, lend}
 use Rattle.tables.specs.Refusals.{firstOf}
 use Rattle.tables.specs.Tables.{tableLines, recordCheck}
-use Rattle.tables.proofs.Lines.{line-sound, line-refused, line-last, lines-before}
+use Rattle.tables.proofs.Lines.{line-refused}
 use Rattle.values.specs.Truth.{outcome}
 use Rattle.grammar.specs.Grammar.{Tree}
 use Rattle.grammar.specs.Parser.{read}
 use Rattle.grammar.specs.Expanded.{expanded}
-use Rattle.parser.specs.Spelled.{spelled}
-use Rattle.grammar.specs.Judging.{leaves, judged}
+use Rattle.grammar.specs.Judging.{leaves}
 use Rattle.grammar.specs.Plan.{planned, planCheck, run}
 use Rattle.grammar.proofs.Lent.{plan-lent}
-use Rattle.grammar.proofs.Size.{few-rows}
-use Rattle.grammar.proofs.Segment.{planned-length, run-is-judging}
-use Rattle.grammar.proofs.Shapes.{planned-plan-sound}
+use Rattle.grammar.proofs.Segment.{planned-length}
+use Rattle.parser.specs.Spelled.{spelled}
 use Rattle.parser.proofs.Spelled.{spelled-expanded}
+use Rattle.rules.specs.Calls.{conditionLines, Gives, Leaves, writing, expandGives, planGives, judgeGives, runGives}
+use Rattle.rules.specs.Demands.{Refuses}
+use Rattle.rules.proofs.Passing.{Passes, passed, read-as, tables-pass}
+use Rattle.rules.proofs.Answers.{writes-over, lacks-room, judges-as, few-leaves, plan-passes, run-judges, refuses, after-tables, after-plan}
 use Rattle.conditions.specs.declared.Prepared.{Prepared}
 use Rattle.conditions.specs.declared.Prepared.the-variants.{Rows, Refused as Unprepared}
-use Rattle.conditions.specs.Calls.{conditionLines, roomCheck, Gives, Leaves, numbersOf, writing, expandGives, planGives, answers, judgeGives, runGives}
 use Rattle.conditions.specs.Prepared.{Stands, Prepares, Runnable}
-use Rattle.conditions.specs.Demands.{writtenOver, rulesAnswer, Refuses}
-use Rattle.conditions.proofs.Passing.{typing-passes, after-lines, Passes, passed, read-as, condition-passes, tables-pass, few-tokens, tokens-exist}
-
--- a condition that passes
-module _ {lent : Lent} {tokens : List ℕ} {t : Tree} (p : Passes lent tokens t) where
-  -- the room is what is left to check
-  room-left : (make : Tree → List ℕ) (output : List ℕ) →
-      firstOf (conditionLines lent tokens ++ roomCheck (numbersOf make (read tokens)) output ∷ []) ≡ roomCheck (make t) output
-  room-left make output =
-      after-lines (conditionLines lent tokens) (roomCheck (numbersOf make (read tokens)) output ∷ []) (condition-passes p)
-      ∙ line-last _
-      ∙ rw (read-as p)
-
-  pub writes-over : (make : Tree → List ℕ) (output : List ℕ) → length (make t) ≤ length output →
-      writing make lent tokens output ≡ writtenOver (make t) output
-  writes-over make output l = rw (room-left make output, read-as p, le-leb _ _ l)
-
-  lacks-room : (make : Tree → List ℕ) (output : List ℕ) → length output < length (make t) →
-      writing make lent tokens output ≡ record { answer = Unwritten (Room (length (make t))); output = output }
-  lacks-room make output l = rw (room-left make output, lt-leb _ _ l)
-
-  pub judges-as : (content : List ℕ) (switches : ℕ) → judgeGives lent tokens content switches ≡ rulesAnswer lent content switches t
-  unfolding judgeGives
-  judges-as content switches =
-      rw (after-lines (conditionLines lent tokens) (recordCheck lent content ∷ []) (condition-passes p), line-last, read-as p)
-
-  few-leaves : leaves t ≤ 128
-  few-leaves = few-rows (p .accepts .derives) (few-tokens p)
-
-  plan-passes : planCheck lent (planned t) ≡ Sound
-  plan-passes = planned-plan-sound lent (p .accepts .derives) (few-tokens p) (tokens-exist p) (typing-passes lent 0 t (p .accepts .typed))
-
-  run-judges : (content : List ℕ) (switches : ℕ) → run (outcome lent content switches) (planned t) ≡ judged (outcome lent content switches) 0 t
-  run-judges content switches = run-is-judging (outcome lent content switches) t (omega (arith, few-leaves))
 
 -- a call leaves what it gives
 leaves-as : {gives : Gives} {answer : Written} {output : List ℕ} → gives ≡ record { answer = answer; output = output } → Leaves gives answer output
@@ -84,39 +50,10 @@ module _ {lent : Lent} {tokens : List ℕ} {t : Tree} (p : Passes lent tokens t)
   written : {last : List ℕ} → n ≤ length output → last ≡ numbers ++ drop n output → Leaves (writing make lent tokens output) (Count n) last
   written l w = let f = size in rw (w, e, f) (leaves-as (writes-over p make output (omega arith)))
 
--- a condition that a line refuses
-module _ (lent : Lent) (tokens : List ℕ) {refusal : Refusal} (e : firstOf (conditionLines lent tokens) ≡ Refused refusal) where
-  before : (others : List Check) → firstOf (conditionLines lent tokens ++ others) ≡ Refused refusal
-  before others = lines-before (conditionLines lent tokens) others ∙ line-refused others e
-
-  pub refuses : Refuses lent tokens refusal
-  unfolding expandGives planGives judgeGives
-  refuses =
-      record {
-        expand = λ output. rw (before (roomCheck (numbersOf expanded (read tokens)) output ∷ []));
-        plan = λ output. rw (before (roomCheck (numbersOf planned (read tokens)) output ∷ []));
-        judge = λ content switches. rw (before (recordCheck lent content ∷ []));
-      }
-
--- a plan, whatever numbers it has
-module _ (lent : Lent) (plan content : List ℕ) (switches : ℕ) where
-  abbrev others : List Check
-  others = planCheck lent plan ∷ recordCheck lent content ∷ []
-
-  pub tables-refuse : {refusal : Refusal} → firstOf (tableLines lent) ≡ Refused refusal → Unjudged refusal ≡ runGives lent plan content switches
-  unfolding runGives
-  tables-refuse e = rw (lines-before (tableLines lent) others, line-refused others e)
-
-  after-tables : firstOf (tableLines lent) ≡ Sound → runGives lent plan content switches ≡ answers (firstOf others) (run (outcome lent content switches) plan)
-  unfolding runGives
-  after-tables t = rw (after-lines (tableLines lent) others t)
-
-  after-plan : firstOf (tableLines lent) ≡ Sound → planCheck lent plan ≡ Sound →
-      runGives lent plan content switches ≡ answers (recordCheck lent content) (run (outcome lent content switches) plan)
-  after-plan t e = after-tables t ∙ rw (line-sound (recordCheck lent content ∷ []) e, line-last)
-
-  pub run-answers : Runnable lent plan content → {v : Verdict} → v ≡ run (outcome lent content switches) plan → v ≡ runGives lent plan content switches
-  run-answers p e = e ∙ sym (after-plan (p .tables) (p .sound) ∙ rw (p .holds))
+-- a plan that can be run
+pub run-answers : (lent : Lent) (plan content : List ℕ) (switches : ℕ) → Runnable lent plan content → {v : Verdict} →
+    v ≡ run (outcome lent content switches) plan → v ≡ runGives lent plan content switches
+run-answers lent plan content switches p e = e ∙ sym (after-plan lent plan content switches (p .tables) (p .sound) ∙ rw (p .holds))
 
 -- the check of a plan is lent no literal bytes
 module _ (items literals bytes plan content : List ℕ) (t : firstOf (tableLines (lend items literals bytes)) ≡ Sound) where
@@ -134,11 +71,6 @@ module _ (items literals bytes plan content : List ℕ) (t : firstOf (tableLines
   pub plan-runnable : planCheck (lend items literals []) plan ≡ Sound → recordCheck (lend items literals bytes) content ≡ Sound →
       Runnable (lend items literals bytes) plan content
   plan-runnable e h = record { tables = t; sound = plan-line e; holds = h }
-
-pub runs-as : {lent : Lent} {tokens : List ℕ} {t : Tree} → Passes lent tokens t → (content : List ℕ) (switches : ℕ) →
-    runGives lent (planned t) content switches ≡ rulesAnswer lent content switches t
-runs-as {lent} {tokens} {t} p content switches =
-    after-plan lent (planned t) content switches (tables-pass p) (plan-passes p) ∙ rw (run-judges p content switches)
 
 -- what is prepared is a refusal
 module _ {lent : Lent} {tokens : List ℕ} {r : Prepared} {after : List ℕ} (p : Prepares lent tokens r after) {refusal : Refusal} (e : r ≡ Unprepared refusal) where

@@ -31,7 +31,7 @@ use Rattle.grammar.proofs.Lent.{typing-lent}
 use Rattle.grammar.proofs.Shapes.{shaped, rows-shaped, rows-typed}
 use Rattle.conditions.specs.declared.Prepared.{Prepared}
 use Rattle.conditions.specs.declared.Prepared.the-variants.{Rows, Refused as Unprepared}
-use Rattle.conditions.specs.Calls.{grammarCheck, earlier, typingCheck, tokenLines, grammarLines, conditionLines}
+use Rattle.rules.specs.Calls.{grammarCheck, earlier, typingCheck, tokenLines, grammarLines, conditionLines}
 use Rattle.conditions.specs.Prepared.{parseCheck, Stands, Readies, Resolves, Prepares}
 
 -- 1 to 6

@@ -1,5 +1,2 @@
-pub mod Calls
 pub mod Prepared
-pub mod Cases
-pub mod Demands
 pub mod Shown

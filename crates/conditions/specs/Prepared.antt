@@ -18,7 +18,7 @@ use Rattle.grammar.specs.Judging.{leaves}
 use Rattle.grammar.specs.Plan.{planned, planCheck}
 use Rattle.conditions.specs.declared.Prepared.{Prepared}
 use Rattle.conditions.specs.declared.Prepared.the-variants.{Rows, Refused as Unprepared}
-use Rattle.conditions.specs.Calls.{grammarLines, conditionLines}
+use Rattle.rules.specs.Calls.{grammarLines, conditionLines}
 
 -- 7, of what was parsed
 abbrev pub parseCheck : Parse → Check

@@ -12,8 +12,8 @@ use Rattle.grammar.specs.Expanded.{expanded}
 use Rattle.grammar.specs.Plan.{planned}
 use Rattle.conditions.specs.declared.Shown.{Shown}
 use Rattle.conditions.specs.declared.Shown.the-variants.{Refused, Calls}
-use Rattle.conditions.specs.Calls.{planGives}
-use Rattle.conditions.specs.Demands.{Accepted, rulesAnswer}
+use Rattle.rules.specs.Calls.{planGives}
+use Rattle.rules.specs.Demands.{Accepted, rulesAnswer}
 
 module _ (lent : Lent) (tokens content : List ℕ) (switches : ℕ) (rows form second : List ℕ) where
   -- The plan counted so many numbers, which stand in its output, and was run; the tokens were expanded, and the expanded form was

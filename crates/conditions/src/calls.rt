@@ -4,7 +4,7 @@ ghost use mathlib.Core.List.{_++_};
 ghost use Prim.Native.Nat.{_≤_};
 ghost use lib.ListN.{length, drop};
 ghost use Rattle.tables.specs.Operands.{lend};
-ghost use Rattle.conditions.specs.Calls.{expandGives, planGives, judgeGives, runGives, Leaves};
+ghost use Rattle.rules.specs.Calls.{expandGives, planGives, judgeGives, runGives, Leaves};
 use crate::Prepared;
 use crate::prepare::prepare;
 use crate::runner::run_rows;

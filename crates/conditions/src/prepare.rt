@@ -7,7 +7,7 @@ ghost use Rattle.tables.specs.declared.Check.the-variants.{Sound};
 ghost use Rattle.tables.specs.Operands.{lend};
 ghost use Rattle.tables.specs.Refusals.{firstOf};
 ghost use Rattle.tables.specs.Tables.{tokenCheck};
-ghost use Rattle.conditions.specs.Calls.{earlier, tokenLines};
+ghost use Rattle.rules.specs.Calls.{earlier, tokenLines};
 ghost use Rattle.conditions.specs.Prepared.{parseCheck, Resolves, Prepares};
 use crate::Prepared;
 use parser::Parse;

@@ -9,7 +9,7 @@ use Rattle.tables.specs.declared.Written.the-variants.{Count, Refused as Unwrit
 use Rattle.tables.specs.declared.Verdict.{Verdict}
 use Rattle.tables.specs.declared.Verdict.the-variants.{True, False, Refused}
 use Rattle.tables.specs.Refusals.{number, place}
-use Rattle.conditions.specs.Calls.{Gives}
+use Rattle.rules.specs.Calls.{Gives}
 
 abbrev pub refusalPacked : Refusal → ℕ
 refusalPacked refusal = number refusal * 2 ^ 32 + place refusal % 2 ^ 32

@@ -2,7 +2,7 @@
 // upper half (0: success), and in the lower half the count, 1 or 0 for true or false, or the refusal's place.
 ghost use mathlib.Core.Path.{_≡_};
 ghost use Rattle.tables.specs.Operands.{lend};
-ghost use Rattle.conditions.specs.Calls.{expandGives, planGives, judgeGives, runGives};
+ghost use Rattle.rules.specs.Calls.{expandGives, planGives, judgeGives, runGives};
 ghost use Rattle.conditions_c.specs.Packed.{refusalPacked, writtenPacked, verdictPacked, Leaves};
 use tables::Refusal;
 use tables::Verdict;

@@ -1,7 +1,8 @@
 -- Rests on what the checks ensure: the first line that refuses, or a plan that can be run.
 use mathlib.Core.Path.{sym, _∙_}
 use borrow.Author.Needs.{needs}
-use Rattle.conditions.proofs.Calling.{tables-refuse, plan-refuses, run-record-refuses, plan-runnable, run-answers}
+use Rattle.rules.proofs.Answers.{tables-refuse}
+use Rattle.conditions.proofs.Calling.{plan-refuses, run-record-refuses, plan-runnable, run-answers}
 use Rattle.conditions.proofs.calls.run.Statement.{statement}
 use Rattle.conditions.proofs.calls.run.Tie as tie
 

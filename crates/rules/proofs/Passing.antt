@@ -26,8 +26,8 @@ use Rattle.grammar.specs.Judging.{leaves}
 use Rattle.grammar.proofs.Reading.{sound, complete, one-place, place as grammar-place}
 use Rattle.grammar.proofs.Expansion.{rederives}
 use Rattle.grammar.proofs.Again.{expanded-some, expanded-tokens, expanded-depth}
-use Rattle.conditions.specs.Calls.{grammarCheck, earlier, typingCheck, tokenLines, grammarLines, conditionLines}
-use Rattle.conditions.specs.Demands.{WellTyped, Accepted}
+use Rattle.rules.specs.Calls.{grammarCheck, earlier, typingCheck, tokenLines, grammarLines, conditionLines}
+use Rattle.rules.specs.Demands.{WellTyped, Accepted}
 
 -- typing as refusal 9 checks it is typing as the demands say it
 well-typed : (lent : Lent) (n : ℕ) (t : Tree) → typingFrom lent n t ≡ Sound → WellTyped lent t

@@ -14,8 +14,8 @@ use Rattle.grammar.specs.Typed.{typingFrom}
 use Rattle.grammar.specs.Expanded.{full-form, expanded}
 use Rattle.grammar.specs.Judging.{leaves, when, at, judged}
 use Rattle.grammar.specs.Plan.{rowsOf, flat, planned, planRow, planRowSound, follow, run}
-use Rattle.conditions.specs.Calls.{expandGives, planGives, judgeGives, runGives}
-use Rattle.conditions.specs.Cases.{SixteenCases, sixteen}
+use Rattle.rules.specs.Calls.{expandGives, planGives, judgeGives, runGives}
+use Rattle.rules.specs.Cases.{SixteenCases, sixteen}
 
 pub sixteen-cases : SixteenCases
 unfolding all numberFrom firstFailing firstOf typed byteOrder comparison classHolds switchHolds outcome class on parse-condition read depthFrom typingFrom full-form expanded leaves when at judged rowsOf flat planned planRow planRowSound follow run expandGives planGives judgeGives runGives sixteen

@@ -12,7 +12,7 @@ use Rattle.tables.specs.declared.Verdict.the-variants.{True, False, Refused as 
 use Rattle.tables.specs.Operands.{Lent}
 use Rattle.tables.specs.Refusals.{number, place}
 use Rattle.values.specs.Comparison.{sideOf, valueOf}
-use Rattle.conditions.specs.Calls.{Gives, expandGives, planGives, judgeGives, runGives}
+use Rattle.rules.specs.Calls.{Gives, expandGives, planGives, judgeGives, runGives}
 
 -- What a case says of a condition. A truth value or a stop is said of a record, for switch byte 0.
 pub data Says : Type 0 where

@@ -23,7 +23,7 @@ use Rattle.grammar.specs.Typed.{typingFrom}
 use Rattle.grammar.specs.Expanded.{expanded}
 use Rattle.grammar.specs.Judging.{judged}
 use Rattle.grammar.specs.Plan.{planned}
-use Rattle.conditions.specs.Calls.{Gives, tokenLines, answers, expandGives, planGives, judgeGives, runGives}
+use Rattle.rules.specs.Calls.{Gives, tokenLines, answers, expandGives, planGives, judgeGives, runGives}
 
 -- every part of the tree is well typed
 abbrev pub WellTyped : Lent → Tree → Type 0

@@ -17,10 +17,10 @@ use Rattle.grammar.specs.Grammar.{Tree}
 use Rattle.grammar.specs.Parser.{read}
 use Rattle.grammar.specs.Expanded.{expanded}
 use Rattle.grammar.specs.Plan.{planned}
-use Rattle.conditions.specs.Calls.{conditionLines, roomCheck, Gives, writes, numbersOf, writing, expandGives, planGives, answers, treeAnswer, judgeGives}
-use Rattle.conditions.specs.Demands.{Accepted, writtenOver, Writes, Judges, DemandTwo, Demand3, DemandThree}
-use Rattle.conditions.proofs.Passing.{both-sound, Passes, passed, read-as, passes-again, Nine, condition-nine, underived-refused, ill-typed-refused}
-use Rattle.conditions.proofs.Calling.{writes-over, judges-as, runs-as, refuses}
+use Rattle.rules.specs.Calls.{conditionLines, roomCheck, Gives, writes, numbersOf, writing, expandGives, planGives, answers, treeAnswer, judgeGives}
+use Rattle.rules.specs.Demands.{Accepted, writtenOver, Writes, Judges, DemandTwo, Demand3, DemandThree}
+use Rattle.rules.proofs.Passing.{both-sound, Passes, passed, read-as, passes-again, Nine, condition-nine, underived-refused, ill-typed-refused}
+use Rattle.rules.proofs.Answers.{writes-over, judges-as, runs-as, refuses}
 
 -- no condition is written, nor judged, but one that passes
 module _ (lent : Lent) (tokens : List ℕ) where

@@ -1,0 +1,97 @@
+-- What the calls give, over the definitions: of a condition that passes 1 to 9, of one that a line refuses, and of a plan.
+use mathlib.Core.Path.{_≡_, _∙_}
+use mathlib.Core.List.{List, [], _∷_, _++_}
+use Prim.Native.Nat.{ℕ, _≤_, _<_}
+use native.Mathlib.Omega.{arith}
+use borrow.Author.Tests.{le-leb, lt-leb}
+use lib.ListN.{length}
+use Rattle.tables.specs.declared.Refusal.{Refusal}
+use Rattle.tables.specs.declared.Refusal.the-variants.{Room}
+use Rattle.tables.specs.declared.Check.{Check}
+use Rattle.tables.specs.declared.Check.the-variants.{Sound, Refused}
+use Rattle.tables.specs.declared.Written.the-variants.{Refused as Unwritten}
+use Rattle.tables.specs.declared.Verdict.the-variants.{Refused as Unjudged}
+use Rattle.tables.specs.Operands.{Lent}
+use Rattle.tables.specs.Refusals.{firstOf}
+use Rattle.tables.specs.Tables.{tableLines, recordCheck}
+use Rattle.tables.proofs.Lines.{line-sound, line-refused, line-last, lines-before}
+use Rattle.values.specs.Truth.{outcome}
+use Rattle.grammar.specs.Grammar.{Tree}
+use Rattle.grammar.specs.Parser.{read}
+use Rattle.grammar.specs.Expanded.{expanded}
+use Rattle.grammar.specs.Judging.{leaves, judged}
+use Rattle.grammar.specs.Plan.{planned, planCheck, run}
+use Rattle.grammar.proofs.Size.{few-rows}
+use Rattle.grammar.proofs.Segment.{run-is-judging}
+use Rattle.grammar.proofs.Shapes.{planned-plan-sound}
+use Rattle.rules.specs.Calls.{conditionLines, roomCheck, numbersOf, writing, expandGives, planGives, answers, judgeGives, runGives}
+use Rattle.rules.specs.Demands.{writtenOver, rulesAnswer, Refuses}
+use Rattle.rules.proofs.Passing.{typing-passes, after-lines, Passes, read-as, condition-passes, tables-pass, few-tokens, tokens-exist}
+
+-- a condition that passes
+module _ {lent : Lent} {tokens : List ℕ} {t : Tree} (p : Passes lent tokens t) where
+  -- the room is what is left to check
+  room-left : (make : Tree → List ℕ) (output : List ℕ) →
+      firstOf (conditionLines lent tokens ++ roomCheck (numbersOf make (read tokens)) output ∷ []) ≡ roomCheck (make t) output
+  room-left make output =
+      after-lines (conditionLines lent tokens) (roomCheck (numbersOf make (read tokens)) output ∷ []) (condition-passes p)
+      ∙ line-last _
+      ∙ rw (read-as p)
+
+  pub writes-over : (make : Tree → List ℕ) (output : List ℕ) → length (make t) ≤ length output →
+      writing make lent tokens output ≡ writtenOver (make t) output
+  writes-over make output l = rw (room-left make output, read-as p, le-leb _ _ l)
+
+  pub lacks-room : (make : Tree → List ℕ) (output : List ℕ) → length output < length (make t) →
+      writing make lent tokens output ≡ record { answer = Unwritten (Room (length (make t))); output = output }
+  lacks-room make output l = rw (room-left make output, lt-leb _ _ l)
+
+  pub judges-as : (content : List ℕ) (switches : ℕ) → judgeGives lent tokens content switches ≡ rulesAnswer lent content switches t
+  unfolding judgeGives
+  judges-as content switches =
+      rw (after-lines (conditionLines lent tokens) (recordCheck lent content ∷ []) (condition-passes p), line-last, read-as p)
+
+  pub few-leaves : leaves t ≤ 128
+  few-leaves = few-rows (p .accepts .derives) (few-tokens p)
+
+  pub plan-passes : planCheck lent (planned t) ≡ Sound
+  plan-passes = planned-plan-sound lent (p .accepts .derives) (few-tokens p) (tokens-exist p) (typing-passes lent 0 t (p .accepts .typed))
+
+  pub run-judges : (content : List ℕ) (switches : ℕ) → run (outcome lent content switches) (planned t) ≡ judged (outcome lent content switches) 0 t
+  run-judges content switches = run-is-judging (outcome lent content switches) t (omega (arith, few-leaves))
+
+-- a condition that a line refuses
+module _ (lent : Lent) (tokens : List ℕ) {refusal : Refusal} (e : firstOf (conditionLines lent tokens) ≡ Refused refusal) where
+  before : (others : List Check) → firstOf (conditionLines lent tokens ++ others) ≡ Refused refusal
+  before others = lines-before (conditionLines lent tokens) others ∙ line-refused others e
+
+  pub refuses : Refuses lent tokens refusal
+  unfolding expandGives planGives judgeGives
+  refuses =
+      record {
+        expand = λ output. rw (before (roomCheck (numbersOf expanded (read tokens)) output ∷ []));
+        plan = λ output. rw (before (roomCheck (numbersOf planned (read tokens)) output ∷ []));
+        judge = λ content switches. rw (before (recordCheck lent content ∷ []));
+      }
+
+-- a plan, whatever numbers it has
+module _ (lent : Lent) (plan content : List ℕ) (switches : ℕ) where
+  abbrev others : List Check
+  others = planCheck lent plan ∷ recordCheck lent content ∷ []
+
+  pub tables-refuse : {refusal : Refusal} → firstOf (tableLines lent) ≡ Refused refusal → Unjudged refusal ≡ runGives lent plan content switches
+  unfolding runGives
+  tables-refuse e = rw (lines-before (tableLines lent) others, line-refused others e)
+
+  pub after-tables : firstOf (tableLines lent) ≡ Sound → runGives lent plan content switches ≡ answers (firstOf others) (run (outcome lent content switches) plan)
+  unfolding runGives
+  after-tables t = rw (after-lines (tableLines lent) others t)
+
+  pub after-plan : firstOf (tableLines lent) ≡ Sound → planCheck lent plan ≡ Sound →
+      runGives lent plan content switches ≡ answers (recordCheck lent content) (run (outcome lent content switches) plan)
+  after-plan t e = after-tables t ∙ rw (line-sound (recordCheck lent content ∷ []) e, line-last)
+
+pub runs-as : {lent : Lent} {tokens : List ℕ} {t : Tree} → Passes lent tokens t → (content : List ℕ) (switches : ℕ) →
+    runGives lent (planned t) content switches ≡ rulesAnswer lent content switches t
+runs-as {lent} {tokens} {t} p content switches =
+    after-plan lent (planned t) content switches (tables-pass p) (plan-passes p) ∙ rw (run-judges p content switches)

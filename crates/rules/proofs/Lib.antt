@@ -1,0 +1,4 @@
+pub mod Cases
+pub mod Passing
+pub mod Answers
+pub mod Demands

@@ -1,0 +1,1 @@
+// The whole answer of each call, the sixteen cases and the demands: definitions and theorems. Crate conditions has the code.
