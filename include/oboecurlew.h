@@ -5,7 +5,8 @@
  * Every call answers one number: the refusal's number in the upper 32 bits (0: success); in the lower 32 bits the count of
  * numbers written (expand, plan), 1 for true and 0 for false (judge, run), or the refusal's place, counted from 0.
  * A refusal changes nothing. No call needs heap, and none asks the caller to check anything first: any numbers and bytes may be
- * passed. A pointer is not null, also where its length is 0; lengths count numbers, or bytes for uint8_t.
+ * passed. A pointer is not null, also where its length is 0; lengths count numbers, or bytes for uint8_t. The output overlaps none
+ * of the other arguments.
  *
  * items, literals  tables of rows of four numbers: kind, offset, size in bytes, scale
  * bytes            the literal bytes

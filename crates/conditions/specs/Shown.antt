@@ -12,13 +12,23 @@ use Rattle.grammar.specs.Expanded.{expanded}
 use Rattle.grammar.specs.Plan.{planned}
 use Rattle.conditions.specs.declared.Shown.{Shown}
 use Rattle.conditions.specs.declared.Shown.the-variants.{Refused, Calls}
-use Rattle.rules.specs.Calls.{planGives}
+use Rattle.rules.specs.Calls.{Leaves, expandGives, planGives}
 use Rattle.rules.specs.Demands.{Accepted, rulesAnswer}
+
+-- The plan of the expanded form that was counted; without one its refusal, and an unchanged output.
+abbrev pub Replans : Lent → List ℕ → Written → List ℕ → Written → List ℕ → Type 0
+Replans lent second (Count n) form-after again second-after = Leaves (planGives lent (take n form-after) second) again second-after
+Replans lent second (Unwritten refusal) form-after again second-after = (again ≡ Unwritten refusal) × (second-after ≡ second)
 
 module _ (lent : Lent) (tokens content : List ℕ) (switches : ℕ) (rows form second : List ℕ) where
   -- The plan counted so many numbers, which stand in its output, and was run; the tokens were expanded, and the expanded form was
   -- planned into the second output.
   pub record ShownCalls (count : ℕ) (verdict : Verdict) (formed again : Written) (rows-after form-after second-after : List ℕ) : Type 0 where
+    -- what each writing call gave, with every number of its output
+    pub plan : Leaves (planGives lent tokens rows) (Count count) rows-after
+    pub expand : Leaves (expandGives lent tokens form) formed form-after
+    pub replan : Replans lent second formed form-after again second-after
+    -- demand 3 of it
     pub tree : Tree
     pub accepted : Accepted lent tokens tree
     pub counts : count ≡ length (planned tree)
@@ -30,6 +40,7 @@ module _ (lent : Lent) (tokens content : List ℕ) (switches : ℕ) (rows form s
         (again ≡ Count count) × (take count second-after ≡ take count rows-after)
 
   abbrev pub Shows : Shown → List ℕ → List ℕ → List ℕ → Type 0
-  Shows (Refused refusal) rows-after form-after second-after = planGives lent tokens rows .answer ≡ Unwritten refusal
+  Shows (Refused refusal) rows-after form-after second-after =
+      Leaves (planGives lent tokens rows) (Unwritten refusal) rows-after × (form-after ≡ form) × (second-after ≡ second)
   Shows (Calls count verdict formed again) rows-after form-after second-after =
       ShownCalls count verdict formed again rows-after form-after second-after

@@ -3,6 +3,7 @@
 pub mod calls; // expand, plan, judge, run
 pub mod prepare; // refusals 1 to 9, and the rows of a condition
 pub mod runner; // running rows
+pub mod show; // demand 3 of the calls themselves
 
 use tables::Refusal;
 use tables::Verdict;

@@ -45,7 +45,7 @@ module _ (lent : Lent) (tokens : List ℕ) where
       go (Refused refusal) q s j = absurd (omega arith)
 
   -- where numbers are counted, they are those of the tree
-  counted : (make : Tree → List ℕ) (output : List ℕ) (n : ℕ) → writing make lent tokens output .answer ≡ Count n →
+  pub counted : (make : Tree → List ℕ) (output : List ℕ) (n : ℕ) → writing make lent tokens output .answer ≡ Count n →
       (t : Tree) × Passes lent tokens t × (length (make t) ≤ length output)
   counted make output n e = go (firstOf (conditionLines lent tokens ++ room ∷ [])) refl e
     where
@@ -82,10 +82,10 @@ demand-two lent tokens f d =
 
 -- the numbers that a call counted are those that it wrote
 module _ (gives : Gives) (numbers output : List ℕ) (n : ℕ) (w : gives ≡ writtenOver numbers output) (e : gives .answer ≡ Count n) where
-  count-is : length numbers ≡ n
+  pub count-is : length numbers ≡ n
   count-is = cc
 
-  numbers-are : take n (gives .output) ≡ numbers
+  pub numbers-are : take n (gives .output) ≡ numbers
   numbers-are = rw w (take-at numbers (drop (length numbers) output) n count-is)
 
 demanded : {lent : Lent} {tokens : List ℕ} {t : Tree} (plan : List ℕ) (n : ℕ) → Passes lent tokens t → plan ≡ planned t → length (planned t) ≡ n → Demand3 lent tokens plan n

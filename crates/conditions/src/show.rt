@@ -1,0 +1,45 @@
+// Demand 3 shown of the code: plan, run, expand and plan again, called one after the other in buffers that the caller lends.
+ghost use Rattle.tables.specs.Operands.{lend};
+ghost use Rattle.conditions.specs.Shown.{Shows};
+use crate::Shown;
+use crate::calls::expand;
+use crate::calls::plan;
+use crate::calls::run;
+use tables::Written;
+
+pub fn show<'a>(
+    items: &[u32],
+    literals: &[u32],
+    bytes: &'a [u8],
+    tokens: &[u32],
+    record: &'a [u8],
+    switches: u8,
+    rows: &mut [u32],
+    form: &mut [u32],
+    second: &mut [u32],
+) -> Shown
+    ensures { λ r. ⌜ Shows (lend (now (items .entry)) (now (literals .entry)) (now (bytes .entry))) (now (tokens .entry)) (now («record» .entry)) switches (now (rows .entry)) (now (form .entry)) (now (second .entry)) r (now (rows .exit)) (now (form .exit)) (now (second .exit)) ⌝ }
+{
+    let planned = plan(items, literals, bytes, tokens, rows);
+    match planned {
+        Written::Refused(refusal) => Shown::Refused(refusal),
+        Written::Count(count) => {
+            let verdict = run(items, literals, bytes, &rows[..count], record, switches);
+            let expanded = expand(items, literals, bytes, tokens, form);
+            match expanded {
+                Written::Refused(refusal) => Shown::Calls {
+                    count,
+                    verdict,
+                    expanded,
+                    again: Written::Refused(refusal),
+                },
+                Written::Count(length) => Shown::Calls {
+                    count,
+                    verdict,
+                    expanded,
+                    again: plan(items, literals, bytes, &form[..length], second),
+                },
+            }
+        }
+    }
+}
