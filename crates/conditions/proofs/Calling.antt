@@ -24,8 +24,8 @@ use Rattle.grammar.specs.Judging.{leaves}
 use Rattle.grammar.specs.Plan.{planned, planCheck, run}
 use Rattle.grammar.proofs.Lent.{plan-lent}
 use Rattle.grammar.proofs.Segment.{planned-length}
-use Rattle.parser.specs.Spelled.{spelled}
-use Rattle.parser.proofs.Spelled.{spelled-expanded}
+use Rattle.expander.specs.Spelled.{spelled}
+use Rattle.expander.proofs.Spelled.{spelled-expanded}
 use Rattle.rules.specs.Calls.{conditionLines, Gives, Leaves, writing, expandGives, planGives, judgeGives, runGives}
 use Rattle.rules.specs.Demands.{Refuses}
 use Rattle.rules.proofs.Passing.{Passes, passed, read-as, tables-pass}

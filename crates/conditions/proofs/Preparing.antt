@@ -25,7 +25,7 @@ use Rattle.grammar.specs.Typed.{typingFrom}
 use Rattle.grammar.specs.Judging.{leaves}
 use Rattle.grammar.specs.Plan.{planned}
 use Rattle.grammar.specs.Typed.{Shaped, typedRows}
-use Rattle.parser.specs.Reads.{Whole, Parses}
+use Rattle.parser.specs.Parses.{Whole, Parses}
 use Rattle.grammar.proofs.Reading.{sound}
 use Rattle.grammar.proofs.Lent.{typing-lent}
 use Rattle.grammar.proofs.Shapes.{shaped, rows-shaped, rows-typed}

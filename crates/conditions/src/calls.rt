@@ -8,9 +8,9 @@ ghost use Rattle.rules.specs.Calls.{expandGives, planGives, judgeGives, runGive
 use crate::Prepared;
 use crate::prepare::prepare;
 use crate::runner::run_rows;
-use parser::expand::expanded_length;
-use parser::expand::write_expanded;
-use parser::plans::check_plan;
+use expander::expand::expanded_length;
+use expander::expand::write_expanded;
+use plans::checks::check_plan;
 use tables::Check;
 use tables::Refusal;
 use tables::Verdict;

@@ -5,9 +5,9 @@ use Prim.Native.Nat.{ℕ, zero, suc, _+_, _*_, _-_, _≤_, _<_}
 use native.Mathlib.Omega.{arith}
 use lib.ListN.{length, take, drop, length-drop, drop-of-length-le}
 use lib.Seq.{length-take-le}
-use Rattle.parser.specs.declared.Carried.{Carried}
-use Rattle.parser.specs.declared.Single.{Single}
-use Rattle.parser.specs.declared.Single.the-variants.{Row, Stuck as Lost}
+use Rattle.reader.specs.declared.Carried.{Carried}
+use Rattle.reader.specs.declared.Single.{Single}
+use Rattle.reader.specs.declared.Single.the-variants.{Row, Stuck as Lost}
 use Rattle.parser.specs.declared.Answer.{Answer}
 use Rattle.parser.specs.declared.Answer.the-variants.{Parsed, Stuck}
 use Rattle.parser.specs.declared.Parse.the-variants.{Accepted, Refused}
@@ -15,13 +15,15 @@ use Rattle.grammar.specs.Grammar.{Class, other, not, and, or, opening, closing,
 use Rattle.grammar.specs.Parser.{Result, Parser, _then_, continue, done, fail, on, object, parse-simple, read, parse-condition, parse-chain, parse-term, parse-body}
 use Rattle.grammar.specs.Judging.{leaves}
 use Rattle.grammar.specs.Plan.{onTrue, onFalse, rowsOf, flat, planned}
-use Rattle.parser.specs.Reads.{tok, carryOf, Reads, retargeted, Turned, Placeable, Placed, Told, placeOf, Fits, Room, Plans, Whole, Parses}
+use Rattle.reader.specs.Reads.{tok, carryOf, Reads}
+use Rattle.plans.specs.Rows.{retargeted, Turned}
+use Rattle.parser.specs.Parses.{Placeable, Placed, Told, placeOf, Fits, Room, Plans, Whole, Parses}
 use Rattle.grammar.proofs.Sound.{Differ}
 use Rattle.grammar.proofs.Spelling.{is-or, is-and, is-not, is-opening, is-closing, or-token, and-token, not-token, opening-token, closing-token}
-use Rattle.parser.proofs.Retarget.{rows-bracketed, rows-negated, rows-both, rows-either}
-use Rattle.parser.proofs.Buffer.{flat-append}
-use Rattle.parser.proofs.Looking.{stands, from-here, take-on, pass-on}
-use Rattle.parser.proofs.Resolving.{at-short, at-no-short}
+use Rattle.plans.proofs.Retarget.{rows-bracketed, rows-negated, rows-both, rows-either}
+use Rattle.plans.proofs.Buffer.{flat-append}
+use Rattle.reader.proofs.Looking.{stands, from-here, take-on, pass-on}
+use Rattle.reader.proofs.Resolving.{at-short, at-no-short}
 
 -- each level takes one unit of fuel
 plans : {parser : ℕ → Carry → Parser} {level at row : ℕ} {tokens before after : List ℕ} {c : Carried} {r : Answer} →

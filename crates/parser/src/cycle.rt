@@ -4,23 +4,23 @@ ghost use mathlib.Core.Path.{_≡_};
 ghost use Prim.Native.Nat.{_≤_};
 ghost use lib.ListN.{length};
 ghost use Rattle.grammar.specs.Parser.{parse-condition, parse-chain, parse-term, parse-body};
-ghost use Rattle.parser.specs.Reads.{Room, Plans, Placeable, Placed, Parses};
+ghost use Rattle.parser.specs.Parses.{Room, Plans, Placeable, Placed, Parses};
 use crate::Answer;
-use crate::Carried;
+use reader::Carried;
 use crate::Parse;
-use crate::Single;
-use crate::Target;
-use crate::reader::read_object;
-use crate::reader::read_simple;
-use crate::rows::put_row;
-use crate::rows::retarget;
-use crate::words::AND;
-use crate::words::CLOSE;
-use crate::words::NOT;
-use crate::words::OPEN;
-use crate::words::OR;
-use crate::words::is_order;
-use crate::words::peek;
+use reader::Single;
+use plans::Target;
+use reader::simple::read_object;
+use reader::simple::read_simple;
+use plans::rows::put_row;
+use plans::rows::retarget;
+use reader::words::AND;
+use reader::words::CLOSE;
+use reader::words::NOT;
+use reader::words::OPEN;
+use reader::words::OR;
+use reader::words::is_order;
+use reader::words::peek;
 
 fn condition(tokens: &[u32], at: usize, carry: Carried, row: usize, rows: &mut [u32]) -> Answer
     requires { ⌜ Room (now tokens) at row (now rows) ⌝ }

@@ -7,8 +7,8 @@ use lib.ListN.{length}
 use borrow.Author.Needs.{needs}
 use borrow.Fn.Kinds.{In}
 use borrow.Fn.PlainCycle.{Measures, is, falls, and}
-use Rattle.parser.proofs.Looking.{inside}
-use Rattle.parser.proofs.Resolving.{Here, short-here, no-short}
+use Rattle.reader.proofs.Looking.{inside}
+use Rattle.reader.proofs.Resolving.{Here, short-here, no-short}
 use Rattle.parser.proofs.Steps.{conditions, chains, joins-stuck, joins-part, joins-more, placeable, single}
 use Rattle.parser.proofs.Steps.{term-order, term-plain, term-not-order, term-not-stuck, term-not-row, body-simple, body-stuck, body-shut, body-not-shut}
 use Rattle.parser.proofs.cycle.body.Reads as body
@@ -23,14 +23,14 @@ use Rattle.parser.proofs.cycle.+body+chain+condition+term.Lts-condition
 use Rattle.parser.proofs.cycle.term.Reads as term
 use Rattle.parser.proofs.cycle.term.Kinds as term-kinds
 use Rattle.parser.proofs.cycle.+body+chain+condition+term.Lts-term as term-lts
-use Rattle.parser.proofs.Target.later.Reads as later-reads
-use Rattle.parser.proofs.Target.verdict.Reads as verdict-reads
+use Rattle.plans.proofs.Target.later.Reads as later-reads
+use Rattle.plans.proofs.Target.verdict.Reads as verdict-reads
 use Rattle.parser.proofs.cycle.put_single.Reads as put-single-reads
-use Rattle.parser.proofs.reader.read_object.Reads as read-object-reads
-use Rattle.parser.proofs.reader.read_simple.Reads as read-simple-reads
-use Rattle.parser.proofs.rows.retarget.Reads as retarget-reads
-use Rattle.parser.proofs.words.is_order.Reads as is-order-reads
-use Rattle.parser.proofs.words.peek.Reads as peek-reads
+use Rattle.reader.proofs.simple.read_object.Reads as read-object-reads
+use Rattle.reader.proofs.simple.read_simple.Reads as read-simple-reads
+use Rattle.plans.proofs.rows.retarget.Reads as retarget-reads
+use Rattle.reader.proofs.words.is_order.Reads as is-order-reads
+use Rattle.reader.proofs.words.peek.Reads as peek-reads
 use Rattle.parser.proofs.cycle.+body+chain+condition+term.{statement}
 use Rattle.parser.proofs.cycle.+body+chain+condition+term.Tie.{close}
 

@@ -1,0 +1,4 @@
+pub mod Spelled
+pub mod Writing
+pub mod Parting
+pub mod Progress

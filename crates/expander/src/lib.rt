@@ -1,0 +1,3 @@
+// Writing a condition in full.
+
+pub mod expand; // the expanded form

@@ -1,0 +1,2 @@
+pub mod Retarget
+pub mod Buffer

@@ -1,0 +1,10 @@
+// The rows of a plan: writing them, their targets, their typing and their soundness.
+
+pub mod checks; // typing, and soundness of a plan that was lent
+pub mod rows; // one more row, and where its verdicts lead
+pub mod targets; // later rows and verdicts
+
+// Where judging goes after a row: to a later row, or to a verdict.
+pub struct Target {
+    pub number: u32,
+}

@@ -1,0 +1,48 @@
+// Tokens by class.
+ghost use mathlib.Core.Path.{_≡_};
+ghost use Rattle.tables.specs.Tests.{within};
+ghost use Rattle.reader.specs.Reads.{tok};
+
+pub const OPEN: u32 = 262144;
+
+pub const CLOSE: u32 = 262145;
+
+pub const NOT: u32 = 262146;
+
+pub const AND: u32 = 262147;
+
+pub const OR: u32 = 262148;
+
+// A number that is no token: what stands past the last one.
+const END: u32 = 4294967295;
+
+// The token at a place, or END past the last.
+pub fn peek(tokens: &[u32], at: usize) -> u32
+    ensures { λ r. ⌜ r ≡ tok (now (tokens .entry)) at ⌝ }
+{
+    if at < tokens.len() {
+        return tokens[at];
+    }
+    END
+}
+
+// > < =
+pub fn is_order(token: u32) -> bool
+    ensures { λ r. ⌜ r ≡ within 262149 262151 token ⌝ }
+{
+    (262149 <= token) & (token <= 262151)
+}
+
+// >= <=
+pub fn is_bound(token: u32) -> bool
+    ensures { λ r. ⌜ r ≡ within 262152 262153 token ⌝ }
+{
+    (262152 <= token) & (token <= 262153)
+}
+
+// a class word or a sign word
+pub fn is_test(token: u32) -> bool
+    ensures { λ r. ⌜ r ≡ within 262154 262160 token ⌝ }
+{
+    (262154 <= token) & (token <= 262160)
+}
