@@ -12,8 +12,8 @@ ghost use Rattle.conditions.specs.Prepared.{parseCheck, Resolves, Prepar
 use crate::Prepared;
 use parser::Parse;
 use parser::cycle::parse;
-use reader::depth::check_depth;
 use plans::checks::check_typing;
+use reader::depth::check_depth;
 use tables::Check;
 use tables::Refusal;
 use tables::checks::check_tables;
