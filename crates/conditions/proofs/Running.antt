@@ -15,9 +15,9 @@ use Rattle.tables.specs.declared.Outcome.the-variants.{True as Holds, False as 
 use Rattle.tables.specs.declared.Verdict.{Verdict}
 use Rattle.tables.specs.declared.Verdict.the-variants.{True, False, Refused}
 use Rattle.tables.specs.Operands.{Lent}
-use Rattle.tables.specs.Tests.{testOf}
-use Rattle.tables.specs.Shape.{shapeSound}
-use Rattle.tables.specs.Typing.{typed}
+use Rattle.typing.specs.Tests.{testOf}
+use Rattle.typing.specs.Shape.{shapeSound}
+use Rattle.typing.specs.Typing.{typed}
 use Rattle.tables.proofs.Lines.{lines-sound, every-sound, test-sound}
 use Rattle.tables.proofs.Tests.{both, four, either}
 use Rattle.values.specs.Truth.{Readable}

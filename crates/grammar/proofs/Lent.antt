@@ -4,9 +4,9 @@ use mathlib.Core.List.{List, []}
 use Prim.Native.Nat.{ℕ, _+_}
 use Rattle.tables.specs.declared.Refusal.the-variants.{PlanRow as PlanFault}
 use Rattle.tables.specs.Operands.{lend}
-use Rattle.tables.specs.Tests.{testOf}
+use Rattle.typing.specs.Tests.{testOf}
 use Rattle.tables.proofs.Lines.{failing-same}
-use Rattle.tables.proofs.Lending.{shape-lent, typed-lent}
+use Rattle.typing.proofs.Lending.{shape-lent, typed-lent}
 use Rattle.grammar.specs.declared.PlanRow.{PlanRow}
 use Rattle.grammar.specs.Grammar.{Tree, simple, negated, bracketed, both, either}
 use Rattle.grammar.specs.Judging.{leaves}

@@ -9,14 +9,14 @@ use Rattle.tables.specs.declared.Check.the-variants.{Sound}
 use Rattle.tables.specs.declared.Refusal.the-variants.{PlanRow as PlanFault, Typing}
 use Rattle.tables.specs.Operands.{Lent}
 use Rattle.tables.specs.Refusals.{firstFailing, firstOf}
-use Rattle.tables.specs.Tests.{testOf}
-use Rattle.tables.specs.Typing.{typed}
+use Rattle.typing.specs.Tests.{testOf}
+use Rattle.typing.specs.Typing.{typed}
 use Rattle.tables.proofs.Lines.{Throughout, throughout-one, throughout-join, line-last, every-sound, failing-none}
 use Rattle.grammar.specs.declared.PlanRow.{PlanRow}
 use Rattle.grammar.specs.Grammar.{Tree, simple, negated, bracketed, both, either}
 use Rattle.grammar.specs.Judging.{leaves}
 use Rattle.grammar.specs.Typed.{typingFrom}
-use Rattle.tables.specs.Shape.{shapeSound}
+use Rattle.typing.specs.Shape.{shapeSound}
 use Rattle.grammar.specs.Plan.{onFalse, onTrue, rowsOf, planned, planRow, planRows, targetSound, planRowSound, planLengthSound, planCheck}
 use Rattle.grammar.proofs.Judging.{some-leaf}
 use Rattle.grammar.proofs.Segment.{Stands, stands-one, stands-parts, planned-length, planned-rows, planned-stands}

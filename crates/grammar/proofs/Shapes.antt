@@ -14,8 +14,8 @@ use Rattle.tables.specs.Tokens.{exists}
 use Rattle.tables.specs.Rows.{rowCount}
 use Rattle.tables.specs.Operands.{Lent, operandSound, switchSound}
 use Rattle.tables.specs.Tables.{tokenCheck}
-use Rattle.tables.specs.Tests.{testOf}
-use Rattle.tables.specs.Shape.{shapeSound}
+use Rattle.typing.specs.Tests.{testOf}
+use Rattle.typing.specs.Shape.{shapeSound}
 use Rattle.tables.proofs.Tests.{and-both}
 use Rattle.tables.proofs.Lines.{every-sound}
 use Rattle.grammar.specs.Grammar.{operand, switch, test, Is, Carry, nothing, carried, Tree, simple}

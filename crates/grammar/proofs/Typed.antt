@@ -4,7 +4,7 @@ use Prim.Native.Nat.{ℕ, _+_}
 use Rattle.tables.specs.declared.Refusal.the-variants.{Typing}
 use Rattle.tables.specs.Operands.{Lent}
 use Rattle.tables.specs.Refusals.{firstFailing}
-use Rattle.tables.specs.Typing.{typed}
+use Rattle.typing.specs.Typing.{typed}
 use Rattle.tables.proofs.Lines.{failing-split}
 use Rattle.grammar.specs.declared.PlanRow.{PlanRow}
 use Rattle.grammar.specs.Grammar.{Tree, simple, negated, bracketed, both, either}

@@ -10,9 +10,9 @@ use Rattle.tables.specs.declared.Verdict.{Verdict}
 use Rattle.tables.specs.declared.Verdict.the-variants.{True, False, Refused}
 use Rattle.tables.specs.Operands.{Lent}
 use Rattle.tables.specs.Refusals.{unless, firstFailing, firstOf}
-use Rattle.tables.specs.Tests.{testOf}
-use Rattle.tables.specs.Shape.{shapeSound}
-use Rattle.tables.specs.Typing.{typed}
+use Rattle.typing.specs.Tests.{testOf}
+use Rattle.typing.specs.Shape.{shapeSound}
+use Rattle.typing.specs.Typing.{typed}
 use Rattle.grammar.specs.declared.PlanRow.{PlanRow}
 use Rattle.grammar.specs.Grammar.{Tree, simple, negated, bracketed, both, either}
 use Rattle.grammar.specs.Judging.{Outcomes, leaves, when, at}

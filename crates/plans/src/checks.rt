@@ -10,8 +10,8 @@ use crate::Target;
 use grammar::PlanRow;
 use tables::Check;
 use tables::Refusal;
-use tables::shape::shape_sound;
-use tables::shape::well_typed;
+use typing::shape::shape_sound;
+use typing::shape::well_typed;
 
 // The five numbers of row k.
 pub fn plan_row(plan: &[u32], k: usize) -> PlanRow

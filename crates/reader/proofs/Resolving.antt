@@ -8,7 +8,7 @@ use native.Mathlib.Decide.{ℕ-discrete, decLe}
 use borrow.Author.Tests.{leb-true, leb-false, le-leb, eq-eqb, ne-eqb, eqb-false, not-true}
 use lib.ListN.{length, drop}
 use lib.Dec.{eqb}
-use Rattle.tables.specs.Tests.{within}
+use Rattle.typing.specs.Tests.{within}
 use Rattle.reader.specs.declared.Carried.{Carried}
 use Rattle.reader.specs.declared.Single.{Single}
 use Rattle.reader.specs.declared.Single.the-variants.{Row, Stuck}

@@ -1,6 +1,6 @@
 // Tokens by class.
 ghost use mathlib.Core.Path.{_≡_};
-ghost use Rattle.tables.specs.Tests.{within};
+ghost use Rattle.typing.specs.Tests.{within};
 ghost use Rattle.reader.specs.Reads.{tok};
 
 pub const OPEN: u32 = 262144;

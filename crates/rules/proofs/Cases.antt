@@ -1,11 +1,12 @@
 -- The sixteen cases hold, by computation.
 use mathlib.Core.Path.{refl}
-use Rattle.tables.specs.Content.{all, numberFrom}
+use Rattle.content.specs.Content.{all, numberFrom}
 use Rattle.tables.specs.Refusals.{firstFailing, firstOf}
-use Rattle.tables.specs.Typing.{typed}
-use Rattle.values.specs.Comparison.{byteOrder, comparison}
-use Rattle.values.specs.Classes.{classHolds}
-use Rattle.values.specs.Switches.{switchHolds}
+use Rattle.typing.specs.Typing.{typed}
+use Rattle.compare.specs.Compared.{byteOrder}
+use Rattle.values.specs.Comparison.{comparison}
+use Rattle.compare.specs.Classes.{classHolds}
+use Rattle.compare.specs.Switches.{switchHolds}
 use Rattle.values.specs.Truth.{outcome}
 use Rattle.grammar.specs.Grammar.{class}
 use Rattle.grammar.specs.Parser.{on, parse-condition, read}

@@ -14,7 +14,7 @@ use Rattle.tables.specs.declared.Check.the-variants.{Sound, Refused}
 use Rattle.tables.specs.Operands.{Lent}
 use Rattle.tables.specs.Refusals.{number, place, unless, firstOf}
 use Rattle.tables.specs.Tables.{tableLines, tokenCountCheck, tokenCheck}
-use Rattle.tables.specs.Typing.{typed}
+use Rattle.typing.specs.Typing.{typed}
 use Rattle.tables.proofs.Tests.{both as both-true}
 use Rattle.tables.proofs.Lines.{test-sound, line-sound, line-refused, lines-before, AllSound, lines-sound}
 use Rattle.grammar.specs.Grammar.{Tree, simple, negated, bracketed, both, either, Derives, Place}

@@ -15,7 +15,7 @@ use Rattle.tables.specs.declared.Verdict.the-variants.{True, False, Refused}
 use Rattle.tables.specs.Operands.{Lent}
 use Rattle.tables.specs.Refusals.{number, firstOf}
 use Rattle.tables.specs.Tables.{recordCheck}
-use Rattle.tables.specs.Typing.{typed}
+use Rattle.typing.specs.Typing.{typed}
 use Rattle.values.specs.Truth.{outcome}
 use Rattle.grammar.specs.Grammar.{Tree, simple, negated, bracketed, both, either, Derives, Place}
 use Rattle.grammar.specs.Depth.{depthCheck}

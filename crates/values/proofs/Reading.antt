@@ -14,20 +14,21 @@ use Rattle.tables.specs.declared.Check.the-variants.{Sound}
 use Rattle.tables.specs.declared.Outcome.the-variants.{Fault}
 use Rattle.tables.specs.declared.Refusal.the-variants.{ItemRow, LiteralRow, Record}
 use Rattle.tables.specs.declared.Row.{Row}
-use Rattle.tables.specs.declared.Test.the-variants.{Switch, Relation, Class, Sign}
+use Rattle.typing.specs.declared.Test.the-variants.{Switch, Relation, Class, Sign}
 use Rattle.tables.specs.Tokens.{isItem, isOn, isOff, isSwitch, indexOf, exists}
 use Rattle.tables.specs.Rows.{rowCount, rowSound, isNumeric}
-use Rattle.tables.specs.Content.{digitBytes, digitCharacters, unsignedLast}
+use Rattle.content.specs.Content.{digitBytes, digitCharacters, unsignedLast}
 use Rattle.tables.specs.Operands.{Lent, operandSound, switchSound, rowOf, operandBytes, liesWithin, Within}
 use Rattle.tables.specs.Refusals.{firstOf}
-use Rattle.tables.specs.Tests.{testOf}
-use Rattle.tables.specs.Typing.{typed}
+use Rattle.typing.specs.Tests.{testOf}
+use Rattle.typing.specs.Typing.{typed}
 use Rattle.tables.specs.Tables.{tableLines, recordCheck}
 use Rattle.tables.proofs.Tests.{both, four, either}
 use Rattle.tables.proofs.Lines.{every-sound, AllSound, lines-sound}
-use Rattle.tables.proofs.Bytes.{row-facts, but-last-length, digits-fit, scale-small, item-there, literal-there, operand-length}
-use Rattle.values.specs.declared.Order.{Order}
-use Rattle.values.specs.Order.{relationHolds}
+use Rattle.tables.proofs.Bytes.{row-facts, digits-fit, scale-small, item-there, literal-there, operand-length}
+use Rattle.content.proofs.Bytes.{but-last-length}
+use Rattle.compare.specs.declared.Order.{Order}
+use Rattle.compare.specs.Order.{relationHolds}
 use Rattle.values.specs.Comparison.{Side, side, sideOf, givesDigits, characters, comparison, faulty}
 use Rattle.values.specs.Truth.{truth, turned, relationOutcome, Readable, Fit, Sided, Numeral}
 

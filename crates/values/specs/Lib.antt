@@ -1,5 +1,2 @@
-pub mod Order
 pub mod Comparison
-pub mod Classes
-pub mod Switches
 pub mod Truth

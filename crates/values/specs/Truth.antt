@@ -7,22 +7,22 @@ use lib.ListN.{length}
 use lib.IntN.{pos}
 use Rattle.tables.specs.declared.Outcome.{Outcome}
 use Rattle.tables.specs.declared.Outcome.the-variants.{True, False, Fault}
-use Rattle.tables.specs.declared.Test.{Test}
-use Rattle.tables.specs.declared.Test.the-variants.{Switch, Relation, Class, Sign, Unknown}
+use Rattle.typing.specs.declared.Test.{Test}
+use Rattle.typing.specs.declared.Test.the-variants.{Switch, Relation, Class, Sign, Unknown}
 use Rattle.tables.specs.declared.Check.the-variants.{Sound}
 use Rattle.tables.specs.declared.Row.{Row}
 use Rattle.tables.specs.Rows.{rowSound}
-use Rattle.tables.specs.Content.{digitBytes}
+use Rattle.content.specs.Content.{digitBytes}
 use Rattle.tables.specs.Operands.{Lent, Within}
 use Rattle.tables.specs.Refusals.{firstOf}
 use Rattle.tables.specs.Tables.{tableLines, recordCheck}
-use Rattle.tables.specs.Tests.{testOf}
-use Rattle.tables.specs.Shape.{shapeSound}
-use Rattle.tables.specs.Typing.{typed}
-use Rattle.values.specs.Order.{orderℤ, relationHolds, signHolds}
+use Rattle.typing.specs.Tests.{testOf}
+use Rattle.typing.specs.Shape.{shapeSound}
+use Rattle.typing.specs.Typing.{typed}
+use Rattle.compare.specs.Order.{orderℤ, relationHolds, signHolds}
 use Rattle.values.specs.Comparison.{Side, sideOf, valueOf, comparison, invalid, faulty}
-use Rattle.values.specs.Classes.{classHolds}
-use Rattle.values.specs.Switches.{switchHolds}
+use Rattle.compare.specs.Classes.{classHolds}
+use Rattle.compare.specs.Switches.{switchHolds}
 
 abbrev pub truth : Bool → Outcome
 truth true = True

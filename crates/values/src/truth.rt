@@ -5,22 +5,22 @@ ghost use Rattle.tables.specs.Rows.{isNumeric};
 ghost use Rattle.tables.specs.Operands.{lend, rowOf};
 ghost use Rattle.values.specs.Comparison.{sideOf};
 ghost use Rattle.values.specs.Truth.{truth, turned, relationOutcome, classOutcome, signOutcome, outcome, Readable, Sided};
-use crate::classes::class_holds;
-use crate::numbers::compare_zero;
-use crate::numbers::magnitude_of;
-use crate::orders::relation_holds;
-use crate::orders::sign_holds;
 use crate::sides::compare_sides;
 use crate::sides::is_faulty;
 use crate::sides::is_invalid;
-use crate::switches::switch_holds;
+use compare::classes::class_holds;
+use compare::numbers::compare_zero;
+use compare::numbers::magnitude_of;
+use compare::orders::relation_holds;
+use compare::orders::sign_holds;
+use compare::switches::switch_holds;
+use content::fields::is_minus;
 use tables::Outcome;
-use tables::Test;
-use tables::content::is_minus;
 use tables::operands::operand_bytes;
 use tables::operands::row_of;
-use tables::shape::is_item;
-use tables::shape::test_of;
+use tables::tokens::is_item;
+use typing::Test;
+use typing::shape::test_of;
 
 // True or false, exchanged where NOT belongs to the word.
 fn truth_value(negated: bool, holds: bool) -> Outcome

@@ -4,7 +4,7 @@ use native.Mathlib.Omega.{arith}
 use mathlib.Core.List.{[]}
 use Rattle.tables.specs.declared.Refusal.the-variants.{Typing}
 use Rattle.tables.specs.Operands.{lend}
-use Rattle.tables.specs.Typing.{typed}
+use Rattle.typing.specs.Typing.{typed}
 use Rattle.tables.proofs.Lines.{Passed, passed-none, passed-more, failed-at, passed-all}
 use Rattle.grammar.specs.Plan.{planRow}
 use Rattle.plans.proofs.checks.check_typing.Statement.{statement}

@@ -4,7 +4,8 @@ use mathlib.Core.Bool.{_&&_}
 use denote.Ref.{now}
 use borrow.Author.Needs.{needs}
 use Rattle.tables.proofs.Tests.{both}
-use Rattle.values.specs.Comparison.{side, characterOrder, comparison}
+use Rattle.values.specs.Comparison.{side, comparison}
+use Rattle.compare.specs.Compared.{characterOrder}
 use Rattle.values.proofs.Reading.{some-bytes, some-compared, numeral, part-characters}
 use Rattle.values.proofs.sides.compare_sides.Statement.{statement}
 use Rattle.values.proofs.sides.compare_sides.Tie as tie

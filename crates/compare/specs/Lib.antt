@@ -1,0 +1,4 @@
+pub mod Order
+pub mod Compared
+pub mod Classes
+pub mod Switches

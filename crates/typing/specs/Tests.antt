@@ -1,0 +1,21 @@
+-- Document 01, "The plan": what a relation number asks.
+use mathlib.Core.Bool.{Bool, true, false, cond, _&&_}
+use Prim.Native.Nat.{ℕ, _-_}
+use lib.Dec.{eqb, leb}
+use Rattle.typing.specs.declared.Test.{Test}
+use Rattle.typing.specs.declared.Test.the-variants.{Switch, Relation, Class, Sign, Unknown}
+
+abbrev pub within : ℕ → ℕ → ℕ → Bool
+within low high x = leb low x && leb x high
+
+-- "The relation is the word number, plus 32 where NOT belongs to it. A switch has 0, 0 after its token". Words 5 to 9 are
+-- relations, of which NOT may stand before 5, 6, 7; 10 to 13 are classes and 14 to 16 signs, each with or without NOT.
+abbrev pub testOf : ℕ → Test
+testOf relation =
+    cond (eqb relation 0) Switch
+    (cond (within 5 9 relation) (Relation relation false)
+    (cond (within 10 13 relation) (Class relation false)
+    (cond (within 14 16 relation) (Sign relation false)
+    (cond (within 37 39 relation) (Relation (relation - 32) true)
+    (cond (within 42 45 relation) (Class (relation - 32) true)
+    (cond (within 46 48 relation) (Sign (relation - 32) true) Unknown))))))

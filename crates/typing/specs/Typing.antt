@@ -1,0 +1,43 @@
+-- Document 01, "The condition grammar": typing of a simple condition, over kinds.
+use mathlib.Core.Bool.{Bool, true, false, not, cond, _&&_, _||_}
+use Prim.Native.Nat.{ℕ}
+use lib.Dec.{eqb, leb}
+use Rattle.tables.specs.declared.Row.{Row}
+use Rattle.typing.specs.declared.Test.{Test}
+use Rattle.typing.specs.declared.Test.the-variants.{Switch, Relation, Class, Sign, Unknown}
+use Rattle.tables.specs.Tokens.{isItem, isLiteral}
+use Rattle.tables.specs.Rows.{isNumeric}
+use Rattle.tables.specs.Operands.{Lent, rowOf}
+use Rattle.typing.specs.Tests.{testOf}
+
+-- one side of a relation: numeric beside a side that is not, it has scale 0
+abbrev pub scaleFits : Row → Row → Bool
+scaleFits side other = not (isNumeric side) || isNumeric other || eqb (side .scale) 0
+
+-- "relation: not two literals; if exactly one side is numeric (3 to 6), its scale is 0"
+abbrev pub relationTyped : Lent → ℕ → ℕ → Bool
+relationTyped lent subject object =
+    not (isLiteral subject && isLiteral object)
+    && scaleFits (rowOf lent subject) (rowOf lent object)
+    && scaleFits (rowOf lent object) (rowOf lent subject)
+
+-- "class: the operand is an item; NUMERIC for kinds 2 to 6, the alphabetic tests for 0 to 2"
+abbrev pub classTyped : Lent → ℕ → ℕ → Bool
+classTyped lent word subject =
+    isItem subject
+    && cond (eqb word 10) (leb 2 (rowOf lent subject .kind) && leb (rowOf lent subject .kind) 6) (leb (rowOf lent subject .kind) 2)
+
+-- "sign: an item of kinds 3 to 6"
+abbrev pub signTyped : Lent → ℕ → Bool
+signTyped lent subject = isItem subject && isNumeric (rowOf lent subject)
+
+abbrev pub testTyped : Lent → Test → ℕ → ℕ → Bool
+testTyped lent Switch subject object = true
+testTyped lent (Relation word negated) subject object = relationTyped lent subject object
+testTyped lent (Class word negated) subject object = classTyped lent word subject
+testTyped lent (Sign word negated) subject object = signTyped lent subject
+testTyped lent Unknown subject object = false
+
+-- the simple condition of a subject, a relation number and an object is well typed
+unfoldable pub typed : Lent → ℕ → ℕ → ℕ → Bool
+typed lent subject relation object = testTyped lent (testOf relation) subject object

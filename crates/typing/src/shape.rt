@@ -1,0 +1,158 @@
+// What a relation number asks, and the shape and the typing of a simple condition.
+ghost use mathlib.Core.Path.{_≡_};
+ghost use mathlib.Core.Bool.{true};
+ghost use mathlib.Core.List.{[]};
+ghost use Prim.Native.Nat.{_*_, _≤_};
+ghost use lib.ListN.{length};
+ghost use Rattle.tables.specs.Operands.{lend, operandSound};
+ghost use Rattle.tables.specs.Tokens.{isLiteral, isOperand, isSwitch};
+ghost use Rattle.typing.specs.Tests.{testOf};
+ghost use Rattle.typing.specs.Shape.{shapeSound};
+ghost use Rattle.typing.specs.Typing.{scaleFits, relationTyped, classTyped, signTyped, typed};
+use crate::Test;
+use tables::Row;
+use tables::operands::row_of;
+use tables::rows::is_numeric;
+use tables::tokens::is_item;
+use tables::tokens::token_exists;
+
+// The relation, class or sign test of a relation number, and whether NOT belongs to it.
+pub fn test_of(relation: u32) -> Test
+    ensures { λ r. ⌜ r ≡ testOf relation ⌝ }
+{
+    match relation {
+        0 => Test::Switch,
+        5..=9 => Test::Relation {
+            word: relation,
+            negated: false,
+        },
+        10..=13 => Test::Class {
+            word: relation,
+            negated: false,
+        },
+        14..=16 => Test::Sign {
+            word: relation,
+            negated: false,
+        },
+        37..=39 => Test::Relation {
+            word: relation - 32,
+            negated: true,
+        },
+        42..=45 => Test::Class {
+            word: relation - 32,
+            negated: true,
+        },
+        46..=48 => Test::Sign {
+            word: relation - 32,
+            negated: true,
+        },
+        _ => Test::Unknown,
+    }
+}
+
+fn is_literal(token: u32) -> bool
+    ensures { λ r. ⌜ r ≡ isLiteral token ⌝ }
+{
+    token / 65536 == 1
+}
+
+fn is_operand(token: u32) -> bool
+    ensures { λ r. ⌜ r ≡ isOperand token ⌝ }
+{
+    (token / 65536 == 0) | (token / 65536 == 1)
+}
+
+fn is_switch(token: u32) -> bool
+    ensures { λ r. ⌜ r ≡ isSwitch token ⌝ }
+{
+    (token / 65536 == 2) | (token / 65536 == 3)
+}
+
+// Whether the tokens of a row are within their tables and of the kinds that its relation asks.
+pub fn shape_sound(
+    items: &[u32],
+    literals: &[u32],
+    subject: u32,
+    relation: u32,
+    object: u32,
+) -> bool
+    ensures { λ r. ⌜ r ≡ shapeSound (lend (now (items .entry)) (now (literals .entry)) []) (testOf relation) subject object ⌝ }
+{
+    let there = token_exists(subject, items.len() / 4, literals.len() / 4);
+    let test = test_of(relation);
+    match test {
+        Test::Switch => is_switch(subject) & there & (object == 0),
+        Test::Relation {
+            word: _,
+            negated: _,
+        } => {
+            let other = token_exists(object, items.len() / 4, literals.len() / 4);
+            is_operand(subject) & there & (is_operand(object) & other)
+        }
+        Test::Class {
+            word: _,
+            negated: _,
+        } => is_operand(subject) & there & (object == 0),
+        Test::Sign {
+            word: _,
+            negated: _,
+        } => is_operand(subject) & there & (object == 0),
+        Test::Unknown => false,
+    }
+}
+
+fn scale_fits(side: Row, other: Row) -> bool
+    ensures { λ r. ⌜ r ≡ scaleFits side other ⌝ }
+{
+    !is_numeric(side) | is_numeric(other) | (side.scale == 0)
+}
+
+fn relation_typed(items: &[u32], literals: &[u32], subject: u32, object: u32) -> bool
+    requires { ⌜ operandSound (lend (now items) (now literals) []) subject ≡ true ⌝ }
+    requires { ⌜ operandSound (lend (now items) (now literals) []) object ≡ true ⌝ }
+    ensures { λ r. ⌜ r ≡ relationTyped (lend (now (items .entry)) (now (literals .entry)) []) subject object ⌝ }
+{
+    let side = row_of(subject, items, literals);
+    let other = row_of(object, items, literals);
+    !(is_literal(subject) & is_literal(object)) & scale_fits(side, other) & scale_fits(other, side)
+}
+
+fn class_typed(items: &[u32], literals: &[u32], word: u32, subject: u32) -> bool
+    requires { ⌜ operandSound (lend (now items) (now literals) []) subject ≡ true ⌝ }
+    ensures { λ r. ⌜ r ≡ classTyped (lend (now (items .entry)) (now (literals .entry)) []) word subject ⌝ }
+{
+    let row = row_of(subject, items, literals);
+    if word == 10 {
+        return is_item(subject) & ((2 <= row.kind) & (row.kind <= 6));
+    }
+    is_item(subject) & (row.kind <= 2)
+}
+
+fn sign_typed(items: &[u32], literals: &[u32], subject: u32) -> bool
+    requires { ⌜ operandSound (lend (now items) (now literals) []) subject ≡ true ⌝ }
+    ensures { λ r. ⌜ r ≡ signTyped (lend (now (items .entry)) (now (literals .entry)) []) subject ⌝ }
+{
+    let row = row_of(subject, items, literals);
+    is_item(subject) & is_numeric(row)
+}
+
+// Whether a simple condition of sound shape is well typed.
+pub fn well_typed(items: &[u32], literals: &[u32], subject: u32, relation: u32, object: u32) -> bool
+    requires { ⌜ shapeSound (lend (now items) (now literals) []) (testOf relation) subject object ≡ true ⌝ }
+    ensures { λ r. ⌜ r ≡ typed (lend (now (items .entry)) (now (literals .entry)) []) subject relation object ⌝ }
+{
+    let test = test_of(relation);
+    match test {
+        Test::Switch => true,
+        Test::Relation {
+            word: _,
+            negated: _,
+        } => relation_typed(items, literals, subject, object),
+        Test::Class { word, negated: _ } => class_typed(items, literals, word, subject),
+        Test::Sign {
+            word: _,
+            negated: _,
+        } => sign_typed(items, literals, subject),
+        Test::Unknown => false,
+    }
+}
