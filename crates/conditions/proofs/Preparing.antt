@@ -5,6 +5,7 @@ use mathlib.Core.List.{List, [], _∷_, _++_}
 use Prim.Native.Nat.{ℕ, _*_, _≤_, _<_}
 use native.Mathlib.Omega.{arith}
 use lib.ListN.{length, take}
+use lib.Seq.{take-all}
 use lib.Dec.{leb}
 use borrow.Author.Tests.{le-leb, lt-leb, leb-true}
 use Rattle.tables.specs.declared.Refusal.{Refusal}
@@ -27,12 +28,14 @@ use Rattle.grammar.specs.Plan.{planned}
 use Rattle.grammar.specs.Typed.{Shaped, typedRows}
 use Rattle.parser.specs.Parses.{Whole, Parses}
 use Rattle.grammar.proofs.Reading.{sound}
+use Rattle.grammar.proofs.Depth.{depth-inside}
+use Rattle.rules.proofs.Deep.{deep-enough}
 use Rattle.grammar.proofs.Lent.{typing-lent}
 use Rattle.grammar.proofs.Shapes.{shaped, rows-shaped, rows-typed}
 use Rattle.conditions.specs.declared.Prepared.{Prepared}
 use Rattle.conditions.specs.declared.Prepared.the-variants.{Rows, Refused as Unprepared}
 use Rattle.rules.specs.Calls.{grammarCheck, earlier, typingCheck, tokenLines, grammarLines, conditionLines}
-use Rattle.conditions.specs.Prepared.{parseCheck, Stands, Readies, Resolves, Prepares}
+use Rattle.conditions.specs.Prepared.{parseCheck, parsedTokens, Stands, Readies, Resolves, Prepares}
 
 -- 1 to 6
 module _ (lent : Lent) (tokens : List ℕ) {t : Check} (tables : t ≡ firstOf (tableLines lent)) where
@@ -69,16 +72,29 @@ lies count after (accepted t) w =
     record { tree = t; read-as = refl; counted = e; rows = rw e (w .1) }
 lies count after (refused at) w = let z : _≡_ {A = ℕ} 0 1 = cc w in absurd (omega arith)
 
--- 7 to 9, of a sequence of which 1 to 6 refuse nothing
-module _ (lent : Lent) (tokens after : List ℕ) (parsed : Parse) (parses : Parses tokens parsed after) where
-  -- the line of 7 and 8, as the code has tried it
-  first-line : {r depth : Check} → depth ≡ depthCheck tokens → r ≡ earlier (parseCheck parsed) depth →
-      earlier (grammarCheck (read tokens)) (depthCheck tokens) ≡ r
-  first-line d e = rw (← d, ← seven parsed after (read tokens) parses) (sym e)
+-- the tokens that are parsed tell as much of 7 and 8 as all do
+pub parsed-within : (tokens : List ℕ) (depth : Check) → depth ≡ depthCheck tokens → parsedTokens tokens depth ≤ length tokens
+parsed-within tokens Sound d = omega arith
+parsed-within tokens (Refused eight) d = depth-inside tokens (sym d)
 
-  pub grammar-refused : {r depth : Check} → depth ≡ depthCheck tokens → r ≡ earlier (parseCheck parsed) depth →
-      {refusal : Refusal} → r ≡ Refused refusal → Resolves lent tokens (Unprepared refusal) after
-  grammar-refused d e f = record { readied = line-refused _ (first-line d e ∙ f) }
+parsed-enough : (tokens : List ℕ) (depth : Check) → depth ≡ depthCheck tokens →
+    earlier (grammarCheck (read (take (parsedTokens tokens depth) tokens))) depth ≡ earlier (grammarCheck (read tokens)) depth
+parsed-enough tokens Sound d = rw (take-all (length tokens) tokens (omega arith))
+parsed-enough tokens (Refused eight) d = deep-enough tokens eight (sym d)
+
+-- 7 to 9, of a sequence of which 1 to 6 refuse nothing
+module _ (lent : Lent) (tokens after : List ℕ) (parsed : Parse) {depth : Check} {end : ℕ} (d : depth ≡ depthCheck tokens)
+    (n : end ≡ parsedTokens tokens depth) (parses : Parses (take end tokens) parsed after) where
+  -- the line of 7 and 8, as the code has tried it
+  first-line : {r : Check} → r ≡ earlier (parseCheck parsed) depth → earlier (grammarCheck (read tokens)) (depthCheck tokens) ≡ r
+  first-line e =
+      rw (← d)
+      (sym (parsed-enough tokens depth d)
+      ∙ rw (← n, ← seven parsed after (read (take end tokens)) parses) (sym e))
+
+  pub grammar-refused : {r : Check} → r ≡ earlier (parseCheck parsed) depth → {refusal : Refusal} → r ≡ Refused refusal →
+      Resolves lent tokens (Unprepared refusal) after
+  grammar-refused e f = record { readied = line-refused _ (first-line e ∙ f) }
 
 -- a sequence that is not parsed is refused with 7 or 8
 pub unparsed-refused : (depth r : Check) (at : ℕ) → r ≡ earlier (Refused (Grammar at)) depth → r ≡ Sound → ⊥
@@ -89,7 +105,17 @@ unparsed-refused (Refused eight) r at e f = pick (leb at (place eight)) (sym e �
     pick true k = let z : _≡_ {A = ℕ} 0 1 = cc in omega arith
     pick false k = let z : _≡_ {A = ℕ} 0 1 = cc in omega arith
 
-module _ (lent : Lent) (tokens after : List ℕ) (count : ℕ) (parses : Parses tokens (Accepted count) after) (there : tokenCheck lent tokens ≡ Sound) where
+-- where neither 7 nor 8 refuses, all tokens are parsed
+all-parsed : (tokens after : List ℕ) (p : Parse) (depth : Check) → depth ≡ Sound → Parses (take (parsedTokens tokens depth) tokens) p after →
+    Parses tokens p after
+all-parsed tokens after p depth e h = rw (e, take-all (length tokens) tokens (omega arith)) at h
+
+module _ (lent : Lent) (tokens after : List ℕ) (count : ℕ) {depth : Check} {end : ℕ} (d : depth ≡ depthCheck tokens)
+    (n : end ≡ parsedTokens tokens depth) (parsed : Parses (take end tokens) (Accepted count) after) {r : Check}
+    (e : r ≡ earlier (parseCheck (Accepted count)) depth) (f : r ≡ Sound) (there : tokenCheck lent tokens ≡ Sound) where
+  parses : Parses tokens (Accepted count) after
+  parses = all-parsed tokens after (Accepted count) depth (sym e ∙ f) (rw n at parsed)
+
   -- 9 is tried of the rows in the buffer
   typing-of : (reading : Reading) → Stands reading count after → typingCheck lent reading ≡ typedRows lent after count
   typing-of reading s =
@@ -104,21 +130,19 @@ module _ (lent : Lent) (tokens after : List ℕ) (count : ℕ) (parses : Parses 
   pub shaped-rows : Shaped lent after count
   shaped-rows = shaped-of (lies count after (read tokens) parses)
 
-  last-line : {r depth typing : Check} → depth ≡ depthCheck tokens → r ≡ earlier (parseCheck (Accepted count)) depth → r ≡ Sound →
-      typing ≡ typedRows lent after count → firstOf (grammarLines lent tokens) ≡ typing
-  last-line d e f g =
-      line-sound _ (first-line lent tokens after (Accepted count) parses d e ∙ f)
+  last-line : {typing : Check} → typing ≡ typedRows lent after count → firstOf (grammarLines lent tokens) ≡ typing
+  last-line g =
+      line-sound _ (first-line lent tokens after (Accepted count) d n parsed e ∙ f)
       ∙ line-last _
       ∙ typing-of (read tokens) (lies count after (read tokens) parses)
       ∙ sym g
 
-  pub typing-refused : {r depth typing : Check} → depth ≡ depthCheck tokens → r ≡ earlier (parseCheck (Accepted count)) depth → r ≡ Sound →
-      typing ≡ typedRows lent after count → {refusal : Refusal} → typing ≡ Refused refusal → Resolves lent tokens (Unprepared refusal) after
-  typing-refused d e f g h = record { readied = last-line d e f g ∙ h }
+  pub typing-refused : {typing : Check} → typing ≡ typedRows lent after count → {refusal : Refusal} → typing ≡ Refused refusal →
+      Resolves lent tokens (Unprepared refusal) after
+  typing-refused g h = record { readied = last-line g ∙ h }
 
-  pub resolved : {r depth typing : Check} → depth ≡ depthCheck tokens → r ≡ earlier (parseCheck (Accepted count)) depth → r ≡ Sound →
-      typing ≡ typedRows lent after count → typing ≡ Sound → Resolves lent tokens (Rows count) after
-  resolved d e f g h = record { readied = (last-line d e f g ∙ h, lies count after (read tokens) parses) }
+  pub resolved : {typing : Check} → typing ≡ typedRows lent after count → typing ≡ Sound → Resolves lent tokens (Rows count) after
+  resolved g h = record { readied = (last-line g ∙ h, lies count after (read tokens) parses) }
 
 -- 1 to 9: what is resolved does not depend on the literal bytes
 typing-check-lent : (items literals bytes : List ℕ) (reading : Reading) →

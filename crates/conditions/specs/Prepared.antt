@@ -2,13 +2,13 @@
 -- buffer.
 use mathlib.Core.Path.{_≡_}
 use mathlib.Core.List.{List, [], _∷_}
-use Prim.Native.Nat.{ℕ, _*_}
-use lib.ListN.{take}
+use Prim.Native.Nat.{ℕ, suc, _*_}
+use lib.ListN.{length, take}
 use Rattle.tables.specs.declared.Refusal.the-variants.{Grammar}
 use Rattle.tables.specs.declared.Check.{Check}
 use Rattle.tables.specs.declared.Check.the-variants.{Sound, Refused}
 use Rattle.tables.specs.Operands.{Lent}
-use Rattle.tables.specs.Refusals.{firstOf}
+use Rattle.tables.specs.Refusals.{place, firstOf}
 use Rattle.tables.specs.Tables.{tableLines, recordCheck}
 use Rattle.parser.specs.declared.Parse.{Parse}
 use Rattle.parser.specs.declared.Parse.the-variants.{Accepted, Refused as Unparsed}
@@ -24,6 +24,11 @@ use Rattle.rules.specs.Calls.{grammarLines, conditionLines}
 abbrev pub parseCheck : Parse → Check
 parseCheck (Accepted n) = Sound
 parseCheck (Unparsed at) = Refused (Grammar at)
+
+-- how many tokens 7 is looked for in: up to the "(" at which 8 refuses
+abbrev pub parsedTokens : List ℕ → Check → ℕ
+parsedTokens tokens Sound = length tokens
+parsedTokens tokens (Refused eight) = suc (place eight)
 
 -- so many rows of a tree stand at the start of the buffer
 pub record Stands (reading : Reading) (count : ℕ) (after : List ℕ) : Type 0 where

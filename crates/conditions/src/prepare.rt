@@ -7,8 +7,9 @@ ghost use Rattle.tables.specs.declared.Check.the-variants.{Sound};
 ghost use Rattle.tables.specs.Operands.{lend};
 ghost use Rattle.tables.specs.Refusals.{firstOf};
 ghost use Rattle.tables.specs.Tables.{tokenCheck};
+ghost use Rattle.grammar.specs.Depth.{depthCheck};
 ghost use Rattle.rules.specs.Calls.{earlier, tokenLines};
-ghost use Rattle.conditions.specs.Prepared.{parseCheck, Resolves, Prepares};
+ghost use Rattle.conditions.specs.Prepared.{parseCheck, parsedTokens, Resolves, Prepares};
 use crate::Prepared;
 use parser::Parse;
 use parser::cycle::parse;
@@ -55,13 +56,26 @@ fn earlier_of(parsed: Parse, depth: Check) -> Check
     }
 }
 
+// How many tokens are parsed: no more than the first "(" that makes 17 open, so that the cycle goes no deeper. A 7 beyond it
+// would give way to 8.
+fn parsed_tokens(tokens: &[u32], depth: Check) -> usize
+    requires { ⌜ depth ≡ depthCheck (now tokens) ⌝ }
+    ensures { λ r. ⌜ (r ≡ parsedTokens (now (tokens .entry)) depth) × (r ≤ length (now (tokens .entry))) ⌝ }
+{
+    match depth {
+        Check::Sound => tokens.len(),
+        Check::Refused(eight) => place_of(eight) + 1,
+    }
+}
+
 // 7 to 9, of tokens that 1 to 6 do not refuse.
 fn resolve(items: &[u32], literals: &[u32], tokens: &[u32], rows: &mut [u32]) -> Prepared
     requires { ⌜ (length (now tokens) ≤ 256) × (tokenCheck (lend (now items) (now literals) []) (now tokens) ≡ Sound) × (640 ≤ length (now rows)) ⌝ }
     ensures { λ r. ⌜ Resolves (lend (now (items .entry)) (now (literals .entry)) []) (now (tokens .entry)) r (now (rows .exit)) ⌝ }
 {
-    let parsed = parse(tokens, rows);
     let depth = check_depth(tokens);
+    let end = parsed_tokens(tokens, depth);
+    let parsed = parse(&tokens[..end], rows);
     let refused = earlier_of(parsed, depth);
     if let Check::Refused(refusal) = refused {
         return Prepared::Refused(refusal);

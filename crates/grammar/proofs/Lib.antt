@@ -2,6 +2,8 @@ pub mod Sound
 pub mod Complete
 pub mod Local
 pub mod Reading
+pub mod Beginning
+pub mod Depth
 pub mod Spelling
 pub mod Expansion
 pub mod Size

@@ -1,4 +1,5 @@
 pub mod Cases
 pub mod Passing
+pub mod Deep
 pub mod Answers
 pub mod Demands
