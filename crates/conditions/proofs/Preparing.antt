@@ -73,9 +73,8 @@ lies count after (accepted t) w =
 lies count after (refused at) w = let z : _≡_ {A = ℕ} 0 1 = cc w in absurd (omega arith)
 
 -- the tokens that are parsed tell as much of 7 and 8 as all do
-pub parsed-within : (tokens : List ℕ) (depth : Check) → depth ≡ depthCheck tokens → parsedTokens tokens depth ≤ length tokens
-parsed-within tokens Sound d = omega arith
-parsed-within tokens (Refused eight) d = depth-inside tokens (sym d)
+pub eight-inside : (tokens : List ℕ) {depth : Check} {eight : Refusal} → depth ≡ depthCheck tokens → depth ≡ Refused eight → place eight < length tokens
+eight-inside tokens d e = depth-inside tokens (sym d ∙ e)
 
 parsed-enough : (tokens : List ℕ) (depth : Check) → depth ≡ depthCheck tokens →
     earlier (grammarCheck (read (take (parsedTokens tokens depth) tokens))) depth ≡ earlier (grammarCheck (read tokens)) depth
