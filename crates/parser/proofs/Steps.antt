@@ -1,4 +1,5 @@
--- What each `return` of the cycle shows: its answer is the parser's, since the answers of the calls before it are.
+-- What each `return` of the cycle shows, and each turn of its loops: its answer is the parser's, since the answers of the calls
+-- before it are.
 use mathlib.Core.Path.{_≡_, refl, ap, _∙_}
 use mathlib.Core.List.{List, _++_, map, append-assoc}
 use Prim.Native.Nat.{ℕ, zero, suc, _+_, _*_, _-_, _≤_, _<_}
@@ -67,6 +68,19 @@ fits-more : (row next : ℕ) (r : Answer) → row ≤ next → Fits next r → F
 fits-more row next (Parsed p c n) l h = omega arith
 fits-more row next (Stuck p) l h = tt
 
+-- What a loop over the parts has shown where the next one starts: an answer from there on is an answer from the first part on.
+pub record Continues (parser : ℕ → Carry → Parser) (level : ℕ) (tokens : List ℕ) (at : ℕ) (c : Carried) (row : ℕ) (before : List ℕ)
+    (start : ℕ) (held : Carried) (first : ℕ) (begun : List ℕ) : Type 0 where
+  pub room : Room tokens start first begun
+  pub later : at ≤ start
+  pub same : length begun ≡ length before
+  pub whole : (r : Answer) (after : List ℕ) → Plans parser level tokens start held first begun r after →
+      Plans parser level tokens at c row before r after
+
+pub continues : {parser : ℕ → Carry → Parser} {level at row : ℕ} {tokens before : List ℕ} {c : Carried} → Room tokens at row before →
+    Continues parser level tokens at c row before at c row before
+continues room = record { room = room; later = omega arith; same = refl; whole = λ r after h. h }
+
 module _ {k : Class} {w : ℕ} {join : Tree → Tree → Tree} {y n : ℕ → ℕ} {lower self : ℕ → Carry → Parser} (j : Joins k w join y n lower self) where
   pub joins-stuck : {level at row p : ℕ} {tokens before after : List ℕ} {c : Carried} →
       Plans lower level tokens at c row before (Stuck p) after → Plans self (level + 1) tokens at c row before (Stuck p) after
@@ -101,7 +115,7 @@ module _ {k : Class} {w : ℕ} {join : Tree → Tree → Tree} {y n : ℕ → �
         rows = g .rows ∙ rw (h, both-rows, flat-append) (append-assoc (take (row * 5) before) (flat first) (flat rest));
       }
 
-  pub joins-more : {level at row p next x : ℕ} {tokens before middle between after : List ℕ} {c d : Carried} {r : Answer} →
+  joins-more : {level at row p next x : ℕ} {tokens before middle between after : List ℕ} {c d : Carried} {r : Answer} →
       Room tokens at row before → Plans lower level tokens at c row before (Parsed p d next) middle → x ≡ tok tokens p → x ≡ w →
       Turned (y next) (n next) next between middle row → Plans self (level + 1) tokens (p + 1) d next between r after →
       Plans self (level + 1) tokens at c row before r after
@@ -116,6 +130,20 @@ module _ {k : Class} {w : ℕ} {join : Tree → Tree → Tree} {y n : ℕ → �
       (omega (arith, g .from))
       (g .upto)
       (fits-more row next r (omega arith) (g .fits))
+
+  pub joins-on : {level at row start first p next x : ℕ} {tokens before begun middle between : List ℕ} {c held d : Carried} →
+      Continues self (level + 1) tokens at c row before start held first begun →
+      Plans lower level tokens start held first begun (Parsed p d next) middle → x ≡ tok tokens p → x ≡ w →
+      Turned (y next) (n next) next between middle first → length between ≡ length begun →
+      Continues self (level + 1) tokens at c row before (p + 1) d next between
+  joins-on {p} {tokens} s h e i turned l =
+      let low : p < length tokens = stands tokens p e (j .is _ i) (j .word) in
+      record {
+        room = omega arith;
+        later = omega arith;
+        same = omega arith;
+        whole = λ r after g. s .whole r after (joins-more (s .room) h e i turned g);
+      }
 
 -- A simple condition, which `q` reads from this or a later place on, is all that is read, and its row is put.
 pub placeable : {q : Parser} {at from row : ℕ} {tokens before : List ℕ} (s : Single) → Room tokens at row before → Reads q 1 tokens from s → at ≤ from → Placeable s row

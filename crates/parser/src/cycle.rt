@@ -1,5 +1,6 @@
 // Condition, chain, term and body call each other over the tokens. Each writes the rows of what it reads as if it were the whole
-// condition; whoever called it turns their verdicts into the targets that they lead to.
+// condition; whoever called it turns their verdicts into the targets that they lead to. A condition loops over its chains and a
+// chain over its terms, so that only a bracket takes more of the stack.
 ghost use mathlib.Core.Path.{_≡_};
 ghost use Prim.Native.Nat.{_≤_};
 ghost use lib.ListN.{length};
@@ -22,37 +23,63 @@ use reader::words::OR;
 use reader::words::is_order;
 use reader::words::peek;
 
-fn condition(tokens: &[u32], at: usize, carry: Carried, row: usize, rows: &mut [u32]) -> Answer
+fn condition(
+    tokens: &[u32],
+    mut at: usize,
+    mut carry: Carried,
+    mut row: usize,
+    rows: &mut [u32],
+) -> Answer
     requires { ⌜ Room (now tokens) at row (now rows) ⌝ }
     ensures { λ r. ⌜ Plans parse-condition 3 (now (tokens .entry)) at carry row (now (rows .entry)) r (now (rows .exit)) ⌝ }
 {
-    let first = chain(tokens, at, carry, row, rows);
-    match first {
-        Answer::Stuck(place) => Answer::Stuck(place),
-        Answer::Parsed(place, kept, next) => {
-            if peek(tokens, place) == OR {
-                retarget(rows, row, next, Target::verdict(true), Target::later(next));
-                condition(tokens, place + 1, kept, next, rows)
-            } else {
-                Answer::Parsed(place, kept, next)
+    loop {
+        let part = chain(tokens, at, carry, row, rows);
+        match part {
+            Answer::Stuck(place) => {
+                return Answer::Stuck(place);
+            }
+            Answer::Parsed(place, kept, next) => {
+                if peek(tokens, place) != OR {
+                    return Answer::Parsed(place, kept, next);
+                }
+                let rest = Target::later(next);
+                let done = Target::verdict(true);
+                retarget(rows, row, next, done, rest);
+                at = place + 1;
+                carry = kept;
+                row = next;
             }
         }
     }
 }
 
-fn chain(tokens: &[u32], at: usize, carry: Carried, row: usize, rows: &mut [u32]) -> Answer
+fn chain(
+    tokens: &[u32],
+    mut at: usize,
+    mut carry: Carried,
+    mut row: usize,
+    rows: &mut [u32],
+) -> Answer
     requires { ⌜ Room (now tokens) at row (now rows) ⌝ }
     ensures { λ r. ⌜ Plans parse-chain 2 (now (tokens .entry)) at carry row (now (rows .entry)) r (now (rows .exit)) ⌝ }
 {
-    let first = term(tokens, at, carry, row, rows);
-    match first {
-        Answer::Stuck(place) => Answer::Stuck(place),
-        Answer::Parsed(place, kept, next) => {
-            if peek(tokens, place) == AND {
-                retarget(rows, row, next, Target::later(next), Target::verdict(false));
-                chain(tokens, place + 1, kept, next, rows)
-            } else {
-                Answer::Parsed(place, kept, next)
+    loop {
+        let part = term(tokens, at, carry, row, rows);
+        match part {
+            Answer::Stuck(place) => {
+                return Answer::Stuck(place);
+            }
+            Answer::Parsed(place, kept, next) => {
+                if peek(tokens, place) != AND {
+                    return Answer::Parsed(place, kept, next);
+                }
+                let rest = Target::later(next);
+                let done = Target::verdict(false);
+                retarget(rows, row, next, rest, done);
+                at = place + 1;
+                carry = kept;
+                row = next;
             }
         }
     }

@@ -1,5 +1,5 @@
--- The measure of a call is what its fuel has to exceed: 4 for each token left, and the level. Each return cites its
--- law of Steps.antt; `c5` is what was known five places before `c`.
+-- The measure of a call is what its fuel has to exceed: 4 for each token left, and the level. A loop's invariant is `Continues`,
+-- and its measure the tokens left. Each return cites its law of Steps.antt; `c5` is what was known five places before `c`.
 use mathlib.Core.Path.{_≡_}
 use Prim.Native.Nat.{ℕ, _+_, _*_, _-_, _<_}
 use native.Mathlib.Omega.{arith}
@@ -7,9 +7,10 @@ use lib.ListN.{length}
 use borrow.Author.Needs.{needs}
 use borrow.Fn.Kinds.{In}
 use borrow.Fn.PlainCycle.{Measures, is, falls, and}
+use Rattle.grammar.specs.Parser.{parse-condition, parse-chain}
 use Rattle.reader.proofs.Looking.{inside}
 use Rattle.reader.proofs.Resolving.{Here, short-here, no-short}
-use Rattle.parser.proofs.Steps.{conditions, chains, joins-stuck, joins-part, joins-more, placeable, single}
+use Rattle.parser.proofs.Steps.{Continues, continues, conditions, chains, joins-stuck, joins-part, joins-on, placeable, single}
 use Rattle.parser.proofs.Steps.{term-order, term-plain, term-not-order, term-not-stuck, term-not-row, body-simple, body-stuck, body-shut, body-not-shut}
 use Rattle.parser.proofs.cycle.body.Reads as body
 use Rattle.parser.proofs.cycle.body.Kinds as body-kinds
@@ -58,6 +59,18 @@ condition-below t = and 2 condition-kinds.ps (falls 2 condition-kinds.ps _<_ μ-
 abbrev term-below : ℕ → In 2 term-kinds.ps
 term-below t = and 2 term-kinds.ps (falls 2 term-kinds.ps _<_ μ-term t) term.Pre
 
+abbrev chain-Inv : chain-lts.InvT-loop
+chain-Inv tokens at₀ carry₀ row₀ rows₀ at carry row rows = Continues parse-chain 2 tokens at₀ carry₀ row₀ rows₀ at carry row rows
+
+abbrev chain-loop-μ : chain-lts.MeasureT-loop
+chain-loop-μ tokens at₀ carry₀ row₀ rows₀ at carry row rows = length tokens - at
+
+abbrev condition-Inv : condition-lts.InvT-loop
+condition-Inv tokens at₀ carry₀ row₀ rows₀ at carry row rows = Continues parse-condition 3 tokens at₀ carry₀ row₀ rows₀ at carry row rows
+
+abbrev condition-loop-μ : condition-lts.MeasureT-loop
+condition-loop-μ tokens at₀ carry₀ row₀ rows₀ at carry row rows = length tokens - at
+
 module _ (t : ℕ) where
   abbrev body-at : In 2 body-kinds.ps
   body-at = and 2 body-kinds.ps (is 2 body-kinds.ps μ-body t) body.Pre
@@ -69,13 +82,13 @@ module _ (t : ℕ) where
   chain-at = and 2 chain-kinds.ps (is 2 chain-kinds.ps μ-chain t) chain.Pre
 
   abbrev chain-claims : chain-lts.Claims
-  chain-claims = (term-below t, term.Post, peek-reads.Asked, peek-reads.Learnt, later-reads.Asked, later-reads.Learnt, verdict-reads.Asked, verdict-reads.Learnt, retarget-reads.Asked, retarget-reads.Learnt, chain-below t, chain.Post)
+  chain-claims = (term-below t, term.Post, peek-reads.Asked, peek-reads.Learnt, later-reads.Asked, later-reads.Learnt, verdict-reads.Asked, verdict-reads.Learnt, retarget-reads.Asked, retarget-reads.Learnt)
 
   abbrev condition-at : In 2 condition-kinds.ps
   condition-at = and 2 condition-kinds.ps (is 2 condition-kinds.ps μ-condition t) condition.Pre
 
   abbrev condition-claims : condition-lts.Claims
-  condition-claims = (chain-below t, chain.Post, peek-reads.Asked, peek-reads.Learnt, verdict-reads.Asked, verdict-reads.Learnt, later-reads.Asked, later-reads.Learnt, retarget-reads.Asked, retarget-reads.Learnt, condition-below t, condition.Post)
+  condition-claims = (chain-below t, chain.Post, peek-reads.Asked, peek-reads.Learnt, later-reads.Asked, later-reads.Learnt, verdict-reads.Asked, verdict-reads.Learnt, retarget-reads.Asked, retarget-reads.Learnt)
 
   abbrev term-at : In 2 term-kinds.ps
   term-at = and 2 term-kinds.ps (is 2 term-kinds.ps μ-term t) term.Pre
@@ -132,108 +145,104 @@ pub +body+chain+condition+term-spec : {M : Type 1} → statement M
     let c7 = c .before .before .before .before .before .before .before in
     body-not-shut _ _ _ (c7 .before .before .before .peek .ensures) (c7 .before .before .if1 .left)
     (rw (c .before .before .before .inner2 .given .1) at (c7 .condition .ensures)) (c .before .peek2 .ensures) (c .if2 .left)))
-    (λ t. chain-lts.spec (chain-claims t) (chain-at t) chain.Post
+    (λ t. chain-lts.spec (chain-claims t) (chain-at t) chain.Post chain-Inv chain-loop-μ
+    (λ c. continues (c .before .before .pre .1))
     (λ c κs. search needs)
     (λ c. search needs)
-    (λ c. search needs)
-    (λ c κs. search needs)
-    (λ c κs.
-    let c8 = c .before .before .before .before .before .before .before .before in
-    omega (arith, rw (c .before .before .before .before .first2 .given .1) at (c8 .term .ensures), c8 .before .before .before .before .pre))
-    (λ c κs. search needs)
-    (λ c κs.
-    let c6 = c .before .before .before .before .before .before in
-    omega (
-      arith,
-      rw (c6 .first2 .given .1) at (c6 .before .before .before .before .term .ensures),
-      c6 .before .before .before .before .before .before .before .before .pre,
-      c6 .before .before .before .before .term .kept,
-    ))
-    (λ c.
-    omega (
-      arith,
-      inside _ _ (c .before .before .before .before .before .before .before .peek .ensures)
-          (omega (arith, c .before .before .before .before .before .before .if1 .taken)),
-    ))
-    (λ c κs.
-    let c7 = c .before .before .before .before .before .before .before in
-    let c14 = c7 .before .before .before .before .before .before .before in
-    omega (
-      arith,
-      inside _ _ (c7 .before .peek .ensures) (omega (arith, c7 .if1 .taken)),
-      rw (c7 .before .before .before .first2 .given .1) at (c14 .term .ensures),
-      c14 .before .before .before .before .pre,
-      c14 .term .kept,
-      c .before .before .before .retarget .kept,
-    ))
-    (λ c. search needs)
-    (λ c. joins-stuck chains (rw (c .before .first .given .1) at (c .before .before .before .before .before .term .ensures)))
     (λ c. search needs)
     (λ c.
-    let c6 = c .before .before .before .before .before .before in
-    let c11 = c6 .before .before .before .before .before in
-    let c17 = c11 .before .before .before .before .before .before in
-    joins-more chains (c17 .before .before .before .before .pre .1) (rw (c11 .before .before .first2 .given .1) at (c17 .term .ensures))
-    (c11 .peek .ensures) (c6 .before .before .before .before .if1 .taken)
-    (rw (c6 .before .before .later .ensures, c6 .before .verdict .ensures) at (c6 .retarget .ensures)) (c .before .before .chain .ensures))
-    (λ c. search needs)
-    (λ c.
-    joins-part chains
-    (rw (c .before .before .before .first2 .given .1) at (c .before .before .before .before .before .before .before .term .ensures))
-    (c .before .peek .ensures) (c .if1 .left)))
-    (λ t. condition-lts.spec (condition-claims t) (condition-at t) condition.Post
-    (λ c κs. search needs)
-    (λ c. search needs)
-    (λ c. search needs)
-    (λ c κs. search needs)
-    (λ c κs. search needs)
-    (λ c κs.
     let c5 = c .before .before .before .before .before in
-    omega (
-      arith,
-      rw (c5 .first2 .given .1) at (c5 .before .before .before .before .chain .ensures),
-      c5 .before .before .before .before .before .before .before .before .pre,
-    ))
-    (λ c κs.
-    let c6 = c .before .before .before .before .before .before in
-    omega (
-      arith,
-      rw (c6 .first2 .given .1) at (c6 .before .before .before .before .chain .ensures),
-      c6 .before .before .before .before .before .before .before .before .pre,
-      c6 .before .before .before .before .chain .kept,
-    ))
+    c5 .before .before .loop .inv .whole _ _ (joins-stuck chains (rw (c .before .part .given .1) at (c5 .term .ensures))))
+    (λ c. search needs)
+    (λ c κs. search needs)
+    (λ c. search needs)
     (λ c.
-    omega (
-      arith,
-      inside _ _ (c .before .before .before .before .before .before .before .peek .ensures)
-          (omega (arith, c .before .before .before .before .before .before .if1 .taken)),
-    ))
-    (λ c κs.
     let c7 = c .before .before .before .before .before .before .before in
-    let c14 = c7 .before .before .before .before .before .before .before in
+    c7 .before .before .loop .inv .whole _ _
+    (joins-part chains (rw (c .before .before .before .part2 .given .1) at (c7 .term .ensures)) (c .before .peek .ensures) (c .if1 .taken)))
+    (λ c κs.
+    let c3 = c .before .before .before in
+    let c7 = c3 .before .before .before .before in
+    omega (arith, rw (c3 .part2 .given .1) at (c7 .term .ensures), c7 .before .before .loop .inv))
+    (λ c κs. search needs)
+    (λ c κs.
+    let c6 = c .before .before .before .before .before .before in
+    let c10 = c6 .before .before .before .before in
     omega (
       arith,
-      inside _ _ (c7 .before .peek .ensures) (omega (arith, c7 .if1 .taken)),
-      rw (c7 .before .before .before .first2 .given .1) at (c14 .chain .ensures),
-      c14 .before .before .before .before .pre,
-      c14 .chain .kept,
-      c .before .before .before .retarget .kept,
+      rw (c6 .part2 .given .1) at (c10 .term .ensures),
+      c10 .term .kept,
+      c10 .before .before .loop .inv,
     ))
-    (λ c. search needs)
-    (λ c. joins-stuck conditions (rw (c .before .first .given .1) at (c .before .before .before .before .before .chain .ensures)))
-    (λ c. search needs)
     (λ c.
     let c6 = c .before .before .before .before .before .before in
-    let c11 = c6 .before .before .before .before .before in
-    let c17 = c11 .before .before .before .before .before .before in
-    joins-more conditions (c17 .before .before .before .before .pre .1) (rw (c11 .before .before .first2 .given .1) at (c17 .chain .ensures))
-    (c11 .peek .ensures) (c6 .before .before .before .before .if1 .taken)
-    (rw (c6 .before .later .ensures, c6 .before .before .verdict .ensures) at (c6 .retarget .ensures)) (c .before .before .condition .ensures))
+    omega (arith, inside _ _ (c6 .before .peek .ensures) (omega (arith, c6 .if1 .left))))
+    (λ c.
+    let c6 = c .before .before .before .before .before .before in
+    let c13 = c6 .before .before .before .before .before .before .before in
+    omega (
+      arith,
+      inside _ _ (c6 .before .peek .ensures) (omega (arith, c6 .if1 .left)),
+      rw (c6 .before .before .before .part2 .given .1) at (c13 .term .ensures),
+      c13 .before .before .loop .inv,
+    ))
+    (λ c.
+    let c2 = c .before .before in
+    let c6 = c2 .before .before .before .before in
+    let c13 = c6 .before .before .before .before .before .before .before in
+    joins-on chains (c13 .before .before .loop .inv) (rw (c6 .before .before .before .part2 .given .1) at (c13 .term .ensures))
+    (c6 .before .peek .ensures) (c6 .if1 .left)
+    (rw (c2 .before .before .before .later .ensures, c2 .before .before .verdict .ensures) at (c2 .retarget .ensures))
+    (omega (arith, c2 .retarget .kept, c13 .term .kept))))
+    (λ t. condition-lts.spec (condition-claims t) (condition-at t) condition.Post condition-Inv condition-loop-μ
+    (λ c. continues (c .before .before .pre .1))
+    (λ c κs. search needs)
+    (λ c. search needs)
     (λ c. search needs)
     (λ c.
-    joins-part conditions
-    (rw (c .before .before .before .first2 .given .1) at (c .before .before .before .before .before .before .before .chain .ensures))
-    (c .before .peek .ensures) (c .if1 .left)))
+    let c5 = c .before .before .before .before .before in
+    c5 .before .before .loop .inv .whole _ _ (joins-stuck conditions (rw (c .before .part .given .1) at (c5 .chain .ensures))))
+    (λ c. search needs)
+    (λ c κs. search needs)
+    (λ c. search needs)
+    (λ c.
+    let c7 = c .before .before .before .before .before .before .before in
+    c7 .before .before .loop .inv .whole _ _
+    (joins-part conditions (rw (c .before .before .before .part2 .given .1) at (c7 .chain .ensures)) (c .before .peek .ensures) (c .if1 .taken)))
+    (λ c κs.
+    let c3 = c .before .before .before in
+    let c7 = c3 .before .before .before .before in
+    omega (arith, rw (c3 .part2 .given .1) at (c7 .chain .ensures), c7 .before .before .loop .inv))
+    (λ c κs. search needs)
+    (λ c κs.
+    let c6 = c .before .before .before .before .before .before in
+    let c10 = c6 .before .before .before .before in
+    omega (
+      arith,
+      rw (c6 .part2 .given .1) at (c10 .chain .ensures),
+      c10 .chain .kept,
+      c10 .before .before .loop .inv,
+    ))
+    (λ c.
+    let c6 = c .before .before .before .before .before .before in
+    omega (arith, inside _ _ (c6 .before .peek .ensures) (omega (arith, c6 .if1 .left))))
+    (λ c.
+    let c6 = c .before .before .before .before .before .before in
+    let c13 = c6 .before .before .before .before .before .before .before in
+    omega (
+      arith,
+      inside _ _ (c6 .before .peek .ensures) (omega (arith, c6 .if1 .left)),
+      rw (c6 .before .before .before .part2 .given .1) at (c13 .chain .ensures),
+      c13 .before .before .loop .inv,
+    ))
+    (λ c.
+    let c2 = c .before .before in
+    let c6 = c2 .before .before .before .before in
+    let c13 = c6 .before .before .before .before .before .before .before in
+    joins-on conditions (c13 .before .before .loop .inv) (rw (c6 .before .before .before .part2 .given .1) at (c13 .chain .ensures))
+    (c6 .before .peek .ensures) (c6 .if1 .left)
+    (rw (c2 .before .before .before .later .ensures, c2 .before .before .verdict .ensures) at (c2 .retarget .ensures))
+    (omega (arith, c2 .retarget .kept, c13 .chain .kept))))
     (λ t. term-lts.spec (term-claims t) (term-at t) term.Post
     (λ c κs. search needs)
     (λ c. search needs)
