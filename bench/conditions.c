@@ -1,0 +1,187 @@
+#define _GNU_SOURCE
+#include "conditions.h"
+#include <stdarg.h>
+#include <stdio.h>
+#include <stdlib.h>
+#include <string.h>
+
+struct condition measured[CONDITIONS], deep[CONDITIONS];
+
+static const struct item counters[] = {{"A", 3, 4, 0, "0500"},
+                                       {"B", 3, 4, 0, "0100"},
+                                       {"C", 3, 4, 0, "0900"},
+                                       {"D", 3, 4, 0, "0300"},
+                                       {"X", 3, 5, 0, "12345"},
+                                       {0}};
+/* Negative values have a separate sign here: with the sign in the last byte GnuCOBOL takes hex 70 for minus, not 40. */
+static const struct item mixed[] = {
+    {"A", 3, 6, 2, "050000"}, {"B", 3, 4, 0, "0100"}, {"C", 4, 5, 1, "09000"}, {"D", 5, 4, 0, "+300"}, {0}};
+static const struct item logbook[] = {{"TAG", 2, 6, 0, "REPAIR"},
+                                      {"HOURS", 3, 5, 1, "01234"},
+                                      {"WARRANTY", 3, 4, 0, "2000"},
+                                      {"BALANCE", 4, 7, 2, "0012550"},
+                                      {"DRIFT", 5, 4, 1, "-024"},
+                                      {"KEEPER", 1, 20, 0, "IVANOVA "},
+                                      {0}};
+static const struct item long_numbers[] = {{"A", 3, 18, 18, "000000000000000001"},
+                                           {"B", 4, 18, 18, "000000000000000002"},
+                                           {"C", 5, 19, 18, "-000000000000000001"},
+                                           {"D", 6, 19, 17, "000000000000000001+"},
+                                           {0}};
+static const struct item groups[] = {{"A", 0, 65535, 0, "LOGBOOK "}, {"B", 0, 65535, 0, "LOGBOOK "}, {0}};
+static const struct item blank[] = {{"A", 3, 18, 0, " "}, {0}};
+static struct item texts[65]; /* A and T1 to T63, all the same */
+
+/* ---- Tokens and tables from text ---- */
+
+static const char *const words[] = {"(", ")", "NOT", "AND", "OR", ">", "<", "=", ">=", "<=", "NUMERIC", "ALPHABETIC",
+                                    "ALPHABETIC-LOWER", "ALPHABETIC-UPPER", "POSITIVE", "NEGATIVE", "ZERO"};
+
+static void put_row(uint32_t *table, size_t *numbers, uint32_t kind, size_t offset, size_t size, uint32_t scale)
+{
+    uint32_t row[] = {kind, (uint32_t)offset, (uint32_t)size, scale};
+    memcpy(table + *numbers, row, sizeof row);
+    *numbers += 4;
+}
+
+/* A new row of the literal table: 'text', 12.5 or -12.5. */
+static uint32_t literal(struct condition *c, const char *word)
+{
+    size_t start = c->byte_count;
+    uint32_t scale = 0, kind = *word == '\'' ? 2 : *word == '-' || *word == '+' ? 5 : 3;
+    for (const char *s = word; *s; s++)
+        if (*s == '.' && kind != 2)
+            scale = (uint32_t)strlen(s + 1);
+        else if (*s != '\'')
+            c->bytes[c->byte_count++] = (uint8_t)*s;
+    put_row(c->literals, &c->literal_numbers, kind, start, c->byte_count - start, scale);
+    return 65536 + (uint32_t)c->literal_numbers / 4 - 1;
+}
+
+static uint32_t token(struct condition *c, const char *word)
+{
+    for (uint32_t i = 0; i < sizeof words / sizeof *words; i++)
+        if (!strcmp(word, words[i]))
+            return 4 * 65536 + i;
+    for (uint32_t i = 0; c->given[i].name; i++)
+        if (!strcmp(word, c->given[i].name))
+            return i;
+    if (word[0] == 'S' && word[2] == '-')
+        return (strcmp(word + 3, "ON") ? 3 : 2) * 65536 + (uint32_t)(word[1] - '0');
+    return literal(c, word);
+}
+
+static struct condition *add(struct condition *list, const char *name, const struct item *given, const char *text)
+{
+    struct condition *c = list;
+    while (c->name)
+        c++;
+    c->name = name;
+    c->given = given;
+    c->text = text;
+    for (const struct item *i = given; i->name; i++) {
+        put_row(c->items, &c->item_numbers, i->kind, c->record_size, i->size, i->scale);
+        c->record = realloc(c->record, c->record_size + i->size);
+        for (size_t k = 0; k < i->size; k++)
+            c->record[c->record_size++] = (uint8_t)i->content[k % strlen(i->content)];
+    }
+    char *rest = strdup(text);
+    for (char *word = strtok(rest, " "); word; word = strtok(NULL, " "))
+        c->tokens[c->token_count++] = token(c, word);
+    free(rest);
+    return c;
+}
+
+/* Rows that are not used, up to 64 in both tables. */
+static void fill_tables(struct condition *c)
+{
+    while (c->item_numbers < 256)
+        put_row(c->items, &c->item_numbers, 0, 0, c->record_size, 0);
+    while (c->literal_numbers < 256)
+        literal(c, "-123456789012345678");
+}
+
+/* ---- The conditions ---- */
+
+static char *format(const char *shape, ...)
+{
+    char *made;
+    va_list rest;
+    va_start(rest, shape);
+    if (vasprintf(&made, shape, rest) < 0)
+        abort();
+    va_end(rest);
+    return made;
+}
+
+static char *times(int count, const char *piece)
+{
+    char *made = calloc((size_t)count + 1, strlen(piece) + 1);
+    while (count-- > 0)
+        strcat(made, piece);
+    return made;
+}
+
+static void add_measured(void)
+{
+    const char *guard = "X NUMERIC AND X > A", *case_1 = "A > B AND NOT < C OR D";
+    add(measured, "typical: X NUMERIC AND X > A", counters, guard);
+    add(measured, "typical: case 1, unsigned of one size", counters, case_1);
+    add(measured, "typical: case 1, sizes, scales, signs", mixed, case_1);
+    add(measured, "typical: logbook rule, 6 rows", logbook,
+        "TAG = 'REPAIR' AND HOURS NUMERIC AND HOURS > 100.5 AND < WARRANTY AND ( BALANCE NEGATIVE OR DRIFT > -2.5 )");
+    add(measured, "typical: one text and ALPHABETIC", logbook, "TAG NOT = 'ENTRY' AND KEEPER ALPHABETIC");
+
+    /* From here on nearly all simple conditions are judged. Where GnuCOBOL compares by memcmp, the objects differ: else the C
+     * compiler behind it would judge one relation for all that are the same. */
+    fill_tables(add(measured, "worst: the first, 64 items, 64 literals", counters, guard));
+    add(measured, "worst: 127-fold OR, 4 digits", counters, format("X = B%s", times(63, " OR C OR D")));
+    add(measured, "worst: 127-fold OR, 18 digits, scale 18", long_numbers, format("A = B%s", times(63, " OR C OR D")));
+    add(measured, "worst: 128-fold OR of switches", counters, format("S0-ON%s", times(127, " OR S1-ON")));
+    add(measured, "worst: brackets 16 deep", counters, format("%sX > B%s", times(16, "X < C OR NOT ( "), times(16, " )")));
+    add(measured, "worst: 256 tokens, each target turned often", counters,
+        format("%sNOT S0-OFF%s%s", times(16, "NOT ( "), times(71, " OR S1-ON"), times(16, " AND S2-ON OR S3-ON )")));
+    char *same = "A = T1";
+    for (int i = 2; i < 64; i++)
+        same = format("%s AND T%d", same, i);
+    add(measured, "worst: 63-fold AND, 256 characters", texts, same);
+    add(measured, "worst: 85-fold AND, 256 ALPHABETIC", texts, format("A ALPHABETIC%s", times(84, " AND T1 ALPHABETIC")));
+    add(measured, "worst: groups of 65,535", groups, "A = B");
+}
+
+static void add_deep(void)
+{
+    const char *closed = times(16, " )");
+    add(deep, "case 1", counters, "A > B AND NOT < C OR D");
+    add(deep, "16 brackets", counters, format("%sS0-ON%s", times(16, "( "), closed));
+    add(deep, "16 of NOT (", counters, format("%sS0-ON%s", times(16, "NOT ( "), closed));
+    add(deep, "16 of S1-ON OR (, then 96-fold OR", counters,
+        format("%sS1-ON%s%s", times(16, "S1-ON OR ( "), times(95, " OR S1-ON"), closed));
+    add(deep, "16 of S0-OFF AND NOT (, then 88-fold AND", counters,
+        format("%sS0-OFF%s%s", times(16, "S0-OFF AND NOT ( "), times(87, " AND S0-OFF"), closed));
+    add(deep, "16 brackets, then 112-fold AND", counters,
+        format("%sS0-OFF%s%s", times(16, "( "), times(111, " AND S0-OFF"), closed));
+    add(deep, "128-fold OR", counters, format("S0-ON%s", times(127, " OR S1-ON")));
+    add(deep, "128-fold AND", counters, format("S0-OFF%s", times(127, " AND S1-OFF")));
+    add(deep, "127-fold OR, abbreviated", counters, format("A = B%s", times(63, " OR C OR D")));
+    add(deep, "127-fold AND, abbreviated", counters, format("A NOT = B%s", times(63, " AND C AND D")));
+    add(deep, "18 digits, scale 18", long_numbers, "B < C");
+    add(deep, "256 characters", texts, "A = T1");
+    add(deep, "groups of 65,535", groups, "A = B");
+    add(deep, "refused: 17 brackets", counters, format("%sS0-ON%s", times(17, "( "), times(17, " )")));
+    add(deep, "refused: 256 open brackets", counters, times(256, "( "));
+    add(deep, "refused: 128 of NOT (", counters, times(128, "NOT ( "));
+    add(deep, "refused: 64 of S1-ON OR NOT (", counters, times(64, "S1-ON OR NOT ( "));
+    add(deep, "refused: 256 operands", counters, times(256, "A "));
+    add(deep, "refused: 257 tokens", counters, times(257, "( "));
+    add(deep, "refused: typing", logbook, "TAG = KEEPER AND HOURS");
+    add(deep, "refused: invalid data", blank, "A NUMERIC OR A ZERO");
+}
+
+void make_conditions(void)
+{
+    for (int i = 0; i < 64; i++)
+        texts[i] = (struct item){i ? format("T%d", i) : "A", 2, 256, 0, "LOGBOOK "};
+    add_measured();
+    add_deep();
+}

@@ -1,0 +1,32 @@
+/* The conditions that are measured. Each is written once, as COBOL text over named items: its tokens and tables for the library and
+ * its COBOL program (cobol.c) are both made from that. */
+#include <stddef.h>
+#include <stdint.h>
+
+struct item {
+    const char *name;
+    uint32_t kind, size, scale; /* as in a row of the item table */
+    const char *content;        /* repeated up to the size */
+};
+
+struct condition {
+    const char *name;
+    const struct item *given; /* up to one without a name; they lie in the record one after the other */
+    const char *text;         /* words apart by a space; text literals in ' and without spaces; switches as S0-ON, S0-OFF */
+
+    /* what the library takes */
+    uint32_t items[256], literals[256], tokens[512];
+    size_t item_numbers, literal_numbers, token_count;
+    uint8_t bytes[2048], *record;
+    size_t byte_count, record_size;
+
+    /* for whoever calls the library */
+    uint32_t plan[640];
+    size_t plan_numbers;
+};
+
+enum { CONDITIONS = 32 };
+extern struct condition measured[CONDITIONS]; /* beside COBOL; up to one without a name */
+extern struct condition deep[CONDITIONS];     /* what could need much stack, refused conditions too */
+
+void make_conditions(void);
