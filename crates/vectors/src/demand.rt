@@ -1,0 +1,68 @@
+// Demand 3 on a case, by the calls themselves: where a plan is written, its run answers as judge does, expand succeeds, and the
+// expanded form, if at most 256 tokens, has the same plan.
+use crate::answer::of_verdict;
+use crate::answer::same;
+use crate::lent;
+use crate::parts::TOKENS;
+use crate::parts::front;
+use crate::parts::part;
+use tables::Verdict;
+use tables::Written;
+
+// Room for every expanded form (634 tokens) and every plan.
+const ENOUGH: usize = 640;
+
+fn same_numbers(one: &[u32], other: &[u32]) -> bool {
+    if one.len() != other.len() {
+        return false;
+    }
+    let mut i: usize = 0;
+    while i < one.len() {
+        if one[i] != other[i] {
+            return false;
+        }
+        i += 1;
+    }
+    true
+}
+
+fn has_plan(words: &[u32], bytes: &[u8], tokens: &[u32], rows: &[u32]) -> bool {
+    let mut again = [0u32; ENOUGH];
+    let planned = lent::plan(words, bytes, tokens, &mut again);
+    match planned {
+        Written::Count(n) => same_numbers(front(&again, n), rows),
+        Written::Refused(_) => false,
+    }
+}
+
+fn expanded_has_plan(words: &[u32], bytes: &[u8], rows: &[u32]) -> bool {
+    let mut form = [0u32; ENOUGH];
+    let expanded = lent::expand(words, bytes, &mut form);
+    match expanded {
+        Written::Count(n) => {
+            if n > 256 {
+                return true;
+            }
+            has_plan(words, bytes, front(&form, n), rows)
+        }
+        Written::Refused(_) => false,
+    }
+}
+
+fn of_plan<'a>(words: &[u32], bytes: &'a [u8], record: &'a [u8], rows: &[u32]) -> bool {
+    let judged = lent::judge(words, bytes, record);
+    let ran = lent::run(words, bytes, rows, record);
+    if same(of_verdict(ran), of_verdict(judged)) {
+        return expanded_has_plan(words, bytes, rows);
+    }
+    false
+}
+
+pub fn holds<'a>(words: &[u32], bytes: &'a [u8], record: &'a [u8]) -> bool {
+    let mut rows = [0u32; ENOUGH];
+    let planned = lent::plan(words, bytes, part(words, TOKENS), &mut rows);
+    match planned {
+        Written::Count(n) => of_plan(words, bytes, record, front(&rows, n)),
+        Written::Refused(_) => true,
+    }
+}

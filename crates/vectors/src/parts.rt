@@ -1,0 +1,131 @@
+// The parts of a case, each a count and so many words: items, literals, literal bytes, tokens, plan, record. Behind them stand
+// the switch byte and how many numbers expand and plan have room for.
+
+// Room for the words of every case, and for the numbers of every output.
+pub const WORDS: usize = 2048;
+
+pub const ROOM: usize = 1024;
+
+pub const ITEMS: usize = 0;
+
+pub const LITERALS: usize = 1;
+
+pub const BYTES: usize = 2;
+
+pub const TOKENS: usize = 3;
+
+pub const PLAN: usize = 4;
+
+pub const RECORD: usize = 5;
+
+const PARTS: usize = 6;
+
+// The words behind the parts.
+const SWITCHES: usize = 0;
+
+pub const EXPAND_ROOM: usize = 1;
+
+pub const PLAN_ROOM: usize = 2;
+
+const SETTINGS: usize = 3;
+
+fn wide(x: u32) -> usize {
+    x as usize
+}
+
+// The first n numbers, or all.
+pub fn front(numbers: &[u32], n: usize) -> &[u32] {
+    if n <= numbers.len() {
+        return &numbers[0..n];
+    }
+    numbers
+}
+
+// The first n bytes, or all.
+pub fn front_bytes(bytes: &[u8], n: usize) -> &[u8] {
+    if n <= bytes.len() {
+        return &bytes[0..n];
+    }
+    bytes
+}
+
+// The words from a place on.
+fn rest(words: &[u32], at: usize) -> &[u32] {
+    if at <= words.len() {
+        return &words[at..];
+    }
+    &words[0..0]
+}
+
+// Where the part that starts at a place ends; where the words end, if it is longer than they are.
+fn part_end(words: &[u32], at: usize) -> usize {
+    if at < words.len() {
+        let count = wide(words[at]);
+        if count < words.len() - at {
+            return at + 1 + count;
+        }
+    }
+    words.len()
+}
+
+// Where a part starts.
+fn start(words: &[u32], part: usize) -> usize {
+    let mut at: usize = 0;
+    let mut passed: usize = 0;
+    while passed < part {
+        at = part_end(words, at);
+        passed += 1;
+    }
+    at
+}
+
+pub fn part(words: &[u32], number: usize) -> &[u32] {
+    let at = start(words, number);
+    let end = part_end(words, at);
+    if at < end {
+        if end <= words.len() {
+            return &words[at + 1..end];
+        }
+    }
+    &words[0..0]
+}
+
+// One of the words behind the parts; more than any room where there is none.
+pub fn setting(words: &[u32], number: usize) -> usize {
+    let settings = rest(words, start(words, PARTS));
+    if number < settings.len() {
+        return wide(settings[number]);
+    }
+    WORDS
+}
+
+// Whether the parts and the words behind them are all, and the outputs have room.
+pub fn whole(words: &[u32]) -> bool {
+    if rest(words, start(words, PARTS)).len() == SETTINGS {
+        if setting(words, EXPAND_ROOM) <= ROOM {
+            return setting(words, PLAN_ROOM) <= ROOM;
+        }
+    }
+    false
+}
+
+pub fn switches(words: &[u32]) -> u8 {
+    (setting(words, SWITCHES) % 256) as u8
+}
+
+fn low_byte(word: u32) -> u8 {
+    (word % 256) as u8
+}
+
+// The bytes of words that hold one each; how many they are.
+pub fn narrow(words: &[u32], bytes: &mut [u8]) -> usize {
+    let mut i: usize = 0;
+    while i < words.len() {
+        if i >= bytes.len() {
+            return i;
+        }
+        bytes[i] = low_byte(words[i]);
+        i += 1;
+    }
+    i
+}
