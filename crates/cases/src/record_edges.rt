@@ -1,7 +1,7 @@
 // Refusals 12 and 13 at their edges, and values of many digits: judge on a record, and run on the plan that plan wrote.
 use crate::print;
-use crate::words::front;
 use crate::words;
+use crate::words::front;
 use conditions::calls;
 use tables::Written;
 

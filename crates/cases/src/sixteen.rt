@@ -1,8 +1,8 @@
 // Document 01, "Sixteen cases to prove together", with the tables and records of their proof: a line for each answer of expand,
 // plan and judge, and of run on the plan that was written.
 use crate::print;
-use crate::words::front;
 use crate::words;
+use crate::words::front;
 use conditions::calls;
 use tables::Written;
 

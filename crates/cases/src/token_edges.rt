@@ -1,7 +1,7 @@
 // Refusals 5 to 9 at their edges: expand, plan and judge on a condition, with a record of zeros.
 use crate::print;
-use crate::words::front;
 use crate::words;
+use crate::words::front;
 use conditions::calls;
 
 // a kind 3, b kind 3 of scale 1, c kind 2, d group, e kind 1, one byte each; f kind 5 of two bytes.

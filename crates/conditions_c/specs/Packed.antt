@@ -2,7 +2,7 @@
 -- or false, or the place.
 use mathlib.Core.Path.{_≡_}
 use mathlib.Core.List.{List}
-use Prim.Native.Nat.{ℕ, _+_, _*_, _%_, _^_}
+use Prim.Native.Nat.{ℕ, _+_, _*_, _^_}
 use Rattle.tables.specs.declared.Refusal.{Refusal}
 use Rattle.tables.specs.declared.Written.{Written}
 use Rattle.tables.specs.declared.Written.the-variants.{Count, Refused as Unwritten}
@@ -12,10 +12,10 @@ use Rattle.tables.specs.Refusals.{number, place}
 use Rattle.rules.specs.Calls.{Gives}
 
 abbrev pub refusalPacked : Refusal → ℕ
-refusalPacked refusal = number refusal * 2 ^ 32 + place refusal % 2 ^ 32
+refusalPacked refusal = number refusal * 2 ^ 32 + place refusal
 
 abbrev pub writtenPacked : Written → ℕ
-writtenPacked (Count n) = n % 2 ^ 32
+writtenPacked (Count n) = n
 writtenPacked (Unwritten refusal) = refusalPacked refusal
 
 abbrev pub verdictPacked : Verdict → ℕ

@@ -1,8 +1,11 @@
 // The calls for C and COBOL. A slice passes as a pointer and then a length. An answer is one number: the refusal's number in the
 // upper half (0: success), and in the lower half the count, 1 or 0 for true or false, or the refusal's place.
 ghost use mathlib.Core.Path.{_≡_};
+ghost use Prim.Native.Nat.{_≤_};
+ghost use Rattle.tables.specs.Refusals.{place};
 ghost use Rattle.tables.specs.Operands.{lend};
 ghost use Rattle.rules.specs.Calls.{expandGives, planGives, judgeGives, runGives};
+ghost use Rattle.rules.specs.Places.{Small, Modest};
 ghost use Rattle.conditions_c.specs.Packed.{refusalPacked, writtenPacked, verdictPacked, Leaves};
 use tables::Refusal;
 use tables::Verdict;
@@ -10,22 +13,26 @@ use tables::Written;
 use tables::refusals::number_of;
 use tables::refusals::place_of;
 
+// Every count and every place is at most 640, so that the halves stay apart.
 fn refusal_packed(refusal: Refusal) -> u64
+    requires { ⌜ place refusal ≤ 640 ⌝ }
     ensures { λ r. ⌜ r ≡ refusalPacked refusal ⌝ }
 {
-    number_of(refusal) as u64 * 4294967296 + place_of(refusal) as u64 % 4294967296
+    number_of(refusal) as u64 * 4294967296 + place_of(refusal) as u64
 }
 
 fn written_packed(written: Written) -> u64
+    requires { ⌜ Small written ⌝ }
     ensures { λ r. ⌜ r ≡ writtenPacked written ⌝ }
 {
     match written {
-        Written::Count(count) => count as u64 % 4294967296,
+        Written::Count(count) => count as u64,
         Written::Refused(refusal) => refusal_packed(refusal),
     }
 }
 
 fn verdict_packed(verdict: Verdict) -> u64
+    requires { ⌜ Modest verdict ⌝ }
     ensures { λ r. ⌜ r ≡ verdictPacked verdict ⌝ }
 {
     match verdict {

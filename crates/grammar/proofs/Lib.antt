@@ -10,6 +10,7 @@ pub mod Size
 pub mod Judging
 pub mod Segment
 pub mod Typed
+pub mod Sure
 pub mod Planned
 pub mod Lent
 pub mod Shapes

@@ -13,7 +13,7 @@ enum-known-verdict : tie.Need-enum-known-verdict
 enum-known-verdict c = search needs
 
 refusal-packed-requires : tie.Need-refusal-packed-requires
-refusal-packed-requires c κs = search needs
+refusal-packed-requires c κs = rw (c .before .verdict .given .1) at (c .before .before .before .pre)
 
 returns : tie.Need-returns
 returns c = search needs

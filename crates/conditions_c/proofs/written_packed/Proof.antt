@@ -10,7 +10,7 @@ enum-known-written-2 : tie.Need-enum-known-written-2
 enum-known-written-2 c = search needs
 
 refusal-packed-requires : tie.Need-refusal-packed-requires
-refusal-packed-requires c κs = search needs
+refusal-packed-requires c κs = rw (c .before .written2 .given .1) at (c .before .before .before .pre)
 
 returns : tie.Need-returns
 returns c = rw (c .before .written .given .1)

@@ -5,7 +5,7 @@ use native.Mathlib.Omega.{arith}
 use borrow.Author.Needs.{needs}
 use Rattle.tables.specs.Operands.{lend}
 use Rattle.values.specs.Truth.{outcome}
-use Rattle.conditions.proofs.Running.{sure, readable, Going, start, goes-true, goes-false, stops, ends-true, ends-false}
+use Rattle.conditions.proofs.Running.{certain, readable, Going, start, goes-true, goes-false, stops, ends-true, ends-false}
 use Rattle.conditions.proofs.runner.run_rows.Statement.{statement}
 use Rattle.conditions.proofs.runner.run_rows.Tie as tie
 
@@ -39,7 +39,7 @@ wide-requires-2 c κs = search needs
 loop-less : tie.Need-loop-less Inv-loop μ-loop
 loop-less c =
     let k = c .before .before .before .before .before .before .before in
-    let s = sure _ _ _ (k .before .before .before .before .before .before .pre) (k .loop .at) (k .loop .inv .inside (omega arith)) in
+    let s = certain _ _ _ (k .before .before .before .before .before .before .pre) (k .loop .at) (k .loop .inv .inside (omega arith)) in
     omega (arith, s .holds .after, rw (c .before .before .before .before .plan-row .ensures) at (c .wide2 .ensures))
 
 loop-again : tie.Need-loop-again Inv-loop μ-loop
@@ -59,7 +59,7 @@ wide-requires-3 c κs = search needs
 loop-less-2 : tie.Need-loop-less-2 Inv-loop μ-loop
 loop-less-2 c =
     let k = c .before .before .before .before .before .before .before in
-    let s = sure _ _ _ (k .before .before .before .before .before .before .pre) (k .loop .at) (k .loop .inv .inside (omega arith)) in
+    let s = certain _ _ _ (k .before .before .before .before .before .before .pre) (k .loop .at) (k .loop .inv .inside (omega arith)) in
     omega (arith, s .fails .after, rw (c .before .before .before .before .plan-row .ensures) at (c .wide3 .ensures))
 
 loop-again-2 : tie.Need-loop-again-2 Inv-loop μ-loop

@@ -1,0 +1,264 @@
+-- No place is above 640, and no count: an answer fits one half of a 64-bit number.
+use mathlib.Core.Path.{_≡_, refl, sym, ap, _∙_}
+use mathlib.Core.Bool.{Bool, true, false, cond, _&&_}
+use mathlib.Core.List.{List, [], _∷_, _++_}
+use Prim.Native.Nat.{ℕ, zero, suc, _+_, _*_, _-_, _/_, _%_, _≤_, _<_}
+use native.Mathlib.Omega.{arith}
+use native.Mathlib.Decide.{ℕ-discrete, decLt}
+use lib.ListN.{length}
+use lib.Dec.{leb, eqb}
+use borrow.Author.Tests.{leb-true}
+use Rattle.tables.specs.declared.Refusal.{Refusal}
+use Rattle.tables.specs.declared.Refusal.the-variants.{ItemTable, ItemRow, LiteralTable, LiteralRow, TokenCount, Token, Grammar, Typing, Room, PlanRow as PlanFault, Record, Data}
+use Rattle.tables.specs.declared.Check.{Check}
+use Rattle.tables.specs.declared.Check.the-variants.{Sound, Refused}
+use Rattle.tables.specs.declared.Written.{Written}
+use Rattle.tables.specs.declared.Written.the-variants.{Count, Refused as Unwritten}
+use Rattle.tables.specs.declared.Outcome.{Outcome}
+use Rattle.tables.specs.declared.Outcome.the-variants.{True as Holds, False as Fails, Fault}
+use Rattle.tables.specs.declared.Verdict.{Verdict}
+use Rattle.tables.specs.declared.Verdict.the-variants.{True, False, Refused as Unjudged}
+use Rattle.tables.specs.Rows.{rowCount}
+use Rattle.tables.specs.Operands.{Lent}
+use Rattle.tables.specs.Refusals.{place, unless, firstFailing, firstOf}
+use Rattle.tables.specs.Tables.{lengthSound, itemTableCheck, itemRowCheck, literalTableCheck, literalRowCheck, tableLines, tokenCountCheck, tokenCheck, recordCheck}
+use Rattle.tables.proofs.Tests.{both}
+use Rattle.tables.proofs.Lines.{test-sound, line-last, lines-sound}
+use Rattle.typing.specs.Typing.{typed}
+use Rattle.values.specs.Truth.{outcome}
+use Rattle.grammar.specs.Grammar.{Tree, Derives, simple, negated, bracketed, both as chained, either}
+use Rattle.grammar.specs.Parser.{Result, parsed, stuck, Reading, accepted, refused, reading, read}
+use Rattle.grammar.specs.Depth.{depthCheck}
+use Rattle.grammar.specs.Typed.{typingFrom}
+use Rattle.grammar.specs.Judging.{Outcomes, leaves, when, at, judged}
+use Rattle.grammar.proofs.Reading.{sound, place as grammar-place}
+use Rattle.grammar.proofs.Depth.{depth-inside}
+use Rattle.grammar.proofs.Size.{few-rows, expanded-bound}
+use Rattle.grammar.proofs.Segment.{planned-length, follow-row, follow-true, follow-false}
+use Rattle.grammar.proofs.Sure.{some-rows, sure}
+use Rattle.grammar.specs.Expanded.{expanded}
+use Rattle.grammar.specs.Plan.{onTrue, onFalse, planned, planRow, planRows, planLengthSound, planCheck, follow, run}
+use Rattle.rules.specs.Places.{Small, Modest}
+use Rattle.rules.specs.Calls.{grammarCheck, earlier, typingCheck, conditionLines, roomCheck, writes, numbersOf, writing, expandGives, planGives, answers, treeAnswer, judgeGives, runGives}
+use Rattle.rules.proofs.Passing.{both-sound, passed, read-as, few-tokens as short-passed}
+
+-- a line that is none, or one whose place is at most 640
+abbrev Low : Check → Type 0
+Low Sound = Unit {0}
+Low (Refused refusal) = place refusal ≤ 640
+
+low-unless : (test : Bool) (refusal : Refusal) → place refusal ≤ 640 → Low (unless test refusal)
+low-unless true refusal h = tt
+low-unless false refusal h = h
+
+low-failing : (test : ℕ → Bool) (refusal : ℕ → Refusal) → ((k : ℕ) → place (refusal k) ≡ k) → (at n : ℕ) → at + n ≤ 640 →
+    Low (firstFailing test refusal at n)
+unfolding firstFailing
+low-failing test refusal h at zero l = tt
+low-failing test refusal h at (suc n) l = go (test at) (low-failing test refusal h (suc at) n (omega arith))
+  where
+    go : (b : Bool) → Low (firstFailing test refusal (suc at) n) → Low (cond b (firstFailing test refusal (suc at) n) (Refused (refusal at)))
+    go true g = g
+    go false g = omega (arith, h at)
+
+-- the first line that applies, each line looked at where those before it do not
+low-first : (line : Check) (lines : List Check) → Low line → (line ≡ Sound → Low (firstOf lines)) → Low (firstOf (line ∷ lines))
+unfolding firstOf
+low-first Sound lines h g = g refl
+low-first (Refused refusal) lines h g = h
+
+low-last : (line : Check) → Low line → Low (firstOf (line ∷ []))
+low-last line h = rw (line-last line) h
+
+-- a table has at most 64 rows
+few-of : (table : List ℕ) (refusal : Refusal) → unless (lengthSound table) refusal ≡ Sound → rowCount table ≤ 64
+few-of table refusal e =
+    let l : length table ≤ 256 = leb-true _ _ (both (eqb (length table % 4) 0) (leb (length table) 256) (test-sound _ refusal e) .1) in
+    omega arith
+
+-- 1 to 4, and lines after them
+low-tables : (lent : Lent) (others : List Check) → (rowCount (lent .items) ≤ 64 → Low (firstOf others)) → Low (firstOf (tableLines lent ++ others))
+low-tables lent others h =
+    low-first (itemTableCheck lent) _ (low-unless (lengthSound (lent .items)) ItemTable (omega arith)) (λ one.
+    let few = few-of (lent .items) ItemTable one in
+    low-first (itemRowCheck lent) _ (low-failing _ ItemRow (λ k. refl) 0 (rowCount (lent .items)) (omega arith)) (λ two.
+    low-first (literalTableCheck lent) _ (low-unless (lengthSound (lent .literals)) LiteralTable (omega arith)) (λ three.
+    low-first (literalRowCheck lent) _
+    (low-failing _ LiteralRow (λ k. refl) 0 (rowCount (lent .literals)) (omega (arith, few-of (lent .literals) LiteralTable three)))
+    (λ four. h few))))
+
+low-record : (lent : Lent) (content : List ℕ) → rowCount (lent .items) ≤ 64 → Low (recordCheck lent content)
+low-record lent content few = low-failing _ Record (λ k. refl) 0 (rowCount (lent .items)) (omega arith)
+
+-- 7 and 8: places of the tokens, or the place after them
+low-earlier : (seven eight : Check) → Low seven → Low eight → Low (earlier seven eight)
+low-earlier Sound eight h g = g
+low-earlier (Refused seven) Sound h g = h
+low-earlier (Refused seven) (Refused eight) h g = pick (leb (place seven) (place eight))
+  where
+    pick : (b : Bool) → Low (cond b (Refused seven) (Refused eight))
+    pick true = h
+    pick false = g
+
+low-grammar : (tokens : List ℕ) → length tokens ≤ 256 → Low (grammarCheck (read tokens))
+low-grammar tokens l = go (read tokens) refl
+  where
+    go : (r : Reading) → read tokens ≡ r → Low (grammarCheck r)
+    go (accepted t) e = tt
+    go (refused at) e = omega (arith, grammar-place tokens at e .inside)
+
+low-depth : (tokens : List ℕ) → length tokens ≤ 256 → Low (depthCheck tokens)
+low-depth tokens l = go (depthCheck tokens) refl
+  where
+    go : (c : Check) → depthCheck tokens ≡ c → Low c
+    go Sound e = tt
+    go (Refused refusal) e = omega (arith, depth-inside tokens e)
+
+-- 9
+low-typing : (lent : Lent) (n : ℕ) (t : Tree) → n + leaves t ≤ 640 → Low (typingFrom lent n t)
+unfolding typingFrom leaves
+low-typing lent n (simple a r b) l = low-unless (typed lent a r b) (Typing n) (omega arith)
+low-typing lent n (negated t) l = low-typing lent n t l
+low-typing lent n (bracketed t) l = low-typing lent n t l
+low-typing lent n (chained t u) l =
+    low-first (typingFrom lent n t) _ (low-typing lent n t (omega arith)) (λ _. low-last _ (low-typing lent (n + leaves t) u (omega arith)))
+low-typing lent n (either t u) l =
+    low-first (typingFrom lent n t) _ (low-typing lent n t (omega arith)) (λ _. low-last _ (low-typing lent (n + leaves t) u (omega arith)))
+
+few-tokens : (tokens : List ℕ) → tokenCountCheck tokens ≡ Sound → length tokens ≤ 256
+few-tokens tokens e = leb-true _ _ (both (leb 1 (length tokens)) (leb (length tokens) 256) (test-sound _ TokenCount e) .1)
+
+-- 1 to 9, and a line after them that is low where none of them applies
+low-condition : (lent : Lent) (tokens : List ℕ) (last : Check) →
+    (rowCount (lent .items) ≤ 64 → length tokens ≤ 256 → Low last) → Low (firstOf (conditionLines lent tokens ++ last ∷ []))
+low-condition lent tokens last h =
+    low-tables lent _ (λ few.
+    low-first (tokenCountCheck tokens) _ (low-unless (leb 1 (length tokens) && leb (length tokens) 256) TokenCount (omega arith)) (λ five.
+    let short = few-tokens tokens five in
+    low-first (tokenCheck lent tokens) _ (low-failing _ Token (λ k. refl) 0 (length tokens) (omega arith)) (λ six.
+    low-first (earlier (grammarCheck (read tokens)) (depthCheck tokens)) _
+    (low-earlier (grammarCheck (read tokens)) (depthCheck tokens) (low-grammar tokens short) (low-depth tokens short)) (λ seven.
+    low-first (typingCheck lent (read tokens)) _ (typing short (read tokens) refl) (λ nine. low-last last (h few short))))))
+  where
+    typing : length tokens ≤ 256 → (r : Reading) → read tokens ≡ r → Low (typingCheck lent r)
+    typing short (accepted t) e = low-typing lent 0 t (omega (arith, few-rows (sound tokens t e) short))
+    typing short (refused at) e = tt
+
+-- a count or a place of a writing call
+small-writes : (line : Check) (numbers output : List ℕ) → Low line → (line ≡ Sound → length numbers ≤ 640) → Small (writes line numbers output .answer)
+small-writes Sound numbers output h g = g refl
+small-writes (Refused refusal) numbers output h g = h
+
+-- the numbers that a call makes of the tree of a sequence that passes, or none
+module _ (make : Tree → List ℕ) (few : (tokens : List ℕ) (t : Tree) → Derives tokens t → length tokens ≤ 256 → length (make t) ≤ 640) where
+  few-numbers : (tokens : List ℕ) → length tokens ≤ 256 → length (numbersOf make (read tokens)) ≤ 640
+  few-numbers tokens short = go (read tokens) refl
+    where
+      go : (r : Reading) → read tokens ≡ r → length (numbersOf make r) ≤ 640
+      go (accepted t) e = few tokens t (sound tokens t e) short
+      go (refused at) e = omega arith
+
+  small-writing : (lent : Lent) (tokens output : List ℕ) → Small (writing make lent tokens output .answer)
+  small-writing lent tokens output =
+      let numbers = numbersOf make (read tokens) in
+      small-writes _ numbers output
+      (low-condition lent tokens (roomCheck numbers output) (λ few-items short.
+      low-unless (leb (length numbers) (length output)) (Room (length numbers)) (few-numbers tokens short)))
+      (λ e.
+      let (t, p) = passed lent tokens (both-sound (conditionLines lent tokens) (roomCheck numbers output ∷ []) e .0) in
+      few-numbers tokens (short-passed p))
+
+pub expand-small : (lent : Lent) (tokens output : List ℕ) → Small (expandGives lent tokens output .answer)
+unfolding expandGives
+expand-small = small-writing expanded (λ tokens t h short. omega (arith, expanded-bound h short))
+
+pub plan-small : (lent : Lent) (tokens output : List ℕ) → Small (planGives lent tokens output .answer)
+unfolding planGives
+plan-small = small-writing planned (λ tokens t h short. omega (arith, planned-length t, few-rows h short))
+
+-- a place of judge or run
+modest-answers : (line : Check) (verdict : Verdict) → Low line → (line ≡ Sound → Modest verdict) → Modest (answers line verdict)
+modest-answers Sound verdict h g = g refl
+modest-answers (Refused refusal) verdict h g = h
+
+-- 13
+modest-at : (n : ℕ) (o : Outcome) → n ≤ 640 → Modest (at n o)
+unfolding at
+modest-at n Holds l = tt
+modest-at n Fails l = tt
+modest-at n Fault l = l
+
+modest-when : (v a b : Verdict) → Modest v → Modest a → Modest b → Modest (when v a b Unjudged)
+unfolding when
+modest-when True a b h p q = p
+modest-when False a b h p q = q
+modest-when (Unjudged refusal) a b h p q = h
+
+modest-judged : (out : Outcomes) (n : ℕ) (t : Tree) → n + leaves t ≤ 640 → Modest (judged out n t)
+unfolding judged leaves
+modest-judged out n (simple a r b) l = modest-at n (out a r b) (omega arith)
+modest-judged out n (negated t) l = modest-when (judged out n t) False True (modest-judged out n t l) tt tt
+modest-judged out n (bracketed t) l = modest-judged out n t l
+modest-judged out n (chained t u) l =
+    modest-when (judged out n t) (judged out (n + leaves t) u) False (modest-judged out n t (omega arith)) (modest-judged out (n + leaves t) u (omega arith)) tt
+modest-judged out n (either t u) l =
+    modest-when (judged out n t) True (judged out (n + leaves t) u) (modest-judged out n t (omega arith)) tt (modest-judged out (n + leaves t) u (omega arith))
+
+pub judge-modest : (lent : Lent) (tokens content : List ℕ) (switches : ℕ) → Modest (judgeGives lent tokens content switches)
+unfolding judgeGives
+judge-modest lent tokens content switches =
+    modest-answers _ (treeAnswer lent content switches (read tokens))
+    (low-condition lent tokens (recordCheck lent content) (λ few short. low-record lent content few))
+    (λ e.
+    let (t, p) = passed lent tokens (both-sound (conditionLines lent tokens) (recordCheck lent content ∷ []) e .0) in
+    rw (read-as p) (modest-judged _ 0 t (omega (arith, few-rows (p .accepts .derives) (short-passed p)))))
+
+-- a run of a sound plan comes to its rows only
+module _ (lent : Lent) (plan : List ℕ) (s : planCheck lent plan ≡ Sound) (out : Outcomes) where
+  abbrev Near : ℕ → Type 0
+  Near k = (k ≤ onTrue) × (k < onFalse → k < planRows plan)
+
+  ended : (m k : ℕ) → k ≤ onTrue → (k < onFalse → ⊥) → Modest (follow out (planRow plan) m k)
+  ended m k top h = by (ℕ-discrete k onTrue)
+    where
+      by : Dec (k ≡ onTrue) → Modest (follow out (planRow plan) m k)
+      by (yes e) = rw (e, follow-true out (planRow plan) m) tt
+      by (no n) = let e : k ≡ onFalse = omega arith in rw (e, follow-false out (planRow plan) m) tt
+
+  row-modest : (m k : ℕ) → ((j : ℕ) → Near j → Modest (follow out (planRow plan) m j)) → k < onFalse → k < planRows plan →
+      Modest (follow out (planRow plan) (suc m) k)
+  row-modest m k rest l h =
+      let r = sure lent plan s k h in
+      rw (follow-row out (planRow plan) m k l)
+      (modest-when _ _ _ (modest-at k _ (omega (arith, some-rows lent plan s)))
+      (rest (planRow plan k .holds) (r .holds .top, r .holds .inside))
+      (rest (planRow plan k .fails) (r .fails .top, r .fails .inside)))
+
+  modest-follow : (m k : ℕ) → Near k → Modest (follow out (planRow plan) m k)
+  unfolding follow
+  modest-follow zero k near = go (eqb k onTrue)
+    where
+      go : (b : Bool) → Modest (cond b True False)
+      go true = tt
+      go false = tt
+  modest-follow (suc m) k near = by (decLt k onFalse) (modest-follow m)
+    where
+      by : Dec (k < onFalse) → ((j : ℕ) → Near j → Modest (follow out (planRow plan) m j)) → Modest (follow out (planRow plan) (suc m) k)
+      by (yes l) rest = row-modest m k rest l (near .1 l)
+      by (no l) rest = ended (suc m) k (near .0) l
+
+low-plan : (lent : Lent) (plan : List ℕ) → Low (planCheck lent plan)
+low-plan lent plan =
+    low-first (unless (planLengthSound plan) (PlanFault 0)) _ (low-unless (planLengthSound plan) (PlanFault 0) (omega arith)) (λ e.
+    let l : planRows plan ≤ 128 =
+    leb-true _ _ (both (eqb (length plan % 5) 0 && leb 1 (planRows plan)) (leb (planRows plan) 128) (test-sound _ (PlanFault 0) e) .1) in
+    low-last _ (low-failing _ PlanFault (λ k. refl) 0 (planRows plan) (omega arith)))
+
+pub run-modest : (lent : Lent) (plan content : List ℕ) (switches : ℕ) → Modest (runGives lent plan content switches)
+unfolding runGives run
+run-modest lent plan content switches =
+    modest-answers _ (run (outcome lent content switches) plan)
+    (low-tables lent _ (λ few. low-first (planCheck lent plan) _ (low-plan lent plan) (λ s. low-last _ (low-record lent content few))))
+    (λ e.
+    let s = lines-sound _ (both-sound (tableLines lent) (planCheck lent plan ∷ recordCheck lent content ∷ []) e .1) .0 in
+    modest-follow lent plan s (outcome lent content switches) (planRows plan) 0 (omega arith, λ _. omega (arith, some-rows lent plan s)))

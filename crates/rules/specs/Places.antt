@@ -1,0 +1,19 @@
+-- Every count and every place is at most 640 (proofs/Places.antt): 640 numbers hold the longest plan, 634 the longest expanded
+-- form, and no table, condition or plan has as many places.
+use Prim.Native.Nat.{_≤_}
+use Rattle.tables.specs.declared.Written.{Written}
+use Rattle.tables.specs.declared.Written.the-variants.{Count, Refused as Unwritten}
+use Rattle.tables.specs.declared.Verdict.{Verdict}
+use Rattle.tables.specs.declared.Verdict.the-variants.{True, False, Refused as Unjudged}
+use Rattle.tables.specs.Refusals.{place}
+
+-- of a writing call
+abbrev pub Small : Written → Type 0
+Small (Count n) = n ≤ 640
+Small (Unwritten refusal) = place refusal ≤ 640
+
+-- of judge and run
+abbrev pub Modest : Verdict → Type 0
+Modest True = Unit {0}
+Modest False = Unit {0}
+Modest (Unjudged refusal) = place refusal ≤ 640
