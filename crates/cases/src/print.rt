@@ -10,7 +10,7 @@ pub fn text(bytes: &[u8]) {
     io::write_all(STDOUT_FILENO, bytes);
 }
 
-pub fn number(n: usize) {
+fn number(n: usize) {
     io::print_decimal(STDOUT_FILENO, n as u64);
 }
 
@@ -20,7 +20,7 @@ fn next_number(n: u32) {
     io::print_decimal(STDOUT_FILENO, n as u64);
 }
 
-pub fn numbers(all: &[u32]) {
+fn numbers(all: &[u32]) {
     let mut i: usize = 0;
     while i < all.len() {
         next_number(all[i]);
@@ -28,38 +28,40 @@ pub fn numbers(all: &[u32]) {
     }
 }
 
-// A space and a byte as two hexadecimal digits.
-fn next_byte(byte: u8) {
-    text(b" ");
-    io::print_hex(STDOUT_FILENO, byte as u64, 2);
-}
-
-pub fn bytes(all: &[u8]) {
-    let mut i: usize = 0;
-    while i < all.len() {
-        next_byte(all[i]);
-        i += 1;
-    }
-}
-
-pub fn refusal(refused: Refusal) {
+fn refusal(refused: Refusal) {
     text(b"refused ");
     number(number_of(refused) as usize);
     text(b" at ");
     number(place_of(refused));
 }
 
-pub fn written(given: Written) {
+fn count(given: Written) {
     match given {
         Written::Count(n) => number(n),
         Written::Refused(refused) => refusal(refused),
     }
 }
 
-pub fn verdict(given: Verdict) {
+pub fn written(call: &[u8], given: Written, output: &[u32]) {
+    text(call);
+    number(output.len());
+    text(b": ");
+    count(given);
+    text(b", then");
+    numbers(output);
+    text(b"\n");
+}
+
+fn truth(given: Verdict) {
     match given {
         Verdict::True => text(b"true"),
         Verdict::False => text(b"false"),
         Verdict::Refused(refused) => refusal(refused),
     }
+}
+
+pub fn verdict(call: &[u8], given: Verdict) {
+    text(call);
+    truth(given);
+    text(b"\n");
 }

@@ -1,5 +1,5 @@
-// Conditions in words, and their tokens: a to z are items 0 to 25, A to Z literals 0 to 25, s0 to s9 a switch that is on, o0 to
-// o9 one that is off; the other words are those of document 01.
+// Words and their numbers: a to z are items 0 to 25, A to Z literals 0 to 25, s0 to s9 a switch that is on, o0 to o9 one that is
+// off; the other words of a condition are those of document 01.
 ghost use Prim.Native.Nat.{_≤_};
 ghost use lib.ListN.{length};
 
@@ -60,7 +60,7 @@ fn of_sixteen(letter: u8) -> u32 {
     262157
 }
 
-fn token_of(word: &[u8]) -> u32 {
+fn token_of_word(word: &[u8]) -> u32 {
     match word.len() {
         0 => NONE,
         1 => of_one(word[0]),
@@ -70,14 +70,30 @@ fn token_of(word: &[u8]) -> u32 {
     }
 }
 
-// Where the word that begins at a place ends.
-fn word_end(text: &[u8], start: usize) -> usize
+// Its token; a decimal number is itself.
+pub fn token_of(word: &[u8]) -> u32 {
+    match first(word) {
+        b'0'..=b'9' => digits(word, 10),
+        _ => token_of_word(word),
+    }
+}
+
+// 0 where there is none.
+pub fn first(text: &[u8]) -> u8 {
+    if text.len() > 0 {
+        return text[0];
+    }
+    0
+}
+
+// Where a byte stands next, from a place on, or the end.
+pub fn find(text: &[u8], start: usize, byte: u8) -> usize
     requires { ⌜ start ≤ length (now text) ⌝ }
     ensures { λ r. ⌜ (start ≤ r) × (r ≤ length (now (text .entry))) ⌝ }
 {
     let mut at = start;
     while at < text.len() {
-        if text[at] == b' ' {
+        if text[at] == byte {
             return at;
         }
         at += 1;
@@ -85,42 +101,36 @@ fn word_end(text: &[u8], start: usize) -> usize
     at
 }
 
-// A number at a place that there is; the place after it.
-pub fn put(numbers: &mut [u32], at: usize, number: u32) -> usize {
-    if at < numbers.len() {
-        numbers[at] = number;
-        return at + 1;
+// 16 for a byte that is no digit.
+fn digit(byte: u8) -> u32 {
+    match byte {
+        b'0'..=b'9' => (byte - b'0') as u32,
+        b'a'..=b'f' => (byte - b'a') as u32 + 10,
+        _ => 16,
     }
-    at
 }
 
-// The tokens of a text, one space between two words, from a place on; the place after them.
-pub fn add(tokens: &mut [u32], from: usize, text: &[u8]) -> usize {
-    let mut count = from;
-    let mut at: usize = 0;
-    while at < text.len() {
-        let end = word_end(text, at);
-        count = put(tokens, count, token_of(&text[at..end]));
-        at = end + 1;
-    }
-    count
+fn low_word(x: u64) -> u32 {
+    (x % 4294967296) as u32
 }
 
-// The same text so many times.
-pub fn repeat(tokens: &mut [u32], from: usize, text: &[u8], times: usize) -> usize {
-    let mut count = from;
-    let mut done: usize = 0;
-    while done < times {
-        count = add(tokens, count, text);
-        done += 1;
+fn append(value: u32, digit: u32, radix: u32) -> u32 {
+    if radix == 16 {
+        return low_word(value as u64 * 16 + digit as u64);
     }
-    count
+    low_word(value as u64 * 10 + digit as u64)
 }
 
-// The first n numbers.
-pub fn front(numbers: &[u32], n: usize) -> &[u32] {
-    if n <= numbers.len() {
-        return &numbers[0..n];
+// The number that the digits of a text spell, radix 10 or 16; what is no digit is passed over.
+pub fn digits(text: &[u8], radix: u32) -> u32 {
+    let mut value: u32 = 0;
+    let mut i: usize = 0;
+    while i < text.len() {
+        let found = digit(text[i]);
+        if found < radix {
+            value = append(value, found, radix);
+        }
+        i += 1;
     }
-    numbers
+    value
 }

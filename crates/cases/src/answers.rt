@@ -1,0 +1,87 @@
+// The calls on what is lent: a line for each answer, with the whole output of expand and plan, which held 7 everywhere.
+use crate::print;
+use crate::store::ITEMS;
+use crate::store::LITERALS;
+use crate::store::PLAN;
+use crate::store::TOKENS;
+use crate::store::front;
+use crate::store::keep;
+use crate::store::part;
+use crate::store::switches;
+use conditions::calls;
+use tables::Verdict;
+use tables::Written;
+
+// The most numbers of an output.
+const ROOM: usize = 700;
+
+fn expand_in(store: &[u32], bytes: &[u8], output: &mut [u32]) -> Written {
+    let items = part(store, ITEMS);
+    let literals = part(store, LITERALS);
+    let tokens = part(store, TOKENS);
+    calls::expand(items, literals, bytes, tokens, output)
+}
+
+pub fn expand(store: &[u32], bytes: &[u8], room: usize) {
+    let mut output = [7u32; ROOM];
+    if room <= ROOM {
+        let lent = &mut output[0..room];
+        let given = expand_in(store, bytes, lent);
+        print::written(b"expand in ", given, lent);
+    }
+}
+
+fn plan_in(store: &[u32], bytes: &[u8], output: &mut [u32]) -> Written {
+    let items = part(store, ITEMS);
+    let literals = part(store, LITERALS);
+    let tokens = part(store, TOKENS);
+    calls::plan(items, literals, bytes, tokens, output)
+}
+
+// What is written is the plan to run from now on.
+fn plan_kept(store: &mut [u32], bytes: &[u8], output: &mut [u32]) {
+    let given = plan_in(store, bytes, output);
+    print::written(b"plan in ", given, output);
+    if let Written::Count(n) = given {
+        keep(store, PLAN, front(output, n));
+    }
+}
+
+pub fn plan(store: &mut [u32], bytes: &[u8], room: usize) {
+    let mut output = [7u32; ROOM];
+    if room <= ROOM {
+        plan_kept(store, bytes, &mut output[0..room]);
+    }
+}
+
+fn judged<'a>(store: &[u32], bytes: &'a [u8], record: &'a [u8]) -> Verdict {
+    let items = part(store, ITEMS);
+    let literals = part(store, LITERALS);
+    let tokens = part(store, TOKENS);
+    calls::judge(items, literals, bytes, tokens, record, switches(store))
+}
+
+pub fn judge<'a>(store: &[u32], bytes: &'a [u8], record: &'a [u8]) {
+    print::verdict(b"judge: ", judged(store, bytes, record));
+}
+
+fn ran<'a>(store: &[u32], bytes: &'a [u8], record: &'a [u8]) -> Verdict {
+    let items = part(store, ITEMS);
+    let literals = part(store, LITERALS);
+    let plan = part(store, PLAN);
+    calls::run(items, literals, bytes, plan, record, switches(store))
+}
+
+pub fn run<'a>(store: &[u32], bytes: &'a [u8], record: &'a [u8]) {
+    print::verdict(b"run: ", ran(store, bytes, record));
+}
+
+// All four; run only where there is a plan.
+pub fn all<'a>(store: &mut [u32], bytes: &'a [u8], record: &'a [u8], room: usize) {
+    expand(store, bytes, room);
+    plan(store, bytes, room);
+    judge(store, bytes, record);
+    if part(store, PLAN).len() > 0 {
+        run(store, bytes, record);
+    }
+}

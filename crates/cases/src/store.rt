@@ -1,0 +1,131 @@
+// What is lent to the calls, in one array of numbers: each part a count and then its numbers, with room beyond every limit.
+
+// From one part to the next.
+pub const STEP: usize = 1024;
+
+pub const ITEMS: usize = 0;
+
+pub const LITERALS: usize = 1024;
+
+pub const BYTES: usize = 2048;
+
+pub const TOKENS: usize = 3072;
+
+pub const RECORD: usize = 4096;
+
+pub const PLAN: usize = 5120;
+
+pub const SWITCHES: usize = 6144;
+
+// Where a repeated piece of a list begins.
+pub const MARK: usize = 7168;
+
+pub const STORE: usize = 8192;
+
+// The most numbers of a part.
+const MOST: u32 = 1023;
+
+pub fn get(store: &[u32], at: usize) -> u32 {
+    if at < store.len() {
+        return store[at];
+    }
+    0
+}
+
+pub fn put(store: &mut [u32], at: usize, number: u32) {
+    if at < store.len() {
+        store[at] = number;
+    }
+}
+
+// The place of a part's number i.
+fn place(part: usize, i: u32) -> usize {
+    if part < STORE {
+        return part + 1 + i as usize;
+    }
+    STORE
+}
+
+pub fn push(store: &mut [u32], part: usize, number: u32) {
+    let count = get(store, part);
+    if count < MOST {
+        put(store, place(part, count), number);
+        put(store, part, count + 1);
+    }
+}
+
+// The numbers of a part from one to another, once more.
+fn again(store: &mut [u32], part: usize, from: u32, end: u32) {
+    let mut i = from;
+    while i < end {
+        push(store, part, get(store, place(part, i)));
+        i += 1;
+    }
+}
+
+// The numbers from the mark on, so many times in all.
+pub fn repeat(store: &mut [u32], part: usize, times: u32) {
+    let from = get(store, MARK);
+    let end = get(store, part);
+    let mut done: u32 = 1;
+    while done < times {
+        again(store, part, from, end);
+        done += 1;
+    }
+}
+
+// The first n numbers, or all.
+pub fn front(numbers: &[u32], n: usize) -> &[u32] {
+    if n <= numbers.len() {
+        return &numbers[0..n];
+    }
+    numbers
+}
+
+pub fn part(store: &[u32], part: usize) -> &[u32] {
+    if part < store.len() {
+        let rest = &store[part + 1..];
+        return front(rest, get(store, part) as usize);
+    }
+    &store[0..0]
+}
+
+// A part becomes these numbers.
+pub fn keep(store: &mut [u32], part: usize, numbers: &[u32]) {
+    put(store, part, 0);
+    let mut i: usize = 0;
+    while i < numbers.len() {
+        push(store, part, numbers[i]);
+        i += 1;
+    }
+}
+
+fn low_byte(number: u32) -> u8 {
+    (number % 256) as u8
+}
+
+// The switch byte.
+pub fn switches(store: &[u32]) -> u8 {
+    low_byte(get(store, SWITCHES + 1))
+}
+
+// Numbers as bytes; how many they are.
+pub fn narrow(numbers: &[u32], bytes: &mut [u8]) -> usize {
+    let mut i: usize = 0;
+    while i < numbers.len() {
+        if i >= bytes.len() {
+            return i;
+        }
+        bytes[i] = low_byte(numbers[i]);
+        i += 1;
+    }
+    i
+}
+
+// The first n bytes, or all.
+pub fn front_bytes(bytes: &[u8], n: usize) -> &[u8] {
+    if n <= bytes.len() {
+        return &bytes[0..n];
+    }
+    bytes
+}
