@@ -9,7 +9,6 @@ use crate::store::keep;
 use crate::store::part;
 use crate::store::switches;
 use conditions::calls;
-use tables::Verdict;
 use tables::Written;
 
 // The most numbers of an output.
@@ -54,26 +53,20 @@ pub fn plan(store: &mut [u32], bytes: &[u8], room: usize) {
     }
 }
 
-fn judged<'a>(store: &[u32], bytes: &'a [u8], record: &'a [u8]) -> Verdict {
+pub fn judge<'a>(store: &[u32], bytes: &'a [u8], record: &'a [u8]) {
     let items = part(store, ITEMS);
     let literals = part(store, LITERALS);
     let tokens = part(store, TOKENS);
-    calls::judge(items, literals, bytes, tokens, record, switches(store))
-}
-
-pub fn judge<'a>(store: &[u32], bytes: &'a [u8], record: &'a [u8]) {
-    print::verdict(b"judge: ", judged(store, bytes, record));
-}
-
-fn ran<'a>(store: &[u32], bytes: &'a [u8], record: &'a [u8]) -> Verdict {
-    let items = part(store, ITEMS);
-    let literals = part(store, LITERALS);
-    let plan = part(store, PLAN);
-    calls::run(items, literals, bytes, plan, record, switches(store))
+    let given = calls::judge(items, literals, bytes, tokens, record, switches(store));
+    print::verdict(b"judge: ", given);
 }
 
 pub fn run<'a>(store: &[u32], bytes: &'a [u8], record: &'a [u8]) {
-    print::verdict(b"run: ", ran(store, bytes, record));
+    let items = part(store, ITEMS);
+    let literals = part(store, LITERALS);
+    let plan = part(store, PLAN);
+    let given = calls::run(items, literals, bytes, plan, record, switches(store));
+    print::verdict(b"run: ", given);
 }
 
 // All four; run only where there is a plan.

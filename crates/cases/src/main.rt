@@ -50,7 +50,7 @@ fn set(store: &mut [u32], line: &[u8], list: &[u8]) {
     lists::set(store, part, list);
 }
 
-// Expand, plan, judge, run, answers; the number is an output's room.
+// Expand, plan, judge, run, answers; the number is an output's room. An empty line asks nothing.
 fn call<'a>(store: &mut [u32], bytes: &'a [u8], record: &'a [u8], letter: u8, room: usize) {
     match letter {
         b'e' => answers::expand(store, bytes, room),
@@ -58,7 +58,7 @@ fn call<'a>(store: &mut [u32], bytes: &'a [u8], record: &'a [u8], letter: u8, ro
         b'j' => answers::judge(store, bytes, record),
         b'r' => answers::run(store, bytes, record),
         b'a' => answers::all(store, bytes, record, room),
-        _ => {}
+        _ => print::text(b"\n"),
     }
 }
 
@@ -95,18 +95,10 @@ fn behind(line: &[u8], colon: usize) -> &[u8] {
     &line[0..0]
 }
 
-fn is_comment(line: &[u8]) -> bool {
-    match first(line) {
-        b'#' => true,
-        0 => true,
-        _ => false,
-    }
-}
-
 // A comment, a setting, or a call.
 fn line(store: &mut [u32], line: &[u8]) {
     let colon = find(line, 0, b':');
-    if is_comment(line) {
+    if first(line) == b'#' {
         echo(line);
     } else if colon < line.len() {
         echo(line);

@@ -114,22 +114,23 @@ fn low_word(x: u64) -> u32 {
     (x % 4294967296) as u32
 }
 
+// One more digit; what is none is passed over.
 fn append(value: u32, digit: u32, radix: u32) -> u32 {
+    if digit >= radix {
+        return value;
+    }
     if radix == 16 {
         return low_word(value as u64 * 16 + digit as u64);
     }
     low_word(value as u64 * 10 + digit as u64)
 }
 
-// The number that the digits of a text spell, radix 10 or 16; what is no digit is passed over.
+// The number that the digits of a text spell, radix 10 or 16.
 pub fn digits(text: &[u8], radix: u32) -> u32 {
     let mut value: u32 = 0;
     let mut i: usize = 0;
     while i < text.len() {
-        let found = digit(text[i]);
-        if found < radix {
-            value = append(value, found, radix);
-        }
+        value = append(value, digit(text[i]), radix);
         i += 1;
     }
     value
