@@ -1,11 +1,10 @@
 // What a relation number asks, and the shape and the typing of a simple condition.
 ghost use mathlib.Core.Path.{_≡_};
-ghost use mathlib.Core.Bool.{true};
+ghost use mathlib.Core.Bool.{true, _&&_};
 ghost use mathlib.Core.List.{[]};
-ghost use Prim.Native.Nat.{_*_, _≤_};
-ghost use lib.ListN.{length};
+ghost use lib.Dec.{eqb, leb};
 ghost use Rattle.tables.specs.Operands.{lend, operandSound};
-ghost use Rattle.tables.specs.Tokens.{isLiteral, isOperand, isSwitch};
+ghost use Rattle.tables.specs.Tokens.{isLiteral, isSwitch, indexOf};
 ghost use Rattle.typing.specs.Tests.{testOf};
 ghost use Rattle.typing.specs.Shape.{shapeSound};
 ghost use Rattle.typing.specs.Typing.{scaleFits, relationTyped, classTyped, signTyped, typed};
@@ -14,7 +13,6 @@ use tables::Row;
 use tables::operands::row_of;
 use tables::rows::is_numeric;
 use tables::tokens::is_item;
-use tables::tokens::token_exists;
 
 // The relation, class or sign test of a relation number, and whether NOT belongs to it.
 pub fn test_of(relation: u32) -> Test
@@ -54,51 +52,6 @@ fn is_literal(token: u32) -> bool
     ensures { λ r. ⌜ r ≡ isLiteral token ⌝ }
 {
     token / 65536 == 1
-}
-
-fn is_operand(token: u32) -> bool
-    ensures { λ r. ⌜ r ≡ isOperand token ⌝ }
-{
-    (token / 65536 == 0) | (token / 65536 == 1)
-}
-
-fn is_switch(token: u32) -> bool
-    ensures { λ r. ⌜ r ≡ isSwitch token ⌝ }
-{
-    (token / 65536 == 2) | (token / 65536 == 3)
-}
-
-// Whether the tokens of a row are within their tables and of the kinds that its relation asks.
-pub fn shape_sound(
-    items: &[u32],
-    literals: &[u32],
-    subject: u32,
-    relation: u32,
-    object: u32,
-) -> bool
-    ensures { λ r. ⌜ r ≡ shapeSound (lend (now (items .entry)) (now (literals .entry)) []) (testOf relation) subject object ⌝ }
-{
-    let there = token_exists(subject, items.len() / 4, literals.len() / 4);
-    let test = test_of(relation);
-    match test {
-        Test::Switch => is_switch(subject) & there & (object == 0),
-        Test::Relation {
-            word: _,
-            negated: _,
-        } => {
-            let other = token_exists(object, items.len() / 4, literals.len() / 4);
-            is_operand(subject) & there & (is_operand(object) & other)
-        }
-        Test::Class {
-            word: _,
-            negated: _,
-        } => is_operand(subject) & there & (object == 0),
-        Test::Sign {
-            word: _,
-            negated: _,
-        } => is_operand(subject) & there & (object == 0),
-        Test::Unknown => false,
-    }
 }
 
 fn scale_fits(side: Row, other: Row) -> bool
@@ -153,6 +106,77 @@ pub fn well_typed(items: &[u32], literals: &[u32], subject: u32, relation: u32, 
             word: _,
             negated: _,
         } => sign_typed(items, literals, subject),
+        Test::Unknown => false,
+    }
+}
+
+fn operand_exists(items: &[u32], literals: &[u32], token: u32) -> bool
+    ensures { λ r. ⌜ r ≡ operandSound (lend (now (items .entry)) (now (literals .entry)) []) token ⌝ }
+{
+    let v = (token % 65536) as usize;
+    match token / 65536 {
+        0 => v < items.len() / 4,
+        1 => v < literals.len() / 4,
+        _ => false,
+    }
+}
+
+fn switch_exists(token: u32) -> bool
+    ensures { λ r. ⌜ r ≡ (isSwitch token && leb (indexOf token) 7) ⌝ }
+{
+    ((token / 65536 == 2) | (token / 65536 == 3)) & (token % 65536 <= 7)
+}
+
+// The shape of a relation, and that of a class or a sign test.
+fn two_operands(items: &[u32], literals: &[u32], subject: u32, object: u32) -> bool
+    ensures { λ r. ⌜ r ≡ (operandSound (lend (now (items .entry)) (now (literals .entry)) []) subject && operandSound (lend (now (items .entry)) (now (literals .entry)) []) object) ⌝ }
+{
+    operand_exists(items, literals, subject) & operand_exists(items, literals, object)
+}
+
+fn one_operand(items: &[u32], literals: &[u32], subject: u32, object: u32) -> bool
+    ensures { λ r. ⌜ r ≡ (operandSound (lend (now (items .entry)) (now (literals .entry)) []) subject && eqb object 0) ⌝ }
+{
+    operand_exists(items, literals, subject) & (object == 0)
+}
+
+// Whether any three numbers have a sound shape and are well typed. One test_of serves both.
+pub fn condition_sound(
+    items: &[u32],
+    literals: &[u32],
+    subject: u32,
+    relation: u32,
+    object: u32,
+) -> bool
+    ensures { λ r. ⌜ r ≡ (shapeSound (lend (now (items .entry)) (now (literals .entry)) []) (testOf relation) subject object && typed (lend (now (items .entry)) (now (literals .entry)) []) subject relation object) ⌝ }
+{
+    let test = test_of(relation);
+    match test {
+        Test::Switch => switch_exists(subject) & (object == 0),
+        Test::Relation {
+            word: _,
+            negated: _,
+        } => {
+            if !two_operands(items, literals, subject, object) {
+                return false;
+            }
+            relation_typed(items, literals, subject, object)
+        }
+        Test::Class { word, negated: _ } => {
+            if !one_operand(items, literals, subject, object) {
+                return false;
+            }
+            class_typed(items, literals, word, subject)
+        }
+        Test::Sign {
+            word: _,
+            negated: _,
+        } => {
+            if !one_operand(items, literals, subject, object) {
+                return false;
+            }
+            sign_typed(items, literals, subject)
+        }
         Test::Unknown => false,
     }
 }
