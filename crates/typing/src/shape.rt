@@ -54,10 +54,18 @@ fn is_literal(token: u32) -> bool
     token / 65536 == 1
 }
 
-fn scale_fits(side: Row, other: Row) -> bool
-    ensures { λ r. ⌜ r ≡ scaleFits side other ⌝ }
+// If exactly one side is numeric, its scale is 0.
+fn scales_fit(side: Row, other: Row) -> bool
+    ensures { λ r. ⌜ r ≡ (scaleFits side other && scaleFits other side) ⌝ }
 {
-    !is_numeric(side) | is_numeric(other) | (side.scale == 0)
+    let numeric = is_numeric(side);
+    if numeric == is_numeric(other) {
+        return true;
+    }
+    if numeric {
+        return side.scale == 0;
+    }
+    other.scale == 0
 }
 
 fn relation_typed(items: &[u32], literals: &[u32], subject: u32, object: u32) -> bool
@@ -65,9 +73,13 @@ fn relation_typed(items: &[u32], literals: &[u32], subject: u32, object: u32) ->
     requires { ⌜ operandSound (lend (now items) (now literals) []) object ≡ true ⌝ }
     ensures { λ r. ⌜ r ≡ relationTyped (lend (now (items .entry)) (now (literals .entry)) []) subject object ⌝ }
 {
-    let side = row_of(subject, items, literals);
-    let other = row_of(object, items, literals);
-    !(is_literal(subject) & is_literal(object)) & scale_fits(side, other) & scale_fits(other, side)
+    if is_literal(subject) & is_literal(object) {
+        return false;
+    }
+    scales_fit(
+        row_of(subject, items, literals),
+        row_of(object, items, literals),
+    )
 }
 
 fn class_typed(items: &[u32], literals: &[u32], word: u32, subject: u32) -> bool
@@ -131,7 +143,10 @@ fn switch_exists(token: u32) -> bool
 fn two_operands(items: &[u32], literals: &[u32], subject: u32, object: u32) -> bool
     ensures { λ r. ⌜ r ≡ (operandSound (lend (now (items .entry)) (now (literals .entry)) []) subject && operandSound (lend (now (items .entry)) (now (literals .entry)) []) object) ⌝ }
 {
-    operand_exists(items, literals, subject) & operand_exists(items, literals, object)
+    if !operand_exists(items, literals, subject) {
+        return false;
+    }
+    operand_exists(items, literals, object)
 }
 
 fn one_operand(items: &[u32], literals: &[u32], subject: u32, object: u32) -> bool
