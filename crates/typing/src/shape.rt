@@ -7,7 +7,7 @@ ghost use Rattle.tables.specs.Operands.{lend, operandSound};
 ghost use Rattle.tables.specs.Tokens.{isLiteral, isSwitch, indexOf};
 ghost use Rattle.typing.specs.Tests.{testOf};
 ghost use Rattle.typing.specs.Shape.{shapeSound};
-ghost use Rattle.typing.specs.Typing.{scaleFits, relationTyped, classTyped, signTyped, typed};
+ghost use Rattle.typing.specs.Typing.{scaleFits, relationTyped, classTyped, signTyped, testTyped, typed};
 use crate::Test;
 use tables::Row;
 use tables::operands::row_of;
@@ -52,6 +52,61 @@ fn is_literal(token: u32) -> bool
     ensures { λ r. ⌜ r ≡ isLiteral token ⌝ }
 {
     token / 65536 == 1
+}
+
+fn operand_exists(items: &[u32], literals: &[u32], token: u32) -> bool
+    ensures { λ r. ⌜ r ≡ operandSound (lend (now (items .entry)) (now (literals .entry)) []) token ⌝ }
+{
+    let v = (token % 65536) as usize;
+    match token / 65536 {
+        0 => v < items.len() / 4,
+        1 => v < literals.len() / 4,
+        _ => false,
+    }
+}
+
+fn switch_exists(token: u32) -> bool
+    ensures { λ r. ⌜ r ≡ (isSwitch token && leb (indexOf token) 7) ⌝ }
+{
+    ((token / 65536 == 2) | (token / 65536 == 3)) & (token % 65536 <= 7)
+}
+
+// The shape of a relation, and that of a class or a sign test.
+fn two_operands(items: &[u32], literals: &[u32], subject: u32, object: u32) -> bool
+    ensures { λ r. ⌜ r ≡ (operandSound (lend (now (items .entry)) (now (literals .entry)) []) subject && operandSound (lend (now (items .entry)) (now (literals .entry)) []) object) ⌝ }
+{
+    if !operand_exists(items, literals, subject) {
+        return false;
+    }
+    operand_exists(items, literals, object)
+}
+
+fn one_operand(items: &[u32], literals: &[u32], subject: u32, object: u32) -> bool
+    ensures { λ r. ⌜ r ≡ (operandSound (lend (now (items .entry)) (now (literals .entry)) []) subject && eqb object 0) ⌝ }
+{
+    operand_exists(items, literals, subject) & (object == 0)
+}
+
+// Whether the tokens are within their tables, and of the kinds that the test asks.
+fn shape_sound(items: &[u32], literals: &[u32], test: Test, subject: u32, object: u32) -> bool
+    ensures { λ r. ⌜ r ≡ shapeSound (lend (now (items .entry)) (now (literals .entry)) []) test subject object ⌝ }
+{
+    match test {
+        Test::Switch => switch_exists(subject) & (object == 0),
+        Test::Relation {
+            word: _,
+            negated: _,
+        } => two_operands(items, literals, subject, object),
+        Test::Class {
+            word: _,
+            negated: _,
+        } => one_operand(items, literals, subject, object),
+        Test::Sign {
+            word: _,
+            negated: _,
+        } => one_operand(items, literals, subject, object),
+        Test::Unknown => false,
+    }
 }
 
 // If exactly one side is numeric, its scale is 0.
@@ -102,11 +157,10 @@ fn sign_typed(items: &[u32], literals: &[u32], subject: u32) -> bool
 }
 
 // Whether a simple condition of sound shape is well typed.
-pub fn well_typed(items: &[u32], literals: &[u32], subject: u32, relation: u32, object: u32) -> bool
-    requires { ⌜ shapeSound (lend (now items) (now literals) []) (testOf relation) subject object ≡ true ⌝ }
-    ensures { λ r. ⌜ r ≡ typed (lend (now (items .entry)) (now (literals .entry)) []) subject relation object ⌝ }
+fn test_typed(items: &[u32], literals: &[u32], test: Test, subject: u32, object: u32) -> bool
+    requires { ⌜ shapeSound (lend (now items) (now literals) []) test subject object ≡ true ⌝ }
+    ensures { λ r. ⌜ r ≡ testTyped (lend (now (items .entry)) (now (literals .entry)) []) test subject object ⌝ }
 {
-    let test = test_of(relation);
     match test {
         Test::Switch => true,
         Test::Relation {
@@ -122,40 +176,15 @@ pub fn well_typed(items: &[u32], literals: &[u32], subject: u32, relation: u32, 
     }
 }
 
-fn operand_exists(items: &[u32], literals: &[u32], token: u32) -> bool
-    ensures { λ r. ⌜ r ≡ operandSound (lend (now (items .entry)) (now (literals .entry)) []) token ⌝ }
+// The typing of a row that the planner wrote: its shape is sound.
+pub fn well_typed(items: &[u32], literals: &[u32], subject: u32, relation: u32, object: u32) -> bool
+    requires { ⌜ shapeSound (lend (now items) (now literals) []) (testOf relation) subject object ≡ true ⌝ }
+    ensures { λ r. ⌜ r ≡ typed (lend (now (items .entry)) (now (literals .entry)) []) subject relation object ⌝ }
 {
-    let v = (token % 65536) as usize;
-    match token / 65536 {
-        0 => v < items.len() / 4,
-        1 => v < literals.len() / 4,
-        _ => false,
-    }
+    test_typed(items, literals, test_of(relation), subject, object)
 }
 
-fn switch_exists(token: u32) -> bool
-    ensures { λ r. ⌜ r ≡ (isSwitch token && leb (indexOf token) 7) ⌝ }
-{
-    ((token / 65536 == 2) | (token / 65536 == 3)) & (token % 65536 <= 7)
-}
-
-// The shape of a relation, and that of a class or a sign test.
-fn two_operands(items: &[u32], literals: &[u32], subject: u32, object: u32) -> bool
-    ensures { λ r. ⌜ r ≡ (operandSound (lend (now (items .entry)) (now (literals .entry)) []) subject && operandSound (lend (now (items .entry)) (now (literals .entry)) []) object) ⌝ }
-{
-    if !operand_exists(items, literals, subject) {
-        return false;
-    }
-    operand_exists(items, literals, object)
-}
-
-fn one_operand(items: &[u32], literals: &[u32], subject: u32, object: u32) -> bool
-    ensures { λ r. ⌜ r ≡ (operandSound (lend (now (items .entry)) (now (literals .entry)) []) subject && eqb object 0) ⌝ }
-{
-    operand_exists(items, literals, subject) & (object == 0)
-}
-
-// Whether any three numbers have a sound shape and are well typed. One test_of serves both.
+// The shape and the typing of a row that a caller lends.
 pub fn condition_sound(
     items: &[u32],
     literals: &[u32],
@@ -166,32 +195,8 @@ pub fn condition_sound(
     ensures { λ r. ⌜ r ≡ (shapeSound (lend (now (items .entry)) (now (literals .entry)) []) (testOf relation) subject object && typed (lend (now (items .entry)) (now (literals .entry)) []) subject relation object) ⌝ }
 {
     let test = test_of(relation);
-    match test {
-        Test::Switch => switch_exists(subject) & (object == 0),
-        Test::Relation {
-            word: _,
-            negated: _,
-        } => {
-            if !two_operands(items, literals, subject, object) {
-                return false;
-            }
-            relation_typed(items, literals, subject, object)
-        }
-        Test::Class { word, negated: _ } => {
-            if !one_operand(items, literals, subject, object) {
-                return false;
-            }
-            class_typed(items, literals, word, subject)
-        }
-        Test::Sign {
-            word: _,
-            negated: _,
-        } => {
-            if !one_operand(items, literals, subject, object) {
-                return false;
-            }
-            sign_typed(items, literals, subject)
-        }
-        Test::Unknown => false,
+    if !shape_sound(items, literals, test, subject, object) {
+        return false;
     }
+    test_typed(items, literals, test, subject, object)
 }
