@@ -10,7 +10,7 @@ use crate::Target;
 use grammar::PlanRow;
 use tables::Check;
 use tables::Refusal;
-use typing::shape::shape_sound;
+use typing::shape::condition_sound;
 use typing::shape::well_typed;
 
 // The five numbers of row k.
@@ -55,10 +55,7 @@ fn target_sound(rows: usize, k: usize, target: u32) -> bool
 fn row_sound(items: &[u32], literals: &[u32], rows: usize, k: usize, row: PlanRow) -> bool
     ensures { λ r. ⌜ r ≡ planRowSound (lend (now (items .entry)) (now (literals .entry)) []) rows k row ⌝ }
 {
-    if !shape_sound(items, literals, row.subject, row.relation, row.object) {
-        return false;
-    }
-    if !well_typed(items, literals, row.subject, row.relation, row.object) {
+    if !condition_sound(items, literals, row.subject, row.relation, row.object) {
         return false;
     }
     target_sound(rows, k, row.holds) & target_sound(rows, k, row.fails)

@@ -1,20 +1,18 @@
 // What a relation number asks, and the shape and the typing of a simple condition.
 ghost use mathlib.Core.Path.{_≡_};
-ghost use mathlib.Core.Bool.{true};
+ghost use mathlib.Core.Bool.{true, _&&_};
 ghost use mathlib.Core.List.{[]};
-ghost use Prim.Native.Nat.{_*_, _≤_};
-ghost use lib.ListN.{length};
+ghost use lib.Dec.{eqb, leb};
 ghost use Rattle.tables.specs.Operands.{lend, operandSound};
-ghost use Rattle.tables.specs.Tokens.{isLiteral, isOperand, isSwitch};
+ghost use Rattle.tables.specs.Tokens.{isLiteral, isSwitch, indexOf};
 ghost use Rattle.typing.specs.Tests.{testOf};
 ghost use Rattle.typing.specs.Shape.{shapeSound};
-ghost use Rattle.typing.specs.Typing.{scaleFits, relationTyped, classTyped, signTyped, typed};
+ghost use Rattle.typing.specs.Typing.{scaleFits, relationTyped, classTyped, signTyped, testTyped, typed};
 use crate::Test;
 use tables::Row;
 use tables::operands::row_of;
 use tables::rows::is_numeric;
 use tables::tokens::is_item;
-use tables::tokens::token_exists;
 
 // The relation, class or sign test of a relation number, and whether NOT belongs to it.
 pub fn test_of(relation: u32) -> Test
@@ -56,55 +54,73 @@ fn is_literal(token: u32) -> bool
     token / 65536 == 1
 }
 
-fn is_operand(token: u32) -> bool
-    ensures { λ r. ⌜ r ≡ isOperand token ⌝ }
+fn operand_exists(items: &[u32], literals: &[u32], token: u32) -> bool
+    ensures { λ r. ⌜ r ≡ operandSound (lend (now (items .entry)) (now (literals .entry)) []) token ⌝ }
 {
-    (token / 65536 == 0) | (token / 65536 == 1)
+    let v = (token % 65536) as usize;
+    match token / 65536 {
+        0 => v < items.len() / 4,
+        1 => v < literals.len() / 4,
+        _ => false,
+    }
 }
 
-fn is_switch(token: u32) -> bool
-    ensures { λ r. ⌜ r ≡ isSwitch token ⌝ }
+fn switch_exists(token: u32) -> bool
+    ensures { λ r. ⌜ r ≡ (isSwitch token && leb (indexOf token) 7) ⌝ }
 {
-    (token / 65536 == 2) | (token / 65536 == 3)
+    ((token / 65536 == 2) | (token / 65536 == 3)) & (token % 65536 <= 7)
 }
 
-// Whether the tokens of a row are within their tables and of the kinds that its relation asks.
-pub fn shape_sound(
-    items: &[u32],
-    literals: &[u32],
-    subject: u32,
-    relation: u32,
-    object: u32,
-) -> bool
-    ensures { λ r. ⌜ r ≡ shapeSound (lend (now (items .entry)) (now (literals .entry)) []) (testOf relation) subject object ⌝ }
+// The shape of a relation, and that of a class or a sign test.
+fn two_operands(items: &[u32], literals: &[u32], subject: u32, object: u32) -> bool
+    ensures { λ r. ⌜ r ≡ (operandSound (lend (now (items .entry)) (now (literals .entry)) []) subject && operandSound (lend (now (items .entry)) (now (literals .entry)) []) object) ⌝ }
 {
-    let there = token_exists(subject, items.len() / 4, literals.len() / 4);
-    let test = test_of(relation);
+    if !operand_exists(items, literals, subject) {
+        return false;
+    }
+    operand_exists(items, literals, object)
+}
+
+fn one_operand(items: &[u32], literals: &[u32], subject: u32, object: u32) -> bool
+    ensures { λ r. ⌜ r ≡ (operandSound (lend (now (items .entry)) (now (literals .entry)) []) subject && eqb object 0) ⌝ }
+{
+    operand_exists(items, literals, subject) & (object == 0)
+}
+
+// Whether the tokens are within their tables, and of the kinds that the test asks.
+fn shape_sound(items: &[u32], literals: &[u32], test: Test, subject: u32, object: u32) -> bool
+    ensures { λ r. ⌜ r ≡ shapeSound (lend (now (items .entry)) (now (literals .entry)) []) test subject object ⌝ }
+{
     match test {
-        Test::Switch => is_switch(subject) & there & (object == 0),
+        Test::Switch => switch_exists(subject) & (object == 0),
         Test::Relation {
             word: _,
             negated: _,
-        } => {
-            let other = token_exists(object, items.len() / 4, literals.len() / 4);
-            is_operand(subject) & there & (is_operand(object) & other)
-        }
+        } => two_operands(items, literals, subject, object),
         Test::Class {
             word: _,
             negated: _,
-        } => is_operand(subject) & there & (object == 0),
+        } => one_operand(items, literals, subject, object),
         Test::Sign {
             word: _,
             negated: _,
-        } => is_operand(subject) & there & (object == 0),
+        } => one_operand(items, literals, subject, object),
         Test::Unknown => false,
     }
 }
 
-fn scale_fits(side: Row, other: Row) -> bool
-    ensures { λ r. ⌜ r ≡ scaleFits side other ⌝ }
+// If exactly one side is numeric, its scale is 0.
+fn scales_fit(side: Row, other: Row) -> bool
+    ensures { λ r. ⌜ r ≡ (scaleFits side other && scaleFits other side) ⌝ }
 {
-    !is_numeric(side) | is_numeric(other) | (side.scale == 0)
+    let numeric = is_numeric(side);
+    if numeric == is_numeric(other) {
+        return true;
+    }
+    if numeric {
+        return side.scale == 0;
+    }
+    other.scale == 0
 }
 
 fn relation_typed(items: &[u32], literals: &[u32], subject: u32, object: u32) -> bool
@@ -112,9 +128,13 @@ fn relation_typed(items: &[u32], literals: &[u32], subject: u32, object: u32) ->
     requires { ⌜ operandSound (lend (now items) (now literals) []) object ≡ true ⌝ }
     ensures { λ r. ⌜ r ≡ relationTyped (lend (now (items .entry)) (now (literals .entry)) []) subject object ⌝ }
 {
-    let side = row_of(subject, items, literals);
-    let other = row_of(object, items, literals);
-    !(is_literal(subject) & is_literal(object)) & scale_fits(side, other) & scale_fits(other, side)
+    if is_literal(subject) & is_literal(object) {
+        return false;
+    }
+    scales_fit(
+        row_of(subject, items, literals),
+        row_of(object, items, literals),
+    )
 }
 
 fn class_typed(items: &[u32], literals: &[u32], word: u32, subject: u32) -> bool
@@ -137,11 +157,10 @@ fn sign_typed(items: &[u32], literals: &[u32], subject: u32) -> bool
 }
 
 // Whether a simple condition of sound shape is well typed.
-pub fn well_typed(items: &[u32], literals: &[u32], subject: u32, relation: u32, object: u32) -> bool
-    requires { ⌜ shapeSound (lend (now items) (now literals) []) (testOf relation) subject object ≡ true ⌝ }
-    ensures { λ r. ⌜ r ≡ typed (lend (now (items .entry)) (now (literals .entry)) []) subject relation object ⌝ }
+fn test_typed(items: &[u32], literals: &[u32], test: Test, subject: u32, object: u32) -> bool
+    requires { ⌜ shapeSound (lend (now items) (now literals) []) test subject object ≡ true ⌝ }
+    ensures { λ r. ⌜ r ≡ testTyped (lend (now (items .entry)) (now (literals .entry)) []) test subject object ⌝ }
 {
-    let test = test_of(relation);
     match test {
         Test::Switch => true,
         Test::Relation {
@@ -155,4 +174,29 @@ pub fn well_typed(items: &[u32], literals: &[u32], subject: u32, relation: u32, 
         } => sign_typed(items, literals, subject),
         Test::Unknown => false,
     }
+}
+
+// The typing of a row that the planner wrote: its shape is sound.
+pub fn well_typed(items: &[u32], literals: &[u32], subject: u32, relation: u32, object: u32) -> bool
+    requires { ⌜ shapeSound (lend (now items) (now literals) []) (testOf relation) subject object ≡ true ⌝ }
+    ensures { λ r. ⌜ r ≡ typed (lend (now (items .entry)) (now (literals .entry)) []) subject relation object ⌝ }
+{
+    test_typed(items, literals, test_of(relation), subject, object)
+}
+
+// The shape and the typing of a row that a caller lends.
+pub fn condition_sound(
+    items: &[u32],
+    literals: &[u32],
+    subject: u32,
+    relation: u32,
+    object: u32,
+) -> bool
+    ensures { λ r. ⌜ r ≡ (shapeSound (lend (now (items .entry)) (now (literals .entry)) []) (testOf relation) subject object && typed (lend (now (items .entry)) (now (literals .entry)) []) subject relation object) ⌝ }
+{
+    let test = test_of(relation);
+    if !shape_sound(items, literals, test, subject, object) {
+        return false;
+    }
+    test_typed(items, literals, test, subject, object)
 }

@@ -1,88 +1,79 @@
--- The variant that `test_of` gives picks the definition's case; the callees ensure the parts of its conjunction.
-use mathlib.Core.Path.{sym, _∙_}
+-- The variant picks the definition's case; the callees ensure the parts of its conjunction.
+use Prim.Native.Nat.{ℕ, _/_}
+use native.Mathlib.Decide.{ℕ-discrete}
+use mathlib.Core.Path.{_≡_}
+use mathlib.Core.Bool.{_&&_, or-false}
+use lib.Dec.{leb}
 use borrow.Author.Needs.{needs}
+use borrow.Author.Tests.{ne-eqb}
+use Rattle.tables.specs.Tokens.{isSwitch, indexOf, exists}
 use Rattle.typing.proofs.shape.shape_sound.Statement.{statement}
 use Rattle.typing.proofs.shape.shape_sound.Tie as tie
 
-token-exists-requires : tie.Need-token-exists-requires
-token-exists-requires c κs = search needs
-
-test-of-requires : tie.Need-test-of-requires
-test-of-requires c κs = search needs
+-- whether a switch exists is not asked of the tables
+switch-there : (items literals token : ℕ) → isSwitch token && leb (indexOf token) 7 ≡ isSwitch token && exists items literals token
+switch-there items literals token = by (ℕ-discrete (token / 65536) 2) (ℕ-discrete (token / 65536) 3)
+  where
+    by : Dec (token / 65536 ≡ 2) → Dec (token / 65536 ≡ 3)
+        → isSwitch token && leb (indexOf token) 7 ≡ isSwitch token && exists items literals token
+    by (yes on) d = simp (on, or-false)
+    by (no not-on) (yes off) = simp (off, or-false)
+    by (no not-on) (no not-off) = rw (ne-eqb _ _ not-on, ne-eqb _ _ not-off)
 
 enum-told : tie.Need-enum-told
 enum-told c = search needs
 
-is-switch-requires : tie.Need-is-switch-requires
-is-switch-requires c κs = search needs
+switch-exists-requires : tie.Need-switch-exists-requires
+switch-exists-requires c κs = search needs
 
 enum-told-2 : tie.Need-enum-told-2
 enum-told-2 c = search needs
 
-token-exists-requires-2 : tie.Need-token-exists-requires-2
-token-exists-requires-2 c κs = search needs
-
-is-operand-requires : tie.Need-is-operand-requires
-is-operand-requires c κs = search needs
-
-is-operand-requires-2 : tie.Need-is-operand-requires-2
-is-operand-requires-2 c κs = search needs
+two-operands-requires : tie.Need-two-operands-requires
+two-operands-requires c κs = search needs
 
 enum-told-3 : tie.Need-enum-told-3
 enum-told-3 c = search needs
 
-is-operand-requires-3 : tie.Need-is-operand-requires-3
-is-operand-requires-3 c κs = search needs
+one-operand-requires : tie.Need-one-operand-requires
+one-operand-requires c κs = search needs
 
 enum-told-4 : tie.Need-enum-told-4
 enum-told-4 c = search needs
 
-is-operand-requires-4 : tie.Need-is-operand-requires-4
-is-operand-requires-4 c κs = search needs
+one-operand-requires-2 : tie.Need-one-operand-requires-2
+one-operand-requires-2 c κs = search needs
 
 enum-told-5 : tie.Need-enum-told-5
 enum-told-5 c = search needs
 
 returns : tie.Need-returns
-returns c =
-    let test = sym (c .before .before .before .test-of .ensures) ∙ c .before .enum-told .given .1 in
-    rw (test, c .is-switch .ensures, c .before .before .before .before .token-exists .ensures)
+returns c = rw (c .before .enum-told .given .1, c .switch-exists .ensures, ← switch-there)
 
 returns-2 : tie.Need-returns-2
-returns-2 c =
-    let test = sym (c .before .before .before .before .before .test-of .ensures) ∙ c .before .before .before .enum-told2 .given .1 in
-    let there = c .before .before .before .before .before .before .token-exists .ensures in
-    rw (test, c .is-operand2 .ensures, c .before .is-operand .ensures, c .before .before .token-exists2 .ensures, there)
+returns-2 c = rw (c .before .enum-told2 .given .1) (c .two-operands .ensures)
 
 returns-3 : tie.Need-returns-3
-returns-3 c =
-    let test = sym (c .before .before .before .test-of .ensures) ∙ c .before .enum-told3 .given .1 in
-    rw (test, c .is-operand3 .ensures, c .before .before .before .before .token-exists .ensures)
+returns-3 c = rw (c .before .enum-told3 .given .1) (c .one-operand .ensures)
 
 returns-4 : tie.Need-returns-4
-returns-4 c =
-    let test = sym (c .before .before .before .test-of .ensures) ∙ c .before .enum-told4 .given .1 in
-    rw (test, c .is-operand4 .ensures, c .before .before .before .before .token-exists .ensures)
+returns-4 c = rw (c .before .enum-told4 .given .1) (c .one-operand2 .ensures)
 
 returns-5 : tie.Need-returns-5
-returns-5 c = rw (sym (c .before .before .test-of .ensures) ∙ c .enum-told5 .given .1)
+returns-5 c = search needs
 
 pub shape-sound-spec : {M : Type 1} → statement M
 shape-sound-spec =
     tie.close
     (tie.spec
-    token-exists-requires
-    test-of-requires
     enum-told
-    is-switch-requires
+    switch-exists-requires
     enum-told-2
-    token-exists-requires-2
-    is-operand-requires
-    is-operand-requires-2
+    two-operands-requires
     enum-told-3
-    is-operand-requires-3
+    one-operand-requires
     enum-told-4
-    is-operand-requires-4
+    one-operand-requires-2
     enum-told-5
     returns
     returns-2

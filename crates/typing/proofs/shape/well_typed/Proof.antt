@@ -1,79 +1,18 @@
--- The variant that `test_of` gives picks the definition's case, and the sound shape gives what each callee requires.
-use mathlib.Core.Path.{sym, _∙_}
+-- What `test_of` and `test_typed` ensure.
 use borrow.Author.Needs.{needs}
 use Rattle.typing.specs.Typing.{typed}
-use Rattle.tables.proofs.Tests.{both}
 use Rattle.typing.proofs.shape.well_typed.Statement.{statement}
 use Rattle.typing.proofs.shape.well_typed.Tie as tie
 
 test-of-requires : tie.Need-test-of-requires
 test-of-requires c κs = search needs
 
-enum-told : tie.Need-enum-told
-enum-told c = search needs
-
-enum-told-2 : tie.Need-enum-told-2
-enum-told-2 c = search needs
-
-relation-typed-requires : tie.Need-relation-typed-requires
-relation-typed-requires c κs =
-    let test = sym (c .before .before .test-of .ensures) ∙ c .enum-told2 .given .1 in
-    both _ _ (rw test at (c .before .before .before .before .before .pre))
-
-enum-known-test : tie.Need-enum-known-test
-enum-known-test c = search needs
-
-class-typed-requires : tie.Need-class-typed-requires
-class-typed-requires c κs =
-    let test = sym (c .before .before .before .test-of .ensures) ∙ c .before .test .given .1 in
-    both _ _ (rw test at (c .before .before .before .before .before .before .pre)) .0
-
-enum-told-3 : tie.Need-enum-told-3
-enum-told-3 c = search needs
-
-sign-typed-requires : tie.Need-sign-typed-requires
-sign-typed-requires c κs =
-    let test = sym (c .before .before .test-of .ensures) ∙ c .enum-told3 .given .1 in
-    both _ _ (rw test at (c .before .before .before .before .before .pre)) .0
-
-enum-told-4 : tie.Need-enum-told-4
-enum-told-4 c = search needs
+test-typed-requires : tie.Need-test-typed-requires
+test-typed-requires c κs = rw (c .test-of .ensures) (c .before .before .before .pre)
 
 returns : tie.Need-returns
 unfolding typed
-returns c = rw (sym (c .before .before .test-of .ensures) ∙ c .enum-told .given .1)
-
-returns-2 : tie.Need-returns-2
-unfolding typed
-returns-2 c = rw (sym (c .before .before .before .test-of .ensures) ∙ c .before .enum-told2 .given .1) (c .relation-typed .ensures)
-
-returns-3 : tie.Need-returns-3
-unfolding typed
-returns-3 c = rw (sym (c .before .before .before .before .test-of .ensures) ∙ c .before .before .test .given .1) (c .class-typed .ensures)
-
-returns-4 : tie.Need-returns-4
-unfolding typed
-returns-4 c = rw (sym (c .before .before .before .test-of .ensures) ∙ c .before .enum-told3 .given .1) (c .sign-typed .ensures)
-
-returns-5 : tie.Need-returns-5
-unfolding typed
-returns-5 c = rw (sym (c .before .before .test-of .ensures) ∙ c .enum-told4 .given .1)
+returns c = rw (c .before .test-of .ensures) at (c .test-typed .ensures)
 
 pub well-typed-spec : {M : Type 1} → statement M
-well-typed-spec =
-    tie.close
-    (tie.spec
-    test-of-requires
-    enum-told
-    enum-told-2
-    relation-typed-requires
-    enum-known-test
-    class-typed-requires
-    enum-told-3
-    sign-typed-requires
-    enum-told-4
-    returns
-    returns-2
-    returns-3
-    returns-4
-    returns-5)
+well-typed-spec = tie.close (tie.spec test-of-requires test-typed-requires returns)
