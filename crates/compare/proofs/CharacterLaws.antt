@@ -1,13 +1,13 @@
 -- Laws of characters: a side without the sign of its last byte, and sides that are filled on the right and compared from the left.
 use mathlib.Core.Path.{_≡_, refl, sym, ap, ap₂, _∙_}
-use mathlib.Core.Bool.{Bool, true, false, false≢true, _&&_}
+use mathlib.Core.Bool.{Bool, true, false, false≢true, _&&_, _||_}
 use mathlib.Core.List.{List, [], _∷_, _++_}
 use Prim.Native.Nat.{ℕ, zero, suc, _+_, _-_, _%_, _≤_, _<_, max}
 use native.Mathlib.Omega.{arith}
 use native.Mathlib.Numerals.{add-one}
 use lib.Dec.{eqb}
-use lib.ListN.{length, getD, drop, replicate, drop-of-length-le, length-append, length-take, length-replicate, getD-replicate, List·getD-append, List·getD-eq-default}
-use lib.Seq.{drop-cons, getD-at, getD-take}
+use lib.ListN.{length, getD, take, drop, replicate, take-append-drop, drop-of-length-le, length-append, length-take, length-drop, length-replicate, getD-replicate, List·getD-append, List·getD-eq-default}
+use lib.Seq.{take-suc, take-take, take-add, take-append-le, drop-cons, getD-at, getD-take}
 use borrow.Author.Tests.{eqb-true, eqb-false}
 use Rattle.content.specs.Content.{unsignedLast, lastByte, butLast}
 use Rattle.compare.specs.declared.Order.{Order}
@@ -48,6 +48,28 @@ unsigned-before true xs i h e =
     ∙ getD-any xs i 0x20 0 h
 unsigned-before false xs i h e = getD-any xs i 0x20 0 h
 
+-- sides that begin alike: one byte more, a block more, and the characters of sides without a sign
+module _ (xs ys : List ℕ) where
+  pub alike-more : (same : Bool) (k : ℕ) → k < length xs → k < length ys → (same ≡ true → take k xs ≡ take k ys)
+      → same && eqb (getD xs k 0) (getD ys k 0) ≡ true → take (k + 1) xs ≡ take (k + 1) ys
+  alike-more true k hx hy before e =
+      rw (add-one, take-suc xs k 0 hx, take-suc ys k 0 hy, before refl, eqb-true (getD xs k 0) (getD ys k 0) e)
+  alike-more false k hx hy before e = absurd (false≢true e)
+
+  pub alike-block : (i : ℕ) → 32 ≤ length xs - i → 32 ≤ length ys - i → take i xs ≡ take i ys
+      → take 32 (take (length xs - i) (drop i xs)) ≡ take 32 (take (length ys - i) (drop i ys))
+      → take (i + 32) xs ≡ take (i + 32) ys
+  alike-block i hx hy before block =
+      take-add i 32 xs
+      ∙ ap₂ _++_ before (sym (take-take 32 _ (drop i xs) hx) ∙ block ∙ take-take 32 _ (drop i ys) hy)
+      ∙ sym (take-add i 32 ys)
+
+  pub alike-unsigned : (s t : Bool) (i : ℕ) → s || t ≡ false → take i xs ≡ take i ys
+      → take i (unsignedLast s xs) ≡ take i (unsignedLast t ys)
+  alike-unsigned false false i e same = same
+  alike-unsigned false true i e same = absurd (false≢true (sym e))
+  alike-unsigned true t i e same = absurd (false≢true (sym e))
+
 -- a list filled on the right
 fill-at : (xs : List ℕ) (k i : ℕ) → i < length xs + k → getD (xs ++ replicate k 0x20) i 0 ≡ getD xs i 0x20
 fill-at [] k i h = getD-replicate k i 0x20 0 (omega arith)
@@ -75,8 +97,28 @@ pub record Agree (n : ℕ) (xs ys : List ℕ) (i : ℕ) : Type 0 where
   pub longest : n ≡ max (length xs) (length ys)
   pub after : characterOrder xs ys ≡ orderFrom n xs ys i
 
-pub agree-start : {n : ℕ} {xs ys : List ℕ} → n ≡ max (length xs) (length ys) → Agree n xs ys 0
-agree-start {n} {xs} {ys} e = record { longest = e; after = ap (λ (m : ℕ). byteOrder (filled m xs) (filled m ys)) (sym e) }
+-- a beginning that both have decides nothing
+byte-skip : (p xs ys : List ℕ) → byteOrder (p ++ xs) (p ++ ys) ≡ byteOrder xs ys
+unfolding byteOrder
+byte-skip [] xs ys = refl
+byte-skip (b ∷ p) xs ys = rw (order-eq b b refl) (byte-skip p xs ys)
+
+filled-parts : (n : ℕ) (xs : List ℕ) (i : ℕ) → i ≤ length xs → filled n xs ≡ take i xs ++ drop i (filled n xs)
+filled-parts n xs i h =
+    sym (take-append-drop i (filled n xs)) ∙ ap (λ (p : List ℕ). p ++ drop i (filled n xs)) (take-append-le i xs _ h)
+
+pub agree-start : {n : ℕ} {xs ys : List ℕ} (i : ℕ) → n ≡ max (length xs) (length ys) → i ≤ length xs → i ≤ length ys
+    → take i xs ≡ take i ys → Agree n xs ys i
+agree-start {n} {xs} {ys} i e hx hy same =
+    record {
+      longest = e;
+      after =
+          ap (λ (m : ℕ). byteOrder (filled m xs) (filled m ys)) (sym e)
+          ∙ ap₂ byteOrder
+          (filled-parts n xs i hx ∙ ap (λ (p : List ℕ). p ++ drop i (filled n xs)) same)
+          (filled-parts n ys i hy)
+          ∙ byte-skip (take i ys) (drop i (filled n xs)) (drop i (filled n ys));
+    }
 
 module _ {n : ℕ} {xs ys : List ℕ} {i : ℕ} (agree : Agree n xs ys i) where
   pub agree-end : n ≤ i → characterOrder xs ys ≡ Equal

@@ -66,7 +66,11 @@ pub number-end : (xs : List ℕ) (n i : ℕ) → length xs ≤ i → numberFrom 
 unfolding numberFrom
 number-end xs n i h = rw (drop-of-length-le xs h)
 
--- D1 × 10^s2 against D2 × 10^s1: whole parts that differ decide
+-- D1 × 10^s2 against D2 × 10^s1: at one scale the digits decide
+pub same-scale : (d1 d2 : ℕ) {s1 s2 : ℕ} → s1 ≡ s2 → order (d1 * 10 ^ s2) (d2 * 10 ^ s1) ≡ order d1 d2
+same-scale d1 d2 {s1} {s2} e = rw e (order-scale (10 ^ s2) d1 d2 (ten-pos s2))
+
+-- whole parts that differ decide
 whole-less : (d1 d2 p1 p2 : ℕ) → 0 < p1 → 0 < p2 → d1 / p1 < d2 / p2 → d1 * p2 < d2 * p1
 whole-less d1 d2 p1 p2 z1 z2 h =
     omega (arith, mul-lt-mul-of-pos-right (div-lt-iff-lt-mul z1 .0 h) z2, mul-le-mul-right p1 (div-mul-le-self d2 p2))

@@ -55,6 +55,9 @@ fn compare_magnitudes(d1: u64, s1: u32, d2: u64, s2: u32) -> Order
     requires { ⌜ (s1 ≤ 18) × (s2 ≤ 18) ⌝ }
     ensures { λ r. ⌜ r ≡ order (d1 * 10 ^ s2) (d2 * 10 ^ s1) ⌝ }
 {
+    if s1 == s2 {
+        return order_of(d1, d2);
+    }
     let p1 = power_of_ten(s1);
     let p2 = power_of_ten(s2);
     let i1 = d1 / p1;

@@ -22,7 +22,7 @@ fn is_signed_digit(b: u8) -> bool
     ((b / 16 == 3) | (b / 16 == 4)) & (b % 16 <= 9)
 }
 
-pub fn all_digits(bytes: &[u8]) -> bool
+fn few_digits(bytes: &[u8]) -> bool
     ensures { λ r. ⌜ r ≡ all isDigit (now (bytes .entry)) ⌝ }
 {
     let mut i: usize = 0;
@@ -33,6 +33,29 @@ pub fn all_digits(bytes: &[u8]) -> bool
         i += 1;
     }
     true
+}
+
+// The loop has no exit, so that it becomes tests of many bytes each.
+fn many_digits(bytes: &[u8]) -> bool
+    ensures { λ r. ⌜ r ≡ all isDigit (now (bytes .entry)) ⌝ }
+{
+    let mut fine = true;
+    let mut k: usize = 0;
+    while k < bytes.len() {
+        fine = fine & is_digit(bytes[k]);
+        k += 1;
+    }
+    fine
+}
+
+// Most items are short, and there the loop with an exit costs less.
+fn all_digits(bytes: &[u8]) -> bool
+    ensures { λ r. ⌜ r ≡ all isDigit (now (bytes .entry)) ⌝ }
+{
+    if bytes.len() < 16 {
+        return few_digits(bytes);
+    }
+    many_digits(bytes)
 }
 
 // The bytes that hold digits: after a leading sign they start at 1, before a trailing one they end early.

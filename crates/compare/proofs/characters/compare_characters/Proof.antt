@@ -18,12 +18,17 @@ abbrev μ-loop : tie.MeasureT-loop
 longer-requires : tie.Need-longer-requires Inv-loop μ-loop
 longer-requires c κs = search needs
 
+same-start-requires : tie.Need-same-start-requires Inv-loop μ-loop
+same-start-requires c κs = search needs
+
 loop-holds : tie.Need-loop-holds Inv-loop μ-loop
 loop-holds c =
-    let s = c .before .before .before in
+    let s = c .before .before .before .before in
     let l = unsigned-length (s .args .left-signed) (now (s .args .left)) (s .pre .0) in
     let r = unsigned-length (s .args .right-signed) (now (s .args .right)) (s .pre .1) in
-    (omega arith, agree-start (c .longer .ensures ∙ sym (ap₂ max l r)))
+    let start = c .same-start .ensures in
+    let n = c .before .longer .ensures ∙ sym (ap₂ max l r) in
+    (omega arith, agree-start (c .same-start .result) n (omega arith) (omega arith) (start .2))
 
 character-at-requires : tie.Need-character-at-requires Inv-loop μ-loop
 character-at-requires c κs = search needs
@@ -64,6 +69,7 @@ compare-characters-spec =
     Inv-loop
     μ-loop
     longer-requires
+    same-start-requires
     loop-holds
     character-at-requires
     character-at-requires-2

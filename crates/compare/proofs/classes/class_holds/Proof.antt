@@ -1,23 +1,23 @@
--- Rests on the word and the kind, which pick their case of `classHolds`, and on what each test of the bytes returns.
+-- Rests on the word and the kind, which pick their case of `classHolds`, on kind 3 having all digits, and on what each test of the bytes returns.
 use borrow.Author.Tests.{ne-eqb}
 use borrow.Author.Needs.{needs}
 use Rattle.compare.specs.Classes.{classHolds}
 use Rattle.compare.proofs.classes.class_holds.Statement.{statement}
 use Rattle.compare.proofs.classes.class_holds.Tie as tie
 
-all-digits-requires : tie.Need-all-digits-requires
-all-digits-requires c κs = search needs
-
-returns : tie.Need-returns
-unfolding classHolds
-returns c = rw (c .before .before .if1 .taken, c .before .if2 .taken) (c .all-digits .ensures)
-
 valid-content-requires : tie.Need-valid-content-requires
 valid-content-requires c κs = search needs
 
+returns : tie.Need-returns
+unfolding classHolds
+returns c = rw (c .before .before .if1 .taken, c .before .if2 .taken) (c .valid-content .ensures)
+
+valid-content-requires-2 : tie.Need-valid-content-requires-2
+valid-content-requires-2 c κs = search needs
+
 returns-2 : tie.Need-returns-2
 unfolding classHolds
-returns-2 c = rw (c .before .before .if1 .taken, ne-eqb _ 2 (c .before .if2 .left)) (c .valid-content .ensures)
+returns-2 c = rw (c .before .before .if1 .taken, ne-eqb _ 2 (c .before .if2 .left)) (c .valid-content2 .ensures)
 
 all-in-alphabet-requires : tie.Need-all-in-alphabet-requires
 all-in-alphabet-requires c κs = search needs
@@ -30,9 +30,9 @@ pub class-holds-spec : {M : Type 1} → statement M
 class-holds-spec =
     tie.close
     (tie.spec
-    all-digits-requires
-    returns
     valid-content-requires
+    returns
+    valid-content-requires-2
     returns-2
     all-in-alphabet-requires
     returns-3)
