@@ -6,7 +6,7 @@ use Prim.Native.Nat.{ℕ, zero, suc, _+_, _-_, _%_, _≤_, _<_, max}
 use native.Mathlib.Omega.{arith}
 use native.Mathlib.Numerals.{add-one}
 use lib.Dec.{eqb}
-use lib.ListN.{length, getD, take, drop, replicate, take-append-drop, drop-of-length-le, length-append, length-take, length-drop, length-replicate, getD-replicate, List·getD-append, List·getD-eq-default}
+use lib.ListN.{length, getD, take, drop, replicate, take-append-drop, drop-of-length-le, length-append, length-take, length-replicate, getD-replicate, List·getD-append, List·getD-eq-default}
 use lib.Seq.{take-suc, take-take, take-add, take-append-le, drop-cons, getD-at, getD-take}
 use borrow.Author.Tests.{eqb-true, eqb-false}
 use Rattle.content.specs.Content.{unsignedLast, lastByte, butLast}

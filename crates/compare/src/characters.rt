@@ -68,7 +68,7 @@ fn same_blocks(left: &[u8], right: &[u8]) -> usize
     i
 }
 
-// Characters that need no look of their own. Sides with a sign in the last byte are short: none of theirs.
+// How many characters from the left need no look of their own: none where a last byte has a sign, since such a side is short.
 fn same_start(left: &[u8], left_signed: bool, right: &[u8], right_signed: bool) -> usize
     ensures { λ r. ⌜ (r ≤ length (now (left .entry))) × (r ≤ length (now (right .entry))) × (take r (unsignedLast «left_signed» (now (left .entry))) ≡ take r (unsignedLast «right_signed» (now (right .entry)))) ⌝ }
 {

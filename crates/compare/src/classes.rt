@@ -37,7 +37,7 @@ fn in_alphabet(word: u32, b: u8) -> bool
     is_upper(b) | is_space(b)
 }
 
-// Of the first 16 bytes. The loop has no exit, so that it becomes a few tests of many bytes each.
+// Whether the first 16 bytes are of the alphabet. The loop has no exit, so that it becomes a few tests of many bytes each.
 fn block_in_alphabet(word: u32, bytes: &[u8]) -> bool
     requires { ⌜ 16 ≤ length (now bytes) ⌝ }
     ensures { λ r. ⌜ r ≡ all (inAlphabet word) (take 16 (now (bytes .entry))) ⌝ }
@@ -84,7 +84,7 @@ pub fn class_holds(word: u32, kind: u32, bytes: &[u8]) -> bool
 {
     if word == 10 {
         if kind == 2 {
-            return valid_content(3, bytes);
+            return valid_content(3, bytes); // all digits, as kind 3
         }
         return valid_content(kind, bytes);
     }
