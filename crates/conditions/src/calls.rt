@@ -33,9 +33,9 @@ pub fn expand(
     match prepared {
         Prepared::Refused(refusal) => Written::Refused(refusal),
         Prepared::Rows(_) => {
-            let needed = expanded_length(tokens);
-            if output.len() < needed {
-                return Written::Refused(Refusal::Room(needed));
+            let length = expanded_length(tokens);
+            if output.len() < length {
+                return Written::Refused(Refusal::Room(length));
             }
             Written::Count(write_expanded(tokens, output))
         }
