@@ -1,19 +1,19 @@
 -- Laws of numbers: their order, powers of ten, numbers that digits write, and signed values at their scales.
 use mathlib.Core.Path.{_≡_, refl, sym, ap, ap₂, _∙_}
 use mathlib.Core.Bool.{Bool, true, false, false≢true, _&&_}
-use mathlib.Core.List.{List}
+use mathlib.Core.List.{List, [], _∷_, _++_}
 use Prim.Native.Nat.{ℕ, zero, suc, _+_, _-_, _*_, _/_, _%_, _^_, _≤_, _<_}
 use native.Mathlib.Omega.{arith}
 use native.Mathlib.Numerals.{add-one}
 use native.Mathlib.Decide.{decLt}
-use native.Mathlib.Nat.{zero-mul, mul-comm, div-add-mod', div-lt-iff-lt-mul, div-mul-le-self, mod-lt, mul-pos, mul-lt-mul-of-pos-right, mul-le-mul-left, mul-le-mul-right, le-antisymm, pow-suc, pow-le-pow-right}
+use native.Mathlib.Nat.{zero-mul, mul-comm, mul-assoc, div-add-mod', div-lt-iff-lt-mul, div-mul-le-self, mod-lt, mul-pos, mul-lt-mul-of-pos-right, mul-le-mul-left, mul-le-mul-right, le-antisymm, pow-suc, pow-le-pow-right}
 use lib.Dec.{eqb, eqb·suc-zero}
 use lib.IntN.{ℤ, pos, _*ℤ_}
-use lib.ListN.{length, getD, drop, drop-of-length-le}
+use lib.ListN.{length, getD, take}
 use lib.Pow.{pow-add}
-use lib.Seq.{drop-cons}
+use lib.Seq.{take-suc, take-all, length-take-le}
 use borrow.Author.Tests.{lt-ltb, le-ltb, eqb-true, eqb-false}
-use Rattle.content.specs.Content.{numberFrom, signed}
+use Rattle.content.specs.Content.{lastByte, butLast, numberFrom, signed}
 use Rattle.compare.specs.declared.Order.the-variants.{Less, Equal, Greater}
 use Rattle.compare.specs.Order.{order, orderℤ}
 use Rattle.compare.specs.Compared.{scaledOrder}
@@ -56,15 +56,37 @@ ten-pos s = pow-le-pow-right {n = 10} (omega arith) {i = 0} {j = s} (omega arith
 tens : (s : ℕ) → s ≤ 18 → 10 ^ s * 10 ^ (18 - s) ≡ 10 ^ 18
 tens s h = sym (pow-add 10 s (18 - s)) ∙ ap (λ (n : ℕ). 10 ^ n) {x = s + (18 - s)} {y = 18} (omega arith)
 
--- the number that the digits from i on write after n
-pub number-step : (xs : List ℕ) (n i : ℕ) → i < length xs
-    → numberFrom n (drop i xs) ≡ numberFrom (n * 10 + getD xs i 0 % 16) (drop (i + 1) xs)
+-- the number that digits write: with one digit more, of the first i + 1 bytes, of all
+number-append : (n : ℕ) (xs : List ℕ) (b : ℕ) → numberFrom n (xs ++ b ∷ []) ≡ numberFrom n xs * 10 + b % 16
 unfolding numberFrom
-number-step xs n i h = rw (add-one, drop-cons xs i 0)
+number-append n [] b = refl
+number-append n (x ∷ xs) b = number-append (n * 10 + x % 16) xs b
 
-pub number-end : (xs : List ℕ) (n i : ℕ) → length xs ≤ i → numberFrom n (drop i xs) ≡ n
+pub number-one-more : (xs : List ℕ) (i : ℕ) → i < length xs → numberFrom 0 (take (i + 1) xs) ≡ numberFrom 0 (take i xs) * 10 + getD xs i 0 % 16
+number-one-more xs i h = rw (add-one, take-suc xs i 0) (number-append 0 (take i xs) (getD xs i 0))
+
+pub number-last : (bytes : List ℕ) → 1 ≤ length bytes → numberFrom 0 (butLast bytes) * 10 + lastByte bytes % 16 ≡ numberFrom 0 bytes
+number-last bytes h =
+    sym (number-one-more bytes (length bytes - 1) (omega arith))
+    ∙ ap (numberFrom 0) (take-all (length bytes - 1 + 1) bytes (omega arith))
+
+-- how large it is: of 18 digits, those before one leave room for it
+number-below : (n : ℕ) (xs : List ℕ) → numberFrom n xs + 2 ≤ (n + 2) * 10 ^ length xs
 unfolding numberFrom
-number-end xs n i h = rw (drop-of-length-le xs h)
+number-below n [] = omega arith
+number-below n (x ∷ xs) =
+    let digit : n * 10 + x % 16 + 2 ≤ (n + 2) * 10 = omega arith in
+    let rest : numberFrom n (x ∷ xs) + 2 ≤ (n * 10 + x % 16 + 2) * 10 ^ length xs = number-below (n * 10 + x % 16) xs in
+    let ten : 10 ^ suc (length xs) ≡ 10 * 10 ^ length xs = rw pow-suc (mul-comm _ _) in
+    let more : (n + 2) * 10 ^ length (x ∷ xs) ≡ (n + 2) * 10 * 10 ^ length xs =
+    ap (λ (t : ℕ). (n + 2) * t) ten ∙ sym (mul-assoc (n + 2) 10 (10 ^ length xs)) in
+    omega (arith, more, rest, mul-le-mul-right (10 ^ length xs) digit)
+
+number-small : (xs : List ℕ) (i : ℕ) → i ≤ length xs → numberFrom 0 (take i xs) + 2 ≤ 2 * 10 ^ i
+number-small xs i h = rw (length-take-le i xs h) at (number-below 0 (take i xs))
+
+pub number-room : (xs : List ℕ) (i : ℕ) → i < length xs → length xs ≤ 18 → numberFrom 0 (take i xs) * 10 + 20 ≤ 2 * 10 ^ 18
+number-room xs i h few = omega (arith, number-small xs i (omega arith), ten-more i, ten-most (i + 1) (omega arith))
 
 -- D1 × 10^s2 against D2 × 10^s1: at one scale the digits decide
 pub same-scale : (d1 d2 : ℕ) {s1 s2 : ℕ} → s1 ≡ s2 → order (d1 * 10 ^ s2) (d2 * 10 ^ s1) ≡ order d1 d2

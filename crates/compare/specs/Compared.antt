@@ -3,9 +3,15 @@ use mathlib.Core.List.{List, [], _∷_, _++_}
 use Prim.Native.Nat.{ℕ, _-_, _^_, max}
 use lib.ListN.{length, replicate}
 use lib.IntN.{ℤ, pos, _*ℤ_}
+use Rattle.content.specs.Content.{validContent, isMinus, magnitude}
+use Rattle.compare.specs.declared.Number.{Number}
 use Rattle.compare.specs.declared.Order.{Order}
 use Rattle.compare.specs.declared.Order.the-variants.{Less, Equal, Greater}
 use Rattle.compare.specs.Order.{order, orderℤ}
+
+-- what a numeric field holds
+abbrev pub numberOf : ℕ → List ℕ → Number
+numberOf kind bytes = record { valid = validContent kind bytes; minus = isMinus kind bytes; digits = magnitude kind bytes }
 
 -- "Two numeric sides: with digit values D1, D2 (signed) and scales s1, s2, compare D1 × 10^s2 with D2 × 10^s1 as whole numbers."
 abbrev pub scaledOrder : ℤ → ℕ → ℤ → ℕ → Order

@@ -2,7 +2,7 @@
 
 pub mod characters; // comparison by characters
 pub mod classes; // class tests
-pub mod numbers; // comparison by value
+pub mod numbers; // what a numeric field holds, comparison by value
 pub mod orders; // what relation and sign words accept
 pub mod switches; // switches
 
@@ -11,4 +11,11 @@ pub enum Order {
     Less,
     Equal,
     Greater,
+}
+
+// What a numeric field holds: whether its content is valid, its sign and its digits.
+pub struct Number {
+    pub valid: bool,
+    pub minus: bool,
+    pub digits: u64,
 }

@@ -4,12 +4,16 @@ ghost use mathlib.Core.Path.{_≡_};
 ghost use Prim.Native.Nat.{_*_, _^_, _≤_};
 ghost use lib.ListN.{length};
 ghost use lib.IntN.{pos};
-ghost use Rattle.content.specs.Content.{numberFrom, digitBytes, magnitude, signed};
+ghost use Rattle.content.specs.Content.{digitBytes, signed};
 ghost use Rattle.compare.specs.Order.{order, orderℤ};
-ghost use Rattle.compare.specs.Compared.{scaledOrder};
+ghost use Rattle.compare.specs.Compared.{numberOf, scaledOrder};
+use crate::Number;
 use crate::Order;
 use crate::orders::order_of;
-use content::fields::digit_bytes;
+use content::fields::is_digit;
+use content::fields::is_minus;
+use content::fields::is_sign;
+use content::fields::is_signed_digit;
 
 fn power_of_ten(s: u32) -> u64
     requires { ⌜ s ≤ 18 ⌝ }
@@ -30,25 +34,59 @@ fn wide(x: u8) -> u64
     x as u64
 }
 
-// The number that digits write; a digit is the right half of its byte.
-fn number_of(digits: &[u8]) -> u64
-    requires { ⌜ length (now digits) ≤ 18 ⌝ }
-    ensures { λ r. ⌜ r ≡ numberFrom 0 (now (digits .entry)) ⌝ }
+// A field of digits only, as kind 3 is. A digit is the right half of its byte, valid or not, so that each field's number fits.
+fn read_digits(bytes: &[u8]) -> Number
+    requires { ⌜ length (now bytes) ≤ 18 ⌝ }
+    ensures { λ r. ⌜ r ≡ numberOf 3 (now (bytes .entry)) ⌝ }
 {
+    let mut fine = true;
     let mut n: u64 = 0;
     let mut i: usize = 0;
-    while i < digits.len() {
-        n = n * 10 + wide(digits[i] % 16);
+    while i < bytes.len() {
+        let b = bytes[i];
+        fine = fine & is_digit(b);
+        n = n * 10 + wide(b % 16);
         i += 1;
     }
-    n
+    Number {
+        valid: fine,
+        minus: false,
+        digits: n,
+    }
 }
 
-pub fn magnitude_of(kind: u32, bytes: &[u8]) -> u64
+// All that a numeric field holds, in one pass over its bytes.
+pub fn read_number(kind: u32, bytes: &[u8]) -> Number
+    requires { ⌜ (3 ≤ kind) × (kind ≤ 6) ⌝ }
     requires { ⌜ (1 ≤ length (now bytes)) × (length (digitBytes kind (now bytes)) ≤ 18) ⌝ }
-    ensures { λ r. ⌜ r ≡ magnitude kind (now (bytes .entry)) ⌝ }
+    ensures { λ r. ⌜ r ≡ numberOf kind (now (bytes .entry)) ⌝ }
 {
-    number_of(digit_bytes(kind, bytes))
+    if kind == 3 {
+        return read_digits(bytes);
+    }
+    if kind == 5 {
+        let rest = read_digits(&bytes[1..]);
+        return Number {
+            valid: is_sign(bytes[0]) & rest.valid,
+            minus: is_minus(kind, bytes),
+            digits: rest.digits,
+        };
+    }
+    let last = bytes.len() - 1;
+    let rest = read_digits(&bytes[..last]);
+    let b = bytes[last];
+    if kind == 4 {
+        return Number {
+            valid: rest.valid & is_signed_digit(b),
+            minus: is_minus(kind, bytes),
+            digits: rest.digits * 10 + wide(b % 16),
+        };
+    }
+    Number {
+        valid: rest.valid & is_sign(b),
+        minus: is_minus(kind, bytes),
+        digits: rest.digits,
+    }
 }
 
 fn compare_magnitudes(d1: u64, s1: u32, d2: u64, s2: u32) -> Order

@@ -4,10 +4,10 @@ use Prim.Native.Nat.{ℕ, _/_, _≤_}
 use native.Mathlib.Omega.{arith}
 use native.Mathlib.Decide.{ℕ-discrete}
 use mathlib.Core.Path.{_≡_, refl, sym, ap₂, subst⁻¹, _∙_}
-use mathlib.Core.Bool.{Bool, true, false, cond, _&&_, _||_, or-false}
+use mathlib.Core.Bool.{Bool, true, false, not, cond, _&&_, _||_, and-true, or-false}
 use mathlib.Core.List.{List}
 use mathlib.Core.Logic.{⊎-elim}
-use lib.Dec.{eqb}
+use lib.Dec.{eqb, leb}
 use lib.ListN.{length, length-drop}
 use borrow.Author.Tests.{leb-true, eqb-true, ne-eqb}
 use Rattle.tables.specs.declared.Check.the-variants.{Sound}
@@ -16,7 +16,7 @@ use Rattle.tables.specs.declared.Refusal.the-variants.{ItemRow, LiteralRow, Rec
 use Rattle.tables.specs.declared.Row.{Row}
 use Rattle.typing.specs.declared.Test.the-variants.{Switch, Relation, Class, Sign}
 use Rattle.tables.specs.Tokens.{isItem, isOn, isOff, isSwitch, indexOf, exists}
-use Rattle.tables.specs.Rows.{rowCount, rowSound, isNumeric}
+use Rattle.tables.specs.Rows.{rowCount, rowSound, isGroup, isNumeric}
 use Rattle.content.specs.Content.{digitBytes, digitCharacters, unsignedLast}
 use Rattle.tables.specs.Operands.{Lent, operandSound, switchSound, rowOf, operandBytes, liesWithin, Within}
 use Rattle.tables.specs.Refusals.{firstOf}
@@ -27,9 +27,11 @@ use Rattle.tables.proofs.Tests.{both, four, either}
 use Rattle.tables.proofs.Lines.{every-sound, AllSound, lines-sound}
 use Rattle.tables.proofs.Bytes.{row-facts, digits-fit, scale-small, item-there, literal-there, operand-length}
 use Rattle.content.proofs.Bytes.{but-last-length}
+use Rattle.compare.specs.declared.Number.{Number}
 use Rattle.compare.specs.declared.Order.{Order}
 use Rattle.compare.specs.Order.{relationHolds}
-use Rattle.values.specs.Comparison.{Side, side, sideOf, givesDigits, characters, comparison, faulty}
+use Rattle.compare.specs.Compared.{numberOf, scaledOrder}
+use Rattle.values.specs.Comparison.{Side, side, sideOf, numeric, valueOf, givesDigits, characters, comparison, invalid, faulty}
 use Rattle.values.specs.Truth.{truth, turned, relationOutcome, Readable, Fit, Sided, Numeral}
 
 -- where no line on the tables applies and the record holds its items, a sound operand is fit to be read
@@ -71,12 +73,39 @@ some-bytes {s} f = omega (arith, row-facts (s .row) (f .sound) .some)
 pub numeral : {s : Side} → Fit s → isNumeric (s .row) ≡ true → Numeral (s .row) (s .bytes)
 numeral {s} f n =
     record {
+      kind = n;
       some = some-bytes f;
       digits = digits-fit (s .row) (s .bytes) (f .sound) n (f .sized);
       scaled = scale-small (s .row) (f .sound);
     }
 
--- nor are its digits none, so that there is a character to compare
+-- what a side that holds a number gives to the code that reads it
+pub read-fits : {row : Row} {bytes : List ℕ} → Numeral row bytes
+    → ((3 ≤ row .kind) × (row .kind ≤ 6)) × ((1 ≤ length bytes) × (length (digitBytes (row .kind) bytes) ≤ 18))
+read-fits {row} n =
+    let k = both (leb 3 (row .kind)) (leb (row .kind) 6) (n .kind) in
+    ((leb-true _ _ (k .0), leb-true _ _ (k .1)), (n .some, n .digits))
+
+-- what the number that is read of a numeric side says of it, alone and beside another numeric side, which is no group
+pub number-invalid : (s : Side) {n : Number} → numeric s ≡ true → n ≡ numberOf (s .row .kind) (s .bytes)
+    → s .item && not (n .valid) ≡ invalid s
+number-invalid s m e = rw (e, m, and-true (s .item))
+
+no-group : (row : Row) → isNumeric row ≡ true → isGroup row ≡ false
+no-group row n =
+    let three = leb-true 3 (row .kind) (both (leb 3 (row .kind)) (leb (row .kind) 6) n .0) in
+    ne-eqb (row .kind) 0 (λ e. omega (arith, three, e))
+
+pub number-faulty : (s o : Side) {n : Number} → numeric s ≡ true → numeric o ≡ true → n ≡ numberOf (s .row .kind) (s .bytes)
+    → s .item && not (n .valid) ≡ faulty s o
+number-faulty s o m k e = rw (no-group (o .row) k, and-true (invalid s)) (number-invalid s m e)
+
+pub by-value : (s o : Side) → numeric s ≡ true → numeric o ≡ true
+    → comparison s o ≡ scaledOrder (valueOf s) (s .row .scale) (valueOf o) (o .row .scale)
+unfolding comparison
+by-value s o m k = rw (m, k)
+
+-- nor are a fit side's digits none, so that there is a character to compare
 pub some-compared : {s : Side} → Fit s → (digits : Bool) → 1 ≤ length (cond digits (digitBytes (s .row .kind) (s .bytes)) (s .bytes))
 some-compared f false = some-bytes f
 some-compared {s} f true = by (ℕ-discrete (s .row .kind) 5) (ℕ-discrete (s .row .kind) 6)

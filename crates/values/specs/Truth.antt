@@ -11,7 +11,7 @@ use Rattle.typing.specs.declared.Test.{Test}
 use Rattle.typing.specs.declared.Test.the-variants.{Switch, Relation, Class, Sign, Unknown}
 use Rattle.tables.specs.declared.Check.the-variants.{Sound}
 use Rattle.tables.specs.declared.Row.{Row}
-use Rattle.tables.specs.Rows.{rowSound}
+use Rattle.tables.specs.Rows.{rowSound, isNumeric}
 use Rattle.content.specs.Content.{digitBytes}
 use Rattle.tables.specs.Operands.{Lent, Within}
 use Rattle.tables.specs.Refusals.{firstOf}
@@ -78,6 +78,7 @@ pub record Sided (lent : Lent) (content : List ℕ) (token : ℕ) : Type 0 where
 
 -- a side that holds a number: at most 18 digits, at most 18 of them after the point
 pub record Numeral (row : Row) (bytes : List ℕ) : Type 0 where
+  pub kind : isNumeric row ≡ true
   pub some : 1 ≤ length bytes
   pub digits : length (digitBytes (row .kind) bytes) ≤ 18
   pub scaled : row .scale ≤ 18

@@ -1,26 +1,22 @@
 // The two sides of a relation: whether one is faulty, and how they compare.
 ghost use mathlib.Core.Path.{_≡_};
-ghost use mathlib.Core.Bool.{cond, not, _&&_};
+ghost use mathlib.Core.Bool.{false, cond, not, _&&_};
 ghost use Prim.Native.Nat.{_≤_};
 ghost use lib.ListN.{length};
 ghost use Rattle.tables.specs.Rows.{isGroup, isNumeric};
-ghost use Rattle.content.specs.Content.{digitBytes, value};
+ghost use Rattle.content.specs.Content.{digitBytes};
 ghost use Rattle.values.specs.Comparison.{side, comparison, invalid};
-ghost use Rattle.compare.specs.Compared.{scaledOrder};
-ghost use Rattle.values.specs.Truth.{Fit, Numeral};
+ghost use Rattle.values.specs.Truth.{Fit};
 use compare::Order;
 use compare::characters::compare_characters;
-use compare::numbers::compare_scaled;
-use compare::numbers::magnitude_of;
 use content::fields::digit_bytes;
-use content::fields::is_minus;
 use content::fields::valid_content;
 use tables::Row;
 use tables::rows::is_group;
 use tables::rows::is_numeric;
 
 // Whether a side is a numeric item with invalid content.
-pub fn is_invalid(item: bool, row: Row, bytes: &[u8]) -> bool
+fn is_invalid(item: bool, row: Row, bytes: &[u8]) -> bool
     requires { ⌜ 1 ≤ length (now bytes) ⌝ }
     ensures { λ r. ⌜ r ≡ invalid (side item row (now (bytes .entry))) ⌝ }
 {
@@ -58,17 +54,7 @@ fn compared_part(digits: bool, kind: u32, bytes: &[u8]) -> &[u8]
     bytes
 }
 
-fn compare_values(row1: Row, bytes1: &[u8], row2: Row, bytes2: &[u8]) -> Order
-    requires { ⌜ Numeral row1 (now bytes1) × Numeral row2 (now bytes2) ⌝ }
-    ensures { λ r. ⌜ r ≡ scaledOrder (value (row1 .kind) (now (bytes1 .entry))) (row1 .scale) (value (row2 .kind) (now (bytes2 .entry))) (row2 .scale) ⌝ }
-{
-    let minus1 = is_minus(row1.kind, bytes1);
-    let d1 = magnitude_of(row1.kind, bytes1);
-    let minus2 = is_minus(row2.kind, bytes2);
-    let d2 = magnitude_of(row2.kind, bytes2);
-    compare_scaled(minus1, d1, row1.scale, minus2, d2, row2.scale)
-}
-
+// Other pairs than two numeric sides: by characters.
 pub fn compare_sides(
     item1: bool,
     row1: Row,
@@ -78,11 +64,9 @@ pub fn compare_sides(
     bytes2: &[u8],
 ) -> Order
     requires { ⌜ Fit (side item1 row1 (now bytes1)) × Fit (side item2 row2 (now bytes2)) ⌝ }
+    requires { ⌜ (isNumeric row1 && isNumeric row2) ≡ false ⌝ }
     ensures { λ r. ⌜ r ≡ comparison (side item1 row1 (now (bytes1 .entry))) (side item2 row2 (now (bytes2 .entry))) ⌝ }
 {
-    if is_numeric(row1) & is_numeric(row2) {
-        return compare_values(row1, bytes1, row2, bytes2);
-    }
     let digits1 = gives_digits(item1, row1, row2);
     let digits2 = gives_digits(item2, row2, row1);
     compare_characters(

@@ -3,21 +3,22 @@ ghost use mathlib.Core.Path.{_≡_};
 ghost use mathlib.Core.Bool.{true};
 ghost use Rattle.tables.specs.Rows.{isNumeric};
 ghost use Rattle.tables.specs.Operands.{lend, rowOf};
-ghost use Rattle.values.specs.Comparison.{sideOf};
-ghost use Rattle.values.specs.Truth.{truth, turned, relationOutcome, classOutcome, signOutcome, outcome, Readable, Sided};
+ghost use Rattle.values.specs.Comparison.{side, sideOf};
+ghost use Rattle.values.specs.Truth.{truth, turned, relationOutcome, classOutcome, signOutcome, outcome, Readable, Sided, Numeral};
 use crate::sides::compare_sides;
 use crate::sides::is_faulty;
-use crate::sides::is_invalid;
 use compare::classes::class_holds;
+use compare::numbers::compare_scaled;
 use compare::numbers::compare_zero;
-use compare::numbers::magnitude_of;
+use compare::numbers::read_number;
 use compare::orders::relation_holds;
 use compare::orders::sign_holds;
 use compare::switches::switch_holds;
-use content::fields::is_minus;
 use tables::Outcome;
+use tables::Row;
 use tables::operands::operand_bytes;
 use tables::operands::row_of;
+use tables::rows::is_numeric;
 use tables::tokens::is_item;
 use typing::Test;
 use typing::shape::test_of;
@@ -30,6 +31,36 @@ fn truth_value(negated: bool, holds: bool) -> Outcome
         return Outcome::False;
     }
     Outcome::True
+}
+
+// A relation of two numeric sides. The digits of each are gone through once, for their check and for their value.
+fn value_outcome(
+    item1: bool,
+    row1: Row,
+    bytes1: &[u8],
+    item2: bool,
+    row2: Row,
+    bytes2: &[u8],
+    word: u32,
+    negated: bool,
+) -> Outcome
+    requires { ⌜ Numeral row1 (now bytes1) × Numeral row2 (now bytes2) ⌝ }
+    ensures { λ r. ⌜ r ≡ relationOutcome word negated (side item1 row1 (now (bytes1 .entry))) (side item2 row2 (now (bytes2 .entry))) ⌝ }
+{
+    let left = read_number(row1.kind, bytes1);
+    let right = read_number(row2.kind, bytes2);
+    if (item1 & !left.valid) | (item2 & !right.valid) {
+        return Outcome::Fault;
+    }
+    let order = compare_scaled(
+        left.minus,
+        left.digits,
+        row1.scale,
+        right.minus,
+        right.digits,
+        row2.scale,
+    );
+    truth_value(negated, relation_holds(word, order))
 }
 
 fn relation_outcome<'a>(
@@ -46,18 +77,19 @@ fn relation_outcome<'a>(
     requires { ⌜ Sided (lend (now items) (now literals) (now bytes)) (now «record») object ⌝ }
     ensures { λ r. ⌜ r ≡ relationOutcome word negated (sideOf (lend (now (items .entry)) (now (literals .entry)) (now (bytes .entry))) (now («record» .entry)) subject) (sideOf (lend (now (items .entry)) (now (literals .entry)) (now (bytes .entry))) (now («record» .entry)) object) ⌝ }
 {
-    let left = row_of(subject, items, literals);
-    let right = row_of(object, items, literals);
-    let left_bytes = operand_bytes(subject, items, literals, bytes, record);
-    let right_bytes = operand_bytes(object, items, literals, bytes, record);
-    let left_item = is_item(subject);
-    let right_item = is_item(object);
-    if is_faulty(left_item, left, left_bytes, right)
-        | is_faulty(right_item, right, right_bytes, left)
-    {
+    let row1 = row_of(subject, items, literals);
+    let row2 = row_of(object, items, literals);
+    let left = operand_bytes(subject, items, literals, bytes, record);
+    let right = operand_bytes(object, items, literals, bytes, record);
+    let item1 = is_item(subject);
+    let item2 = is_item(object);
+    if is_numeric(row1) & is_numeric(row2) {
+        return value_outcome(item1, row1, left, item2, row2, right, word, negated);
+    }
+    if is_faulty(item1, row1, left, row2) | is_faulty(item2, row2, right, row1) {
         return Outcome::Fault;
     }
-    let order = compare_sides(left_item, left, left_bytes, right_item, right, right_bytes);
+    let order = compare_sides(item1, row1, left, item2, row2, right);
     truth_value(negated, relation_holds(word, order))
 }
 
@@ -93,10 +125,11 @@ fn sign_outcome<'a>(
 {
     let row = row_of(subject, items, literals);
     let part = operand_bytes(subject, items, literals, bytes, record);
-    if is_invalid(is_item(subject), row, part) {
+    let number = read_number(row.kind, part);
+    if is_item(subject) & !number.valid {
         return Outcome::Fault;
     }
-    let order = compare_zero(is_minus(row.kind, part), magnitude_of(row.kind, part));
+    let order = compare_zero(number.minus, number.digits);
     truth_value(negated, sign_holds(word, order))
 }
 
