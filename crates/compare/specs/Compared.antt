@@ -9,7 +9,7 @@ use Rattle.compare.specs.declared.Order.{Order}
 use Rattle.compare.specs.declared.Order.the-variants.{Less, Equal, Greater}
 use Rattle.compare.specs.Order.{order, orderℤ}
 
--- what a numeric field holds
+-- "Valid content" and "digit values D1, D2 (signed)": whether a numeric field is valid, its sign and its digits
 abbrev pub numberOf : ℕ → List ℕ → Number
 numberOf kind bytes = record { valid = validContent kind bytes; minus = isMinus kind bytes; digits = magnitude kind bytes }
 

@@ -93,9 +93,6 @@ bound-token x h = omega (arith, spelled x h)
 pub test-token : (x : ℕ) → Is test x → (262154 ≤ x) × (x ≤ 262160)
 test-token x h = omega (arith, spelled x h)
 
-pub other-token : (x : ℕ) → Is other x → 262160 < x
-other-token x h = omega (arith, spelled x h)
-
 pub is-operand : (x : ℕ) → x < 131072 → Is operand x
 unfolding class
 is-operand x h =
