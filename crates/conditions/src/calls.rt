@@ -12,6 +12,7 @@ use expander::expand::expanded_length;
 use expander::expand::write_expanded;
 use plans::checks::check_plan;
 use tables::Check;
+use tables::Judged;
 use tables::Refusal;
 use tables::Verdict;
 use tables::Written;
@@ -87,17 +88,23 @@ pub fn judge<'a>(
     tokens: &[u32],
     record: &'a [u8],
     switches: u8,
-) -> Verdict
+) -> Judged
     ensures { λ r. ⌜ r ≡ judgeGives (lend (now (items .entry)) (now (literals .entry)) (now (bytes .entry))) (now (tokens .entry)) (now («record» .entry)) switches ⌝ }
 {
     let mut rows = [0u32; 640];
     let prepared = prepare(items, literals, bytes, tokens, &mut rows);
     match prepared {
-        Prepared::Refused(refusal) => Verdict::Refused(refusal),
+        Prepared::Refused(refusal) => Judged {
+            verdict: Verdict::Refused(refusal),
+            count: 0,
+        },
         Prepared::Rows(count) => {
             let held = check_record(items, record);
             if let Check::Refused(refusal) = held {
-                return Verdict::Refused(refusal);
+                return Judged {
+                    verdict: Verdict::Refused(refusal),
+                    count: 0,
+                };
             }
             let end = count * 5;
             run_rows(items, literals, bytes, &rows[..end], record, switches)
@@ -113,20 +120,29 @@ pub fn run<'a>(
     plan: &[u32],
     record: &'a [u8],
     switches: u8,
-) -> Verdict
+) -> Judged
     ensures { λ r. ⌜ r ≡ runGives (lend (now (items .entry)) (now (literals .entry)) (now (bytes .entry))) (now (plan .entry)) (now («record» .entry)) switches ⌝ }
 {
     let tables = check_tables(items, literals, bytes);
     if let Check::Refused(refusal) = tables {
-        return Verdict::Refused(refusal);
+        return Judged {
+            verdict: Verdict::Refused(refusal),
+            count: 0,
+        };
     }
     let rows = check_plan(items, literals, plan);
     if let Check::Refused(refusal) = rows {
-        return Verdict::Refused(refusal);
+        return Judged {
+            verdict: Verdict::Refused(refusal),
+            count: 0,
+        };
     }
     let held = check_record(items, record);
     if let Check::Refused(refusal) = held {
-        return Verdict::Refused(refusal);
+        return Judged {
+            verdict: Verdict::Refused(refusal),
+            count: 0,
+        };
     }
     run_rows(items, literals, bytes, plan, record, switches)
 }

@@ -1,5 +1,6 @@
 -- Rests on what the checks ensure: the first line that refuses, or a plan that can be run.
-use mathlib.Core.Path.{sym, _∙_}
+use mathlib.Core.Path.{sym, ap, _∙_}
+use Rattle.rules.specs.Calls.{told}
 use borrow.Author.Needs.{needs}
 use Rattle.rules.proofs.Answers.{tables-refuse}
 use Rattle.conditions.proofs.Calling.{plan-refuses, run-record-refuses, plan-runnable, run-answers}
@@ -13,7 +14,7 @@ enum-known-tables : tie.Need-enum-known-tables
 enum-known-tables c = search needs
 
 returns : tie.Need-returns
-returns c = tables-refuse _ _ _ _ (sym (c .before .before .before .check-tables .ensures) ∙ c .before .tables .given .1)
+returns c = ap told (tables-refuse _ _ _ _ (sym (c .before .before .before .check-tables .ensures) ∙ c .before .tables .given .1))
 
 enum-told : tie.Need-enum-told
 enum-told c = search needs
