@@ -1,4 +1,4 @@
--- No place is above 640, and no count: an answer fits one half of a 64-bit number.
+-- No place is above 640, and no count: an answer fits numbers of 32 bits.
 use mathlib.Core.Path.{_≡_, refl, sym, ap, _∙_}
 use mathlib.Core.Bool.{Bool, true, false, cond, _&&_}
 use mathlib.Core.List.{List, [], _∷_, _++_}
@@ -39,7 +39,7 @@ use Rattle.grammar.proofs.Segment.{planned-length, follow-row, follow-true, fol
 use Rattle.grammar.proofs.Sure.{some-rows, sure}
 use Rattle.grammar.specs.Expanded.{expanded}
 use Rattle.grammar.specs.Plan.{onTrue, onFalse, planned, planRow, planRows, planLengthSound, planCheck, follow, run, running}
-use Rattle.rules.specs.Places.{Small, Modest}
+use Rattle.rules.specs.Places.{Small, Modest, Fits}
 use Rattle.rules.specs.Calls.{grammarCheck, earlier, typingCheck, conditionLines, roomCheck, writes, numbersOf, writing, expandGives, planGives, answers, told, treeAnswer, judgeWalk, judgeGives, runWalk, runGives}
 use Rattle.rules.proofs.Passing.{both-sound, passed, read-as, few-tokens as short-passed}
 
@@ -205,7 +205,7 @@ modest-judged out n (chained t u) l =
 modest-judged out n (either t u) l =
     modest-when (judged out n t) True (judged out (n + leaves t) u) (modest-judged out n t (omega arith)) tt (modest-judged out (n + leaves t) u (omega arith))
 
-pub judge-modest : (lent : Lent) (tokens content : List ℕ) (switches : ℕ) → Modest (judgeGives lent tokens content switches .verdict)
+judge-modest : (lent : Lent) (tokens content : List ℕ) (switches : ℕ) → Modest (judgeGives lent tokens content switches .verdict)
 unfolding judgeWalk
 judge-modest lent tokens content switches =
     modest-answers _ (treeAnswer lent content switches (read tokens))
@@ -219,7 +219,7 @@ few-answers : (line : Check) (w : Walk) → (line ≡ Sound → length (w .visit
 few-answers Sound w g = g refl
 few-answers (Refused refusal) w g = omega arith
 
-pub judge-few : (lent : Lent) (tokens content : List ℕ) (switches : ℕ) → judgeGives lent tokens content switches .count ≤ 128
+judge-few : (lent : Lent) (tokens content : List ℕ) (switches : ℕ) → judgeGives lent tokens content switches .count ≤ 128
 unfolding judgeWalk
 judge-few lent tokens content switches =
     few-answers (firstOf (conditionLines lent tokens ++ recordCheck lent content ∷ [])) (treeAnswer lent content switches (read tokens))
@@ -227,7 +227,7 @@ judge-few lent tokens content switches =
     let (t, p) = passed lent tokens (both-sound (conditionLines lent tokens) (recordCheck lent content ∷ []) e .0) in
     rw (read-as p) (omega (arith, visited-le (outcome lent content switches) 0 t, few-rows (p .accepts .derives) (short-passed p))))
 
-pub run-few : (lent : Lent) (plan content : List ℕ) (switches : ℕ) → runGives lent plan content switches .count ≤ 128
+run-few : (lent : Lent) (plan content : List ℕ) (switches : ℕ) → runGives lent plan content switches .count ≤ 128
 unfolding runWalk
 run-few lent plan content switches =
     few-answers (firstOf (tableLines lent ++ planCheck lent plan ∷ recordCheck lent content ∷ [])) (running (outcome lent content switches) plan)
@@ -276,7 +276,7 @@ low-plan lent plan =
     leb-true _ _ (both (eqb (length plan % 5) 0 && leb 1 (planRows plan)) (leb (planRows plan) 128) (test-sound _ (PlanFault 0) e) .1) in
     low-last _ (low-failing _ PlanFault (λ k. refl) 0 (planRows plan) (omega arith)))
 
-pub run-modest : (lent : Lent) (plan content : List ℕ) (switches : ℕ) → Modest (runGives lent plan content switches .verdict)
+run-modest : (lent : Lent) (plan content : List ℕ) (switches : ℕ) → Modest (runGives lent plan content switches .verdict)
 unfolding runWalk run
 run-modest lent plan content switches =
     modest-answers _ (running (outcome lent content switches) plan)
@@ -284,3 +284,9 @@ run-modest lent plan content switches =
     (λ e.
     let s = lines-sound _ (both-sound (tableLines lent) (planCheck lent plan ∷ recordCheck lent content ∷ []) e .1) .0 in
     modest-follow lent plan s (outcome lent content switches) (planRows plan) 0 (omega arith, λ _. omega (arith, some-rows lent plan s)))
+
+pub judge-fits : (lent : Lent) (tokens content : List ℕ) (switches : ℕ) → Fits (judgeGives lent tokens content switches)
+judge-fits lent tokens content switches = (judge-modest lent tokens content switches, judge-few lent tokens content switches)
+
+pub run-fits : (lent : Lent) (plan content : List ℕ) (switches : ℕ) → Fits (runGives lent plan content switches)
+run-fits lent plan content switches = (run-modest lent plan content switches, run-few lent plan content switches)
