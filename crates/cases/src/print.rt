@@ -1,5 +1,6 @@
 // What the program writes: texts, numbers and answers.
 use libc::STDOUT_FILENO;
+use tables::Judged;
 use tables::Refusal;
 use tables::Verdict;
 use tables::Written;
@@ -60,8 +61,10 @@ fn truth(given: Verdict) {
     }
 }
 
-pub fn verdict(call: &[u8], given: Verdict) {
+pub fn judged(call: &[u8], given: Judged) {
     text(call);
-    truth(given);
+    truth(given.verdict);
+    text(b", judged ");
+    number(given.count);
     text(b"\n");
 }
