@@ -6,6 +6,7 @@ pub mod case;
 #[cfg(feature = "library")]
 pub mod compare;
 pub mod generate;
+pub mod outside;
 pub mod random;
 pub mod rules;
 pub mod show;

@@ -1,5 +1,6 @@
-//! The rules, written a second time from the scope paper (document 01) alone.
-//! Comments in double quotes are that paper's sentences.
+//! The rules, written a second time from the scope paper (document 01) and the
+//! change requests (document 02) alone.
+//! Comments in double quotes are their sentences.
 //!
 //! The way taken here: a recogniser that keeps the set of grammar spots after
 //! each token; a reader that turns recognised tokens into parts; one pass over
@@ -26,11 +27,38 @@ pub use tables::Tables;
 pub struct Refusal {
     pub number: u32,
     pub place: u32,
+    /// An offset in the record for the refusals that name one, else 0.
+    pub byte: u32,
+}
+
+impl Refusal {
+    pub fn at(number: u32, place: u32) -> Refusal {
+        let byte = 0;
+        Refusal {
+            number,
+            place,
+            byte,
+        }
+    }
 }
 
 fn refuse<T>(number: u32, place: usize) -> Result<T, Refusal> {
-    let place = place as u32;
-    Err(Refusal { number, place })
+    Err(Refusal::at(number, place as u32))
+}
+
+/// "Judge and run also report how many simple conditions were judged, a refused
+/// one counted, 0 if refused earlier" (02, i).
+#[derive(Clone, Copy, Debug, PartialEq, Eq)]
+pub struct Judged {
+    pub answer: Result<bool, Refusal>,
+    pub count: u32,
+}
+
+impl Judged {
+    fn refused_earlier(refusal: Refusal) -> Judged {
+        let answer = Err(refusal);
+        Judged { answer, count: 0 }
+    }
 }
 
 /// "The relation is the word number, plus 32 where NOT belongs to it."
@@ -64,23 +92,24 @@ pub fn plan(tables: &Tables, tokens: &[u32], output: &mut [u32]) -> Result<u32, 
 /// "The rules' answer, for tokens and tables that none of 1 to 9 refuses, is
 /// refusal 12 where the table below gives it, else the answer of the derived
 /// tree."
-pub fn judge(
-    tables: &Tables,
-    tokens: &[u32],
-    record: &[u8],
-    switches: u8,
-) -> Result<bool, Refusal> {
-    check_condition(tables, tokens)?;
-    tables::check_record(tables, record)?;
-    judge::answer_of_tree(tables, tokens, record, switches)
+pub fn judge(tables: &Tables, tokens: &[u32], record: &[u8], switches: u8) -> Judged {
+    let checked =
+        check_condition(tables, tokens).and_then(|_| tables::check_record(tables, record));
+    match checked {
+        Ok(()) => judge::answer_of_tree(tables, tokens, record, switches),
+        Err(refusal) => Judged::refused_earlier(refusal),
+    }
 }
 
 /// "A run starts at row 0 and follows targets."
-pub fn run(tables: &Tables, plan: &[u32], record: &[u8], switches: u8) -> Result<bool, Refusal> {
-    tables::check_tables(tables)?;
-    plan::check_plan(tables, plan)?;
-    tables::check_record(tables, record)?;
-    judge::answer_of_plan(tables, plan, record, switches)
+pub fn run(tables: &Tables, plan: &[u32], record: &[u8], switches: u8) -> Judged {
+    let checked = tables::check_tables(tables)
+        .and_then(|()| plan::check_plan(tables, plan))
+        .and_then(|()| tables::check_record(tables, record));
+    match checked {
+        Ok(()) => judge::answer_of_plan(tables, plan, record, switches),
+        Err(refusal) => Judged::refused_earlier(refusal),
+    }
 }
 
 /// Refusals 1 to 9 in their order; 7 and 8 come out of one walk. Gives the

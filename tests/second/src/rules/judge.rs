@@ -5,7 +5,7 @@ use super::parts::{parts, Part};
 use super::plan::{plan_row, VERDICT_FALSE, VERDICT_TRUE};
 use super::tables::Tables;
 use super::values::test;
-use super::{refuse, Refusal};
+use super::{refuse, Judged};
 
 /// A condition on its way: whether judging reached it, whether one of its
 /// chains was true, and whether the current chain is true so far.
@@ -47,23 +47,24 @@ impl Level {
 /// "Judging goes from left to right; each level stops as soon as its value is
 /// fixed. A simple condition that is not reached is not read." "A stop ends
 /// all judging and is the answer, with its refusal number and place."
-pub fn answer_of_tree(
-    tables: &Tables,
-    tokens: &[u32],
-    record: &[u8],
-    switches: u8,
-) -> Result<bool, Refusal> {
+/// The count "is that of the rules' own left-to-right judging" (02, i).
+pub fn answer_of_tree(tables: &Tables, tokens: &[u32], record: &[u8], switches: u8) -> Judged {
     let mut outer = [Level::begin(true, false); DEEPEST];
     let mut open = 0;
     let mut level = Level::begin(true, false);
     let mut number = 0;
+    let mut count = 0;
     for part in parts(tokens) {
         match part {
             Part::Simple { simple, not } => {
                 if level.goes_on() {
+                    count += 1;
                     match test(tables, &simple, record, switches) {
                         Some(value) => level.chain = value != not,
-                        None => return refuse(13, number),
+                        None => {
+                            let answer = refuse(13, number);
+                            return Judged { answer, count };
+                        }
                     }
                 }
                 number += 1;
@@ -85,28 +86,28 @@ pub fn answer_of_tree(
             Part::Or => level.next_chain(),
         }
     }
-    Ok(level.value())
+    let answer = Ok(level.value());
+    Judged { answer, count }
 }
 
-/// "A run starts at row 0 and follows targets."
-pub fn answer_of_plan(
-    tables: &Tables,
-    plan: &[u32],
-    record: &[u8],
-    switches: u8,
-) -> Result<bool, Refusal> {
+/// "A run starts at row 0 and follows targets." The count "is the rows it
+/// reaches" (02, i).
+pub fn answer_of_plan(tables: &Tables, plan: &[u32], record: &[u8], switches: u8) -> Judged {
     let mut row = 0;
-    loop {
+    let mut count = 0;
+    let answer = loop {
+        count += 1;
         let (simple, on_true, on_false) = plan_row(&plan[5 * row..5 * row + 5]);
         let target = match test(tables, &simple, record, switches) {
             Some(true) => on_true,
             Some(false) => on_false,
-            None => return refuse(13, row),
+            None => break refuse(13, row),
         };
         match target {
-            VERDICT_TRUE => return Ok(true),
-            VERDICT_FALSE => return Ok(false),
+            VERDICT_TRUE => break Ok(true),
+            VERDICT_FALSE => break Ok(false),
             later => row = later as usize,
         }
-    }
+    };
+    Judged { answer, count }
 }

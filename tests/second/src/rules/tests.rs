@@ -81,20 +81,27 @@ fn check_expansion(text: &str, full: &str) {
 
 fn check_refusal(text: &str, number: u32, place: u32) {
     let tables = items_only(&ABCD);
-    let refusal = Refusal { number, place };
+    let refusal = Refusal::at(number, place);
     assert_eq!(expanded(&tables, &tokens(text)), Err(refusal));
     assert_eq!(planned(&tables, &tokens(text)), Err(refusal));
-    assert_eq!(judge(&tables, &tokens(text), b"01020304", 0), Err(refusal));
+    assert_eq!(
+        judge(&tables, &tokens(text), b"01020304", 0),
+        Judged::refused_earlier(refusal)
+    );
 }
 
 /// Judges, and checks that a run of the plan says the same.
-fn judged(tables: &Tables, text: &str, record: &[u8], switches: u8) -> Result<bool, Refusal> {
+fn counted(tables: &Tables, text: &str, record: &[u8], switches: u8) -> Judged {
     let condition = tokens(text);
-    let answer = judge(tables, &condition, record, switches);
+    let judged = judge(tables, &condition, record, switches);
     if let Ok(plan) = planned(tables, &condition) {
-        assert_eq!(run(tables, &plan, record, switches), answer);
+        assert_eq!(run(tables, &plan, record, switches), judged);
     }
-    answer
+    judged
+}
+
+fn judged(tables: &Tables, text: &str, record: &[u8], switches: u8) -> Result<bool, Refusal> {
+    counted(tables, text, record, switches).answer
 }
 
 fn check_judged(items: &[u32], record: &[u8], text: &str, answer: bool) {
@@ -207,16 +214,63 @@ fn case_15_an_item_not_reached_is_not_read() {
     let tables = items_only(&ABCD);
     let record = b"1212  12";
     assert_eq!(judged(&tables, "a = b OR c = d", record, 0), Ok(true));
-    let stop = Refusal {
-        number: 13,
-        place: 0,
-    };
+    let stop = Refusal::at(13, 0);
     assert_eq!(judged(&tables, "c = d OR a = b", record, 0), Err(stop));
 }
 
 #[test]
 fn case_16_numeric_guards() {
     check_judged(&ABCD, b"12  1212", "b NUMERIC AND b > a", false);
+}
+
+/// "Judge's number is that of the rules' own left-to-right judging" (02, i).
+#[test]
+fn simple_conditions_judged() {
+    let tables = items_only(&ABCD);
+    let check = |text: &str, answer: bool, count: u32| {
+        let answer = Ok(answer);
+        let judged = counted(&tables, text, b"010102  ", 0x80);
+        assert_eq!(judged, Judged { answer, count }, "{text}");
+    };
+    check("a = b", true, 1);
+    check("a = b OR d = c", true, 1);
+    check("a > b AND d = c OR p", true, 2);
+    check("NOT ( q OR p OR d = c ) AND d = c", false, 2);
+    check("( q AND d = c OR p ) AND ( a = b OR d = c )", true, 3);
+    check("a = b AND c OR NOT p OR q", false, 4);
+    check("d NUMERIC AND d = a", false, 1);
+    let stops = |text: &str, place, count| {
+        let answer = counted(&tables, text, b"010102  ", 0x80);
+        assert_eq!(
+            (answer.answer.unwrap_err().place, answer.count),
+            (place, count)
+        );
+    };
+    stops("d = c", 0, 1);
+    stops("a = b AND d = c", 1, 2);
+    stops("a > b AND q AND p OR q OR d = c OR p", 4, 3);
+    // What is refused before judging has judged nothing.
+    assert_eq!(counted(&tables, "a = b", b"0101", 0).count, 0);
+    assert_eq!(
+        counted(&tables, "a = b OR ALPHABETIC", b"01010101", 0).count,
+        0
+    );
+}
+
+/// "Run's is the rows it reaches, at most the plan's" (02, i).
+#[test]
+fn rows_reached() {
+    let on = |switch: u32, targets: [u32; 2]| [131072 + switch, 0, 0, targets[0], targets[1]];
+    let plan = [on(0, [2, 1]), on(1, [TRUE, 2]), on(2, [TRUE, FALSE])].concat();
+    let tables = items_only(&[]);
+    let ran = |switches| {
+        let judged = run(&tables, &plan, &[], switches);
+        (judged.answer, judged.count)
+    };
+    assert_eq!(ran(0b1000_0000), (Ok(false), 2));
+    assert_eq!(ran(0b0100_0000), (Ok(true), 2));
+    assert_eq!(ran(0b0010_0000), (Ok(true), 3));
+    assert_eq!(ran(0b1010_0000), (Ok(true), 2));
 }
 
 #[test]
@@ -226,12 +280,9 @@ fn sixteen_brackets_and_seventeen() {
         tokens(&text)
     };
     let tables = items_only(&[]);
-    assert_eq!(judge(&tables, &nested(16), &[], 0x80), Ok(true));
-    let refusal = Refusal {
-        number: 8,
-        place: 16,
-    };
-    assert_eq!(judge(&tables, &nested(17), &[], 0x80), Err(refusal));
+    assert_eq!(judge(&tables, &nested(16), &[], 0x80).answer, Ok(true));
+    let refusal = Refusal::at(8, 16);
+    assert_eq!(judge(&tables, &nested(17), &[], 0x80).answer, Err(refusal));
     assert_eq!(planned(&tables, &nested(17)), Err(refusal));
     assert_eq!(expanded(&tables, &nested(17)), Err(refusal));
 }
@@ -259,12 +310,12 @@ fn tokens_256_and_257() {
     assert_eq!(condition.len(), 256);
     assert_eq!(planned(&tables, &condition).unwrap().len(), 5 * 127);
     condition.push(WORD_AND);
-    let refusal = Refusal {
-        number: 5,
-        place: 0,
-    };
+    let refusal = Refusal::at(5, 0);
     assert_eq!(planned(&tables, &condition), Err(refusal));
-    assert_eq!(judge(&tables, &condition, b"01020304", 0), Err(refusal));
+    assert_eq!(
+        judge(&tables, &condition, b"01020304", 0).answer,
+        Err(refusal)
+    );
     assert_eq!(planned(&tables, &[]), Err(refusal));
 }
 
@@ -298,12 +349,7 @@ fn output_one_number_short() {
     let tables = items_only(&ABCD);
     let condition = tokens("a > b AND NOT < c OR d");
     let mut output = [7; 13];
-    let short = |needed| {
-        Err(Refusal {
-            number: 10,
-            place: needed,
-        })
-    };
+    let short = |needed| Err(Refusal::at(10, needed));
     assert_eq!(expand(&tables, &condition, &mut output[..12]), short(13));
     assert_eq!(output, [7; 13]);
     assert_eq!(expand(&tables, &condition, &mut output), Ok(13));
@@ -337,10 +383,7 @@ fn numeric_beside_text_and_group() {
     let items = [5, 0, 3, 0, 2, 3, 2, 0, 0, 5, 3, 0, 6, 8, 3, 0];
     let record = b"*1212*1212-";
     let tables = items_only(&items);
-    let stop = Refusal {
-        number: 13,
-        place: 0,
-    };
+    let stop = Refusal::at(13, 0);
     assert_eq!(judged(&tables, "a = b", record, 0), Err(stop));
     assert_eq!(judged(&tables, "a = c", record, 0), Ok(true));
     assert_eq!(judged(&tables, "d = b", record, 0), Ok(true));
@@ -385,10 +428,11 @@ fn table_refusals() {
             literals,
             bytes,
         };
-        let refusal = judge(&tables, &tokens("p"), &[0; 80_000], 0).unwrap_err();
+        let judged = judge(&tables, &tokens("p"), &[0; 80_000], 0);
+        let refusal = judged.answer.unwrap_err();
         assert_eq!(
             run(&tables, &[131072, 0, 0, TRUE, FALSE], &[0; 80_000], 0),
-            Err(refusal)
+            judged
         );
         (refusal.number, refusal.place)
     };
@@ -427,7 +471,7 @@ fn table_refusals() {
 #[test]
 fn record_and_plan_refusals() {
     let tables = items_only(&ABCD);
-    let refusal = |number, place| Err(Refusal { number, place });
+    let refusal = |number, place| Judged::refused_earlier(Refusal::at(number, place));
     assert_eq!(judge(&tables, &tokens("p"), b"0102030", 0), refusal(12, 3));
     let check = |plan: &[u32], place| {
         assert_eq!(run(&tables, plan, b"01020304", 0), refusal(11, place));
