@@ -63,7 +63,8 @@ fn truth(given: Verdict) {
 
 pub fn judged(call: &[u8], given: Judged) {
     text(call);
-    truth(given.verdict);
+    let verdict = given.verdict;
+    truth(verdict);
     text(b", judged ");
     number(given.count);
     text(b"\n");

@@ -11,3 +11,4 @@ pub mod random;
 pub mod rules;
 pub mod show;
 pub mod stats;
+pub mod texts;
