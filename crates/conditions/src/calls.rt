@@ -1,10 +1,12 @@
 // Expand, plan and judge a condition, and run a plan.
 ghost use mathlib.Core.Path.{_≡_};
-ghost use mathlib.Core.List.{_++_};
+ghost use mathlib.Core.List.{[], _++_};
 ghost use Prim.Native.Nat.{_≤_};
 ghost use lib.ListN.{length, drop};
+ghost use Rattle.tables.specs.declared.Verdict.the-variants.{Refused as Unjudged};
 ghost use Rattle.tables.specs.Operands.{lend};
-ghost use Rattle.rules.specs.Calls.{expandGives, planGives, judgeGives, runGives, Leaves};
+ghost use Rattle.grammar.specs.Judging.{walk};
+ghost use Rattle.rules.specs.Calls.{expandGives, planGives, told, judgeGives, runGives, Leaves};
 use crate::Prepared;
 use crate::prepare::prepare;
 use crate::runner::run_rows;
@@ -80,6 +82,16 @@ pub fn plan(
     }
 }
 
+// Refused before anything was judged.
+fn unjudged(refusal: Refusal) -> Judged
+    ensures { λ r. ⌜ r ≡ told (walk (Unjudged refusal) []) ⌝ }
+{
+    Judged {
+        verdict: Verdict::Refused(refusal),
+        count: 0,
+    }
+}
+
 // The truth of a condition on a record and a switch byte.
 pub fn judge<'a>(
     items: &[u32],
@@ -94,17 +106,11 @@ pub fn judge<'a>(
     let mut rows = [0u32; 640];
     let prepared = prepare(items, literals, bytes, tokens, &mut rows);
     match prepared {
-        Prepared::Refused(refusal) => Judged {
-            verdict: Verdict::Refused(refusal),
-            count: 0,
-        },
+        Prepared::Refused(refusal) => unjudged(refusal),
         Prepared::Rows(count) => {
             let held = check_record(items, record);
             if let Check::Refused(refusal) = held {
-                return Judged {
-                    verdict: Verdict::Refused(refusal),
-                    count: 0,
-                };
+                return unjudged(refusal);
             }
             let end = count * 5;
             run_rows(items, literals, bytes, &rows[..end], record, switches)
@@ -125,24 +131,15 @@ pub fn run<'a>(
 {
     let tables = check_tables(items, literals, bytes);
     if let Check::Refused(refusal) = tables {
-        return Judged {
-            verdict: Verdict::Refused(refusal),
-            count: 0,
-        };
+        return unjudged(refusal);
     }
     let rows = check_plan(items, literals, plan);
     if let Check::Refused(refusal) = rows {
-        return Judged {
-            verdict: Verdict::Refused(refusal),
-            count: 0,
-        };
+        return unjudged(refusal);
     }
     let held = check_record(items, record);
     if let Check::Refused(refusal) = held {
-        return Judged {
-            verdict: Verdict::Refused(refusal),
-            count: 0,
-        };
+        return unjudged(refusal);
     }
     run_rows(items, literals, bytes, plan, record, switches)
 }
