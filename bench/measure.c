@@ -10,12 +10,12 @@
 #include <time.h>
 #include <ucontext.h>
 
-uint64_t second_plan(const uint32_t *, size_t, const uint32_t *, size_t, const uint8_t *, size_t, const uint32_t *, size_t,
-                     uint32_t *, size_t);
-uint64_t second_judge(const uint32_t *, size_t, const uint32_t *, size_t, const uint8_t *, size_t, const uint32_t *, size_t,
-                      const uint8_t *, size_t, uint8_t);
-uint64_t second_run(const uint32_t *, size_t, const uint32_t *, size_t, const uint8_t *, size_t, const uint32_t *, size_t,
-                    const uint8_t *, size_t, uint8_t);
+uint32_t second_plan(const uint32_t *, size_t, const uint32_t *, size_t, const uint8_t *, size_t, const uint32_t *, size_t,
+                     uint32_t *, size_t, oboecurlew_answer *);
+uint32_t second_judge(const uint32_t *, size_t, const uint32_t *, size_t, const uint8_t *, size_t, const uint32_t *, size_t,
+                      const uint8_t *, size_t, uint8_t, oboecurlew_answer *);
+uint32_t second_run(const uint32_t *, size_t, const uint32_t *, size_t, const uint8_t *, size_t, const uint32_t *, size_t,
+                    const uint8_t *, size_t, uint8_t, oboecurlew_answer *);
 
 /* ---- Heap: every allocation of this process passes here. ---- */
 
@@ -33,7 +33,7 @@ void *memalign(size_t at, size_t size) { return allocations++, __libc_memalign(a
 void *aligned_alloc(size_t at, size_t size) { return memalign(at, size); }
 int posix_memalign(void **made, size_t at, size_t size) { return (*made = memalign(at, size)) ? 0 : 12; }
 
-/* ---- The sides: each judges or plans a condition so many times and gives its last answer. ---- */
+/* ---- The sides: each judges or plans a condition so many times and gives its last answer, as one number. ---- */
 
 #define TABLES(c) c->items, c->item_numbers, c->literals, c->literal_numbers, c->bytes, c->byte_count
 #define TOKENS(c) c->tokens, c->token_count
@@ -42,21 +42,31 @@ int posix_memalign(void **made, size_t at, size_t size) { return (*made = memali
 #define REPEATED(name, call)                                      \
     static uint64_t name(const struct condition *c, uint64_t times) \
     {                                                             \
-        uint64_t answer = 0;                                      \
+        uint32_t refusal = 0;                                     \
         while (times-- > 0)                                       \
-            answer = call;                                        \
-        return answer;                                            \
+            refusal = call;                                       \
+        return joined(refusal);                                   \
     }
 
 static uint32_t output[640];
+static oboecurlew_answer said;
 
-REPEATED(library_expand, oboecurlew_expand(TABLES(c), TOKENS(c), output, 640))
-REPEATED(library_plan, oboecurlew_plan(TABLES(c), TOKENS(c), output, 640))
-REPEATED(library_judge, oboecurlew_judge(TABLES(c), TOKENS(c), RECORD(c)))
-REPEATED(library_run, oboecurlew_run(TABLES(c), PLAN(c), RECORD(c)))
-REPEATED(rust_plan, second_plan(TABLES(c), TOKENS(c), output, 640))
-REPEATED(rust_judge, second_judge(TABLES(c), TOKENS(c), RECORD(c)))
-REPEATED(rust_run, second_run(TABLES(c), PLAN(c), RECORD(c)))
+/* The refusal, the conditions judged, and the place, truth or count: each is below 65,536. */
+static uint64_t joined(uint32_t refusal)
+{
+    return (uint64_t)refusal << 32 | said.judged << 16 | (said.value + said.written[0]);
+}
+
+static uint32_t refusal_of(uint64_t answer) { return (uint32_t)(answer >> 32); }
+static uint32_t value_of(uint64_t answer) { return (uint32_t)answer & 65535; }
+
+REPEATED(library_expand, oboecurlew_expand(TABLES(c), TOKENS(c), output, 640, &said))
+REPEATED(library_plan, oboecurlew_plan(TABLES(c), TOKENS(c), output, 640, &said))
+REPEATED(library_judge, oboecurlew_judge(TABLES(c), TOKENS(c), RECORD(c), &said))
+REPEATED(library_run, oboecurlew_run(TABLES(c), PLAN(c), RECORD(c), &said))
+REPEATED(rust_plan, second_plan(TABLES(c), TOKENS(c), output, 640, &said))
+REPEATED(rust_judge, second_judge(TABLES(c), TOKENS(c), RECORD(c), &said))
+REPEATED(rust_run, second_run(TABLES(c), PLAN(c), RECORD(c), &said))
 
 static uint64_t cobol(const struct condition *c, uint64_t times)
 {
@@ -79,8 +89,8 @@ static uint64_t (*const sides[SIDES])(const struct condition *, uint64_t) = {
 /* The plan of a condition, if it has one; the second program must write the same. */
 static int write_plan(struct condition *c)
 {
-    uint64_t answer = oboecurlew_plan(TABLES(c), TOKENS(c), c->plan, 640);
-    c->plan_numbers = OBOECURLEW_REFUSAL(answer) ? 0 : OBOECURLEW_VALUE(answer);
+    uint64_t answer = joined(oboecurlew_plan(TABLES(c), TOKENS(c), c->plan, 640, &said));
+    c->plan_numbers = said.written[0];
     return rust_plan(c, 1) == answer && !memcmp(output, c->plan, c->plan_numbers * sizeof *output);
 }
 
@@ -117,7 +127,7 @@ static void check_beside_cobol(struct condition *c)
     uint8_t *given = malloc(c->record_size);
     memcpy(given, c->record, c->record_size);
     for (int round = 0; round < 200; round++) {
-        demand(all_judge_alike(c) && cobol(c, 1) == library_judge(c, 1), c);
+        demand(all_judge_alike(c) && cobol(c, 1) == value_of(library_judge(c, 1)), c);
         change_record(c);
     }
     memcpy(c->record, given, c->record_size);
@@ -220,10 +230,10 @@ static long print_stack(void)
                 greatest = bytes;
         }
         uint64_t answer = library_judge(&deep[i], 1);
-        if (OBOECURLEW_REFUSAL(answer))
-            printf("   refusal %u at %u\n", OBOECURLEW_REFUSAL(answer), OBOECURLEW_VALUE(answer));
+        if (refusal_of(answer))
+            printf("   refusal %u at %u\n", refusal_of(answer), value_of(answer));
         else
-            printf("   %s\n", OBOECURLEW_VALUE(answer) ? "true" : "false");
+            printf("   %s\n", value_of(answer) ? "true" : "false");
     }
     return greatest;
 }

@@ -2,15 +2,14 @@
  *
  * Build the archive with `rt staticlib conditions_c` (target/staticlib/libconditions_c.a) and link it.
  *
- * Every call answers one number: the refusal's number in the upper 32 bits (0: success); in the lower 32 bits the count of
- * numbers written (expand, plan), 1 for true and 0 for false (judge, run), or the refusal's place, counted from 0.
- * A refusal changes nothing. No call needs heap, and none asks the caller to check anything first: any numbers and bytes may be
- * passed. A pointer is not null, also where its length is 0; lengths count numbers, or bytes for uint8_t. The output overlaps none
- * of the other arguments.
+ * Every call returns the refusal's number, OBOECURLEW_OK (0) on success, and writes all nine numbers of the answer; what a call
+ * has nothing to say of is 0. A refusal changes no output. No call needs heap, and none asks the caller to check anything first:
+ * any numbers and bytes may be passed. A pointer is not null, also where its length is 0; lengths count numbers, or bytes for
+ * uint8_t. Output and answer overlap none of the other arguments.
  *
  * items, literals  tables of rows of four numbers: kind, offset, size in bytes, scale
  * bytes            the literal bytes
- * tokens           the condition, a token being kind * 65536 + v
+ * tokens           the condition, each made by OBOECURLEW_TOKEN or one of the macros over it
  * output           room for at least 634 numbers holds every expanded form, 640 every plan
  * plan             rows of five numbers, as oboecurlew_plan writes them
  * record           the record's bytes
@@ -26,28 +25,95 @@
 extern "C" {
 #endif
 
-#define OBOECURLEW_REFUSAL(answer) ((uint32_t)((answer) >> 32))
-#define OBOECURLEW_VALUE(answer) ((uint32_t)(answer))
+/* What a call says besides the number that it returns. */
+typedef struct {
+    uint32_t value;      /* a refusal's place, counted from 0; else 1 or 0 for true or false (judge, run); else 0 */
+    uint32_t byte;       /* the offset in the record of the byte that a refusal names; no refusal does yet: 0 */
+    uint32_t judged;     /* judge, run: how many simple conditions were judged, one that stopped among them; else 0 */
+    uint32_t written[6]; /* a call with outputs: the count of numbers written to each, in order; else 0 */
+} oboecurlew_answer;
+
+/* Refusals, and the place that each gives. */
+enum oboecurlew_refusal {
+    OBOECURLEW_OK = 0,
+    OBOECURLEW_ITEM_TABLE = 1,    /* item table length not a multiple of 4, or over 256: 0 */
+    OBOECURLEW_ITEM_ROW = 2,      /* an item row breaks its rules: the first such row */
+    OBOECURLEW_LITERAL_TABLE = 3, /* as 1 */
+    OBOECURLEW_LITERAL_ROW = 4,   /* as 2 */
+    OBOECURLEW_TOKEN_COUNT = 5,   /* 0 tokens or over 256: 0 */
+    OBOECURLEW_TOKEN = 6,         /* no such token, or beyond its table: the first such token */
+    OBOECURLEW_GRAMMAR = 7,       /* no condition: the length of the longest beginning that one shares */
+    OBOECURLEW_DEPTH = 8,         /* 17 brackets open at once: the first "(" that makes 17 open */
+    OBOECURLEW_TYPING = 9,        /* typing broken: the first such simple condition */
+    OBOECURLEW_ROOM = 10,         /* output shorter than needed: the numbers needed in it */
+    OBOECURLEW_PLAN = 11,         /* no sound plan: 0, or the first unsound row */
+    OBOECURLEW_RECORD = 12,       /* the record ends before an item does: the first such item row */
+    OBOECURLEW_DATA = 13          /* invalid numeric data reached: its simple condition; for run, its row */
+};
+
+/* Row kinds: group, alphabetic, alphanumeric, unsigned numeric, sign in the last byte, sign leading or trailing separate. */
+enum oboecurlew_kind {
+    OBOECURLEW_GROUP = 0,
+    OBOECURLEW_ALPHABETIC_ITEM = 1,
+    OBOECURLEW_ALPHANUMERIC = 2,
+    OBOECURLEW_UNSIGNED = 3,
+    OBOECURLEW_SIGNED = 4,
+    OBOECURLEW_SIGN_LEADING = 5,
+    OBOECURLEW_SIGN_TRAILING = 6
+};
+
+/* A token is kind * 65536 + v. */
+#define OBOECURLEW_TOKEN(kind, v) ((uint32_t)(kind) * 65536u + (uint32_t)(v))
+#define OBOECURLEW_ITEM(row) OBOECURLEW_TOKEN(0, row)
+#define OBOECURLEW_LITERAL(row) OBOECURLEW_TOKEN(1, row)
+#define OBOECURLEW_ON(number) OBOECURLEW_TOKEN(2, number)
+#define OBOECURLEW_OFF(number) OBOECURLEW_TOKEN(3, number)
+#define OBOECURLEW_WORD(word) OBOECURLEW_TOKEN(4, word)
+
+/* The words, for OBOECURLEW_WORD; a plan's relation is the word's number too, plus OBOECURLEW_NEGATED where NOT belongs to it. */
+enum oboecurlew_word {
+    OBOECURLEW_OPEN = 0,
+    OBOECURLEW_CLOSE = 1,
+    OBOECURLEW_NOT = 2,
+    OBOECURLEW_AND = 3,
+    OBOECURLEW_OR = 4,
+    OBOECURLEW_GREATER = 5,
+    OBOECURLEW_LESS = 6,
+    OBOECURLEW_EQUAL = 7,
+    OBOECURLEW_GREATER_OR_EQUAL = 8,
+    OBOECURLEW_LESS_OR_EQUAL = 9,
+    OBOECURLEW_NUMERIC = 10,
+    OBOECURLEW_ALPHABETIC = 11,
+    OBOECURLEW_ALPHABETIC_LOWER = 12,
+    OBOECURLEW_ALPHABETIC_UPPER = 13,
+    OBOECURLEW_POSITIVE = 14,
+    OBOECURLEW_NEGATIVE = 15,
+    OBOECURLEW_ZERO = 16,
+    OBOECURLEW_NEGATED = 32
+};
+
+/* A plan's targets are later rows, or these verdicts. */
+enum oboecurlew_target { OBOECURLEW_FALSE = 65534, OBOECURLEW_TRUE = 65535 };
 
 /* Writes the expanded form of a condition from the start of the output. Refusals 1 to 10. */
-uint64_t oboecurlew_expand(const uint32_t *items, size_t item_numbers, const uint32_t *literals, size_t literal_numbers,
+uint32_t oboecurlew_expand(const uint32_t *items, size_t item_numbers, const uint32_t *literals, size_t literal_numbers,
                            const uint8_t *bytes, size_t byte_count, const uint32_t *tokens, size_t token_count,
-                           uint32_t *output, size_t output_numbers);
+                           uint32_t *output, size_t output_numbers, oboecurlew_answer *answer);
 
 /* Writes the plan of a condition, five numbers for each simple condition, from the start of the output. Refusals 1 to 10. */
-uint64_t oboecurlew_plan(const uint32_t *items, size_t item_numbers, const uint32_t *literals, size_t literal_numbers,
+uint32_t oboecurlew_plan(const uint32_t *items, size_t item_numbers, const uint32_t *literals, size_t literal_numbers,
                          const uint8_t *bytes, size_t byte_count, const uint32_t *tokens, size_t token_count,
-                         uint32_t *output, size_t output_numbers);
+                         uint32_t *output, size_t output_numbers, oboecurlew_answer *answer);
 
 /* Judges a condition on a record and a switch byte. Refusals 1 to 9, 12, 13. */
-uint64_t oboecurlew_judge(const uint32_t *items, size_t item_numbers, const uint32_t *literals, size_t literal_numbers,
+uint32_t oboecurlew_judge(const uint32_t *items, size_t item_numbers, const uint32_t *literals, size_t literal_numbers,
                           const uint8_t *bytes, size_t byte_count, const uint32_t *tokens, size_t token_count,
-                          const uint8_t *record, size_t record_size, uint8_t switches);
+                          const uint8_t *record, size_t record_size, uint8_t switches, oboecurlew_answer *answer);
 
 /* Runs a plan on a record and a switch byte. Refusals 1 to 4, 11, 12, 13. */
-uint64_t oboecurlew_run(const uint32_t *items, size_t item_numbers, const uint32_t *literals, size_t literal_numbers,
+uint32_t oboecurlew_run(const uint32_t *items, size_t item_numbers, const uint32_t *literals, size_t literal_numbers,
                         const uint8_t *bytes, size_t byte_count, const uint32_t *plan, size_t plan_numbers,
-                        const uint8_t *record, size_t record_size, uint8_t switches);
+                        const uint8_t *record, size_t record_size, uint8_t switches, oboecurlew_answer *answer);
 
 #ifdef __cplusplus
 }

@@ -1,17 +1,16 @@
 //! The second program's calls, with the parameters and the answers of `include/oboecurlew.h`.
 
-use second::rules::{self, Refusal, Tables};
+use second::outside::{of_judged, of_written, Answer, Said};
+use second::rules::{self, Tables};
 use std::slice::{from_raw_parts as lent, from_raw_parts_mut as lent_mut};
 
-fn packed<T: Into<u64>>(answer: Result<T, Refusal>) -> u64 {
-    match answer {
-        Ok(value) => value.into(),
-        Err(Refusal { number, place }) => u64::from(number) << 32 | u64::from(place),
-    }
+fn told(said: Said, answer: &mut Answer) -> u32 {
+    *answer = said.1;
+    said.0
 }
 
 /// # Safety
-/// Each pointer has as many numbers as its length says.
+/// Each pointer has as many numbers as its length says; the answer may be written.
 #[no_mangle]
 pub unsafe extern "C" fn second_plan(
     items: *const u32,
@@ -24,13 +23,15 @@ pub unsafe extern "C" fn second_plan(
     token_count: usize,
     output: *mut u32,
     output_numbers: usize,
-) -> u64 {
+    answer: *mut Answer,
+) -> u32 {
     let tables = Tables {
         items: lent(items, item_numbers),
         literals: lent(literals, literal_numbers),
         bytes: lent(bytes, byte_count),
     };
-    packed(rules::plan(&tables, lent(tokens, token_count), lent_mut(output, output_numbers)))
+    let count = rules::plan(&tables, lent(tokens, token_count), lent_mut(output, output_numbers));
+    told(of_written(count.map(|count| [count])), &mut *answer)
 }
 
 /// # Safety
@@ -48,13 +49,15 @@ pub unsafe extern "C" fn second_judge(
     record: *const u8,
     record_size: usize,
     switches: u8,
-) -> u64 {
+    answer: *mut Answer,
+) -> u32 {
     let tables = Tables {
         items: lent(items, item_numbers),
         literals: lent(literals, literal_numbers),
         bytes: lent(bytes, byte_count),
     };
-    packed(rules::judge(&tables, lent(tokens, token_count), lent(record, record_size), switches))
+    let judged = rules::judge(&tables, lent(tokens, token_count), lent(record, record_size), switches);
+    told(of_judged(judged), &mut *answer)
 }
 
 /// # Safety
@@ -72,11 +75,13 @@ pub unsafe extern "C" fn second_run(
     record: *const u8,
     record_size: usize,
     switches: u8,
-) -> u64 {
+    answer: *mut Answer,
+) -> u32 {
     let tables = Tables {
         items: lent(items, item_numbers),
         literals: lent(literals, literal_numbers),
         bytes: lent(bytes, byte_count),
     };
-    packed(rules::run(&tables, lent(plan, plan_numbers), lent(record, record_size), switches))
+    let judged = rules::run(&tables, lent(plan, plan_numbers), lent(record, record_size), switches);
+    told(of_judged(judged), &mut *answer)
 }

@@ -58,7 +58,7 @@ pub fn judge<'a>(store: &[u32], bytes: &'a [u8], record: &'a [u8]) {
     let literals = part(store, LITERALS);
     let tokens = part(store, TOKENS);
     let given = calls::judge(items, literals, bytes, tokens, record, switches(store));
-    print::verdict(b"judge: ", given);
+    print::judged(b"judge: ", given);
 }
 
 pub fn run<'a>(store: &[u32], bytes: &'a [u8], record: &'a [u8]) {
@@ -66,7 +66,7 @@ pub fn run<'a>(store: &[u32], bytes: &'a [u8], record: &'a [u8]) {
     let literals = part(store, LITERALS);
     let plan = part(store, PLAN);
     let given = calls::run(items, literals, bytes, plan, record, switches(store));
-    print::verdict(b"run: ", given);
+    print::judged(b"run: ", given);
 }
 
 // All four; run only where there is a plan.

@@ -1,5 +1,6 @@
 // What the program writes: texts, numbers and answers.
 use libc::STDOUT_FILENO;
+use tables::Judged;
 use tables::Refusal;
 use tables::Verdict;
 use tables::Written;
@@ -60,8 +61,11 @@ fn truth(given: Verdict) {
     }
 }
 
-pub fn verdict(call: &[u8], given: Verdict) {
+pub fn judged(call: &[u8], given: Judged) {
     text(call);
-    truth(given);
+    let verdict = given.verdict;
+    truth(verdict);
+    text(b", judged ");
+    number(given.count);
     text(b"\n");
 }

@@ -10,7 +10,7 @@ use Rattle.tables.specs.declared.Check.{Check}
 use Rattle.tables.specs.declared.Check.the-variants.{Sound, Refused}
 use Rattle.tables.specs.declared.Written.{Written}
 use Rattle.tables.specs.declared.Written.the-variants.{Count, Refused as Unwritten}
-use Rattle.tables.specs.declared.Verdict.{Verdict}
+use Rattle.tables.specs.declared.Judged.{Judged}
 use Rattle.tables.specs.declared.Verdict.the-variants.{Refused as Unjudged}
 use Rattle.tables.specs.Operands.{Lent, lend}
 use Rattle.tables.specs.Refusals.{firstOf}
@@ -21,18 +21,22 @@ use Rattle.grammar.specs.Grammar.{Tree}
 use Rattle.grammar.specs.Parser.{read}
 use Rattle.grammar.specs.Expanded.{expanded}
 use Rattle.grammar.specs.Judging.{leaves}
-use Rattle.grammar.specs.Plan.{planned, planCheck, run}
+use Rattle.grammar.specs.Plan.{planned, planCheck, running}
 use Rattle.grammar.proofs.Lent.{plan-lent}
 use Rattle.grammar.proofs.Segment.{planned-length}
 use Rattle.expander.specs.Spelled.{spelled}
 use Rattle.expander.proofs.Spelled.{spelled-expanded}
-use Rattle.rules.specs.Calls.{conditionLines, Gives, Leaves, writing, expandGives, planGives, judgeGives, runGives}
+use Rattle.rules.specs.Calls.{conditionLines, Gives, Leaves, writing, expandGives, planGives, told, judgeGives, runGives}
 use Rattle.rules.specs.Demands.{Refuses}
 use Rattle.rules.proofs.Passing.{Passes, passed, read-as, tables-pass}
 use Rattle.rules.proofs.Answers.{writes-over, lacks-room, judges-as, few-leaves, plan-passes, run-judges, refuses, after-tables, after-plan}
 use Rattle.conditions.specs.declared.Prepared.{Prepared}
 use Rattle.conditions.specs.declared.Prepared.the-variants.{Rows, Refused as Unprepared}
 use Rattle.conditions.specs.Prepared.{Stands, Prepares, Runnable}
+
+-- nothing was judged
+abbrev none : Refusal → Judged
+none refusal = record { verdict = Unjudged refusal; count = 0 }
 
 -- a call leaves what it gives
 leaves-as : {gives : Gives} {answer : Written} {output : List ℕ} → gives ≡ record { answer = answer; output = output } → Leaves gives answer output
@@ -51,9 +55,9 @@ module _ {lent : Lent} {tokens : List ℕ} {t : Tree} (p : Passes lent tokens t)
   written l w = let f = size in rw (w, e, f) (leaves-as (writes-over p make output (omega arith)))
 
 -- a plan that can be run
-pub run-answers : (lent : Lent) (plan content : List ℕ) (switches : ℕ) → Runnable lent plan content → {v : Verdict} →
-    v ≡ run (outcome lent content switches) plan → v ≡ runGives lent plan content switches
-run-answers lent plan content switches p e = e ∙ sym (after-plan lent plan content switches (p .tables) (p .sound) ∙ rw (p .holds))
+pub run-answers : (lent : Lent) (plan content : List ℕ) (switches : ℕ) → Runnable lent plan content → {v : Judged} →
+    v ≡ told (running (outcome lent content switches) plan) → v ≡ runGives lent plan content switches
+run-answers lent plan content switches p e = e ∙ sym (ap told (after-plan lent plan content switches (p .tables) (p .sound)) ∙ rw (p .holds))
 
 -- the check of a plan is lent no literal bytes
 module _ (items literals bytes plan content : List ℕ) (t : firstOf (tableLines (lend items literals bytes)) ≡ Sound) where
@@ -61,12 +65,12 @@ module _ (items literals bytes plan content : List ℕ) (t : firstOf (tableLines
   plan-line e = plan-lent items literals bytes plan ∙ e
 
   pub plan-refuses : (switches : ℕ) {refusal : Refusal} → planCheck (lend items literals []) plan ≡ Refused refusal →
-      Unjudged refusal ≡ runGives (lend items literals bytes) plan content switches
-  plan-refuses switches e = sym (after-tables (lend items literals bytes) plan content switches t ∙ rw (line-refused _ (plan-line e)))
+      none refusal ≡ runGives (lend items literals bytes) plan content switches
+  plan-refuses switches e = sym (ap told (after-tables (lend items literals bytes) plan content switches t) ∙ rw (line-refused _ (plan-line e)))
 
   pub run-record-refuses : (switches : ℕ) → planCheck (lend items literals []) plan ≡ Sound → {refusal : Refusal} →
-      recordCheck (lend items literals bytes) content ≡ Refused refusal → Unjudged refusal ≡ runGives (lend items literals bytes) plan content switches
-  run-record-refuses switches e h = sym (after-plan (lend items literals bytes) plan content switches t (plan-line e) ∙ rw h)
+      recordCheck (lend items literals bytes) content ≡ Refused refusal → none refusal ≡ runGives (lend items literals bytes) plan content switches
+  run-record-refuses switches e h = sym (ap told (after-plan (lend items literals bytes) plan content switches t (plan-line e)) ∙ rw h)
 
   pub plan-runnable : planCheck (lend items literals []) plan ≡ Sound → recordCheck (lend items literals bytes) content ≡ Sound →
       Runnable (lend items literals bytes) plan content
@@ -83,7 +87,7 @@ module _ {lent : Lent} {tokens : List ℕ} {r : Prepared} {after : List ℕ} (p 
   pub plan-refused : (output : List ℕ) → Leaves (planGives lent tokens output) (Unwritten refusal) output
   plan-refused output = leaves-as (unready .plan output)
 
-  pub judge-refused : (content : List ℕ) (switches : ℕ) → Unjudged refusal ≡ judgeGives lent tokens content switches
+  pub judge-refused : (content : List ℕ) (switches : ℕ) → none refusal ≡ judgeGives lent tokens content switches
   judge-refused content switches = sym (unready .judge content switches)
 
 -- the rows that stand prepared, of a condition that passes
@@ -131,14 +135,17 @@ module _ {lent : Lent} {tokens : List ℕ} {r : Prepared} {after : List ℕ} (p 
   plan-written output l w = written (ready .passes) planned (ready .rows) row-numbers output l (rw (← row-numbers) at w)
 
   pub judge-record-refuses : (content : List ℕ) (switches : ℕ) {refusal : Refusal} → recordCheck lent content ≡ Refused refusal →
-      Unjudged refusal ≡ judgeGives lent tokens content switches
-  judge-record-refuses content switches h = sym (judges-as (ready .passes) content switches ∙ rw h)
+      none refusal ≡ judgeGives lent tokens content switches
+  judge-record-refuses content switches h = sym (ap told (judges-as (ready .passes) content switches) ∙ rw h)
 
   pub rows-runnable : (content : List ℕ) → recordCheck lent content ≡ Sound → Runnable lent (take (count * 5) after) content
   rows-runnable content h = let y = ready in rw (y .rows) (record { tables = tables-pass (y .passes); sound = plan-passes (y .passes); holds = h })
 
-  pub judge-answers : (content : List ℕ) (switches : ℕ) → recordCheck lent content ≡ Sound → {v : Verdict} →
-      v ≡ run (outcome lent content switches) (take (count * 5) after) → v ≡ judgeGives lent tokens content switches
+  pub judge-answers : (content : List ℕ) (switches : ℕ) → recordCheck lent content ≡ Sound → {v : Judged} →
+      v ≡ told (running (outcome lent content switches) (take (count * 5) after)) → v ≡ judgeGives lent tokens content switches
   judge-answers content switches h w =
       let y = ready in
-      w ∙ rw (y .rows, run-judges (y .passes) content switches) (sym (judges-as (y .passes) content switches ∙ rw h))
+      w
+      ∙ ap (λ plan. told (running (outcome lent content switches) plan)) (y .rows)
+      ∙ ap told (run-judges (y .passes) content switches)
+      ∙ sym (ap told (judges-as (y .passes) content switches) ∙ rw h)

@@ -6,7 +6,7 @@ use native.Mathlib.Omega.{arith}
 use lib.ListN.{length, take, length-append}
 use Rattle.tables.specs.declared.Written.{Written}
 use Rattle.tables.specs.declared.Written.the-variants.{Count}
-use Rattle.tables.specs.declared.Verdict.{Verdict}
+use Rattle.tables.specs.declared.Judged.{Judged}
 use Rattle.tables.specs.Operands.{Lent}
 use Rattle.grammar.specs.Grammar.{Tree}
 use Rattle.grammar.specs.Expanded.{expanded}
@@ -42,10 +42,10 @@ module _ (lent : Lent) (tokens output : List ℕ) {n : ℕ} {last : List ℕ} wh
 
 -- plan counted so many numbers, which were run; expand left a form, and what it counted was planned again
 pub shown : (lent : Lent) (tokens content : List ℕ) (switches : ℕ) (rows form second : List ℕ)
-    {count : ℕ} {verdict : Verdict} {formed again : Written} {rows-after form-after second-after : List ℕ} →
-    Leaves (planGives lent tokens rows) (Count count) rows-after → verdict ≡ runGives lent (take count rows-after) content switches →
+    {count : ℕ} {judged : Judged} {formed again : Written} {rows-after form-after second-after : List ℕ} →
+    Leaves (planGives lent tokens rows) (Count count) rows-after → judged ≡ runGives lent (take count rows-after) content switches →
     Leaves (expandGives lent tokens form) formed form-after → Replans lent second formed form-after again second-after →
-    ShownCalls lent tokens content switches rows form second count verdict formed again rows-after form-after second-after
+    ShownCalls lent tokens content switches rows form second count judged formed again rows-after form-after second-after
 shown lent tokens content switches rows form second {count} {formed = formed} {again} {rows-after} {form-after} {second-after} p v x r =
     record {
       plan = p;

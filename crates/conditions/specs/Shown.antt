@@ -5,7 +5,7 @@ use Prim.Native.Nat.{ℕ, _≤_}
 use lib.ListN.{length, take}
 use Rattle.tables.specs.declared.Written.{Written}
 use Rattle.tables.specs.declared.Written.the-variants.{Count, Refused as Unwritten}
-use Rattle.tables.specs.declared.Verdict.{Verdict}
+use Rattle.tables.specs.declared.Judged.{Judged}
 use Rattle.tables.specs.Operands.{Lent}
 use Rattle.grammar.specs.Grammar.{Tree}
 use Rattle.grammar.specs.Expanded.{expanded}
@@ -23,7 +23,7 @@ Replans lent second (Unwritten refusal) form-after again second-after = (again �
 module _ (lent : Lent) (tokens content : List ℕ) (switches : ℕ) (rows form second : List ℕ) where
   -- The plan counted so many numbers, which stand in its output, and was run; the tokens were expanded, and the expanded form was
   -- planned into the second output.
-  pub record ShownCalls (count : ℕ) (verdict : Verdict) (formed again : Written) (rows-after form-after second-after : List ℕ) : Type 0 where
+  pub record ShownCalls (count : ℕ) (judged : Judged) (formed again : Written) (rows-after form-after second-after : List ℕ) : Type 0 where
     -- what each writing call gave, with every number of its output
     pub plan : Leaves (planGives lent tokens rows) (Count count) rows-after
     pub expand : Leaves (expandGives lent tokens form) formed form-after
@@ -33,7 +33,7 @@ module _ (lent : Lent) (tokens content : List ℕ) (switches : ℕ) (rows form s
     pub accepted : Accepted lent tokens tree
     pub counts : count ≡ length (planned tree)
     pub plans : take count rows-after ≡ planned tree
-    pub runs : verdict ≡ rulesAnswer lent content switches tree
+    pub runs : judged ≡ rulesAnswer lent content switches tree
     pub expands : length (expanded tree) ≤ length form →
         (formed ≡ Count (length (expanded tree))) × (take (length (expanded tree)) form-after ≡ expanded tree)
     pub plans-again : length (expanded tree) ≤ length form → length (expanded tree) ≤ 256 → count ≤ length second →
@@ -42,5 +42,5 @@ module _ (lent : Lent) (tokens content : List ℕ) (switches : ℕ) (rows form s
   abbrev pub Shows : Shown → List ℕ → List ℕ → List ℕ → Type 0
   Shows (Refused refusal) rows-after form-after second-after =
       Leaves (planGives lent tokens rows) (Unwritten refusal) rows-after × (form-after ≡ form) × (second-after ≡ second)
-  Shows (Calls count verdict formed again) rows-after form-after second-after =
-      ShownCalls count verdict formed again rows-after form-after second-after
+  Shows (Calls count judged formed again) rows-after form-after second-after =
+      ShownCalls count judged formed again rows-after form-after second-after

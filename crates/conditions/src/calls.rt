@@ -1,10 +1,12 @@
 // Expand, plan and judge a condition, and run a plan.
 ghost use mathlib.Core.Path.{_≡_};
-ghost use mathlib.Core.List.{_++_};
+ghost use mathlib.Core.List.{[], _++_};
 ghost use Prim.Native.Nat.{_≤_};
 ghost use lib.ListN.{length, drop};
+ghost use Rattle.tables.specs.declared.Verdict.the-variants.{Refused as Unjudged};
 ghost use Rattle.tables.specs.Operands.{lend};
-ghost use Rattle.rules.specs.Calls.{expandGives, planGives, judgeGives, runGives, Leaves};
+ghost use Rattle.grammar.specs.Judging.{walk};
+ghost use Rattle.rules.specs.Calls.{expandGives, planGives, told, judgeGives, runGives, Leaves};
 use crate::Prepared;
 use crate::prepare::prepare;
 use crate::runner::run_rows;
@@ -12,6 +14,7 @@ use expander::expand::expanded_length;
 use expander::expand::write_expanded;
 use plans::checks::check_plan;
 use tables::Check;
+use tables::Judged;
 use tables::Refusal;
 use tables::Verdict;
 use tables::Written;
@@ -79,6 +82,16 @@ pub fn plan(
     }
 }
 
+// Refused before anything was judged.
+fn unjudged(refusal: Refusal) -> Judged
+    ensures { λ r. ⌜ r ≡ told (walk (Unjudged refusal) []) ⌝ }
+{
+    Judged {
+        verdict: Verdict::Refused(refusal),
+        count: 0,
+    }
+}
+
 // The truth of a condition on a record and a switch byte.
 pub fn judge<'a>(
     items: &[u32],
@@ -87,17 +100,17 @@ pub fn judge<'a>(
     tokens: &[u32],
     record: &'a [u8],
     switches: u8,
-) -> Verdict
+) -> Judged
     ensures { λ r. ⌜ r ≡ judgeGives (lend (now (items .entry)) (now (literals .entry)) (now (bytes .entry))) (now (tokens .entry)) (now («record» .entry)) switches ⌝ }
 {
     let mut rows = [0u32; 640];
     let prepared = prepare(items, literals, bytes, tokens, &mut rows);
     match prepared {
-        Prepared::Refused(refusal) => Verdict::Refused(refusal),
+        Prepared::Refused(refusal) => unjudged(refusal),
         Prepared::Rows(count) => {
             let held = check_record(items, record);
             if let Check::Refused(refusal) = held {
-                return Verdict::Refused(refusal);
+                return unjudged(refusal);
             }
             let end = count * 5;
             run_rows(items, literals, bytes, &rows[..end], record, switches)
@@ -113,20 +126,20 @@ pub fn run<'a>(
     plan: &[u32],
     record: &'a [u8],
     switches: u8,
-) -> Verdict
+) -> Judged
     ensures { λ r. ⌜ r ≡ runGives (lend (now (items .entry)) (now (literals .entry)) (now (bytes .entry))) (now (plan .entry)) (now («record» .entry)) switches ⌝ }
 {
     let tables = check_tables(items, literals, bytes);
     if let Check::Refused(refusal) = tables {
-        return Verdict::Refused(refusal);
+        return unjudged(refusal);
     }
     let rows = check_plan(items, literals, plan);
     if let Check::Refused(refusal) = rows {
-        return Verdict::Refused(refusal);
+        return unjudged(refusal);
     }
     let held = check_record(items, record);
     if let Check::Refused(refusal) = held {
-        return Verdict::Refused(refusal);
+        return unjudged(refusal);
     }
     run_rows(items, literals, bytes, plan, record, switches)
 }

@@ -5,8 +5,8 @@ pub mod prepare; // refusals 1 to 9, and the rows of a condition
 pub mod runner; // running rows
 pub mod show; // demand 3 of the calls themselves
 
+use tables::Judged;
 use tables::Refusal;
-use tables::Verdict;
 use tables::Written;
 
 // What refusals 1 to 9 leave: the number of rows, or a refusal.
@@ -20,7 +20,7 @@ pub enum Shown {
     Refused(Refusal),
     Calls {
         count: usize,
-        verdict: Verdict,
+        judged: Judged,
         expanded: Written,
         again: Written,
     },

@@ -2,10 +2,12 @@
 ghost use mathlib.Core.Path.{_≡_};
 ghost use Rattle.tables.specs.Operands.{lend};
 ghost use Rattle.values.specs.Truth.{outcome};
-ghost use Rattle.grammar.specs.Plan.{run};
+ghost use Rattle.grammar.specs.Plan.{running};
+ghost use Rattle.rules.specs.Calls.{told};
 ghost use Rattle.conditions.specs.Prepared.{Runnable};
 use plans::Target;
 use plans::checks::plan_row;
+use tables::Judged;
 use tables::Outcome;
 use tables::Refusal;
 use tables::Verdict;
@@ -25,11 +27,12 @@ pub fn run_rows<'a>(
     plan: &[u32],
     record: &'a [u8],
     switches: u8,
-) -> Verdict
+) -> Judged
     requires { ⌜ Runnable (lend (now items) (now literals) (now bytes)) (now plan) (now «record») ⌝ }
-    ensures { λ r. ⌜ r ≡ run (outcome (lend (now (items .entry)) (now (literals .entry)) (now (bytes .entry))) (now («record» .entry)) switches) (now (plan .entry)) ⌝ }
+    ensures { λ r. ⌜ r ≡ told (running (outcome (lend (now (items .entry)) (now (literals .entry)) (now (bytes .entry))) (now («record» .entry)) switches) (now (plan .entry))) ⌝ }
 {
     let mut at: usize = 0;
+    let mut count: usize = 0;
     while at < wide(Target::FALSE) {
         let row = plan_row(plan, at);
         let found = truth_of(
@@ -42,6 +45,7 @@ pub fn run_rows<'a>(
             row.relation,
             row.object,
         );
+        count = count + 1;
         match found {
             Outcome::True => {
                 at = wide(row.holds);
@@ -50,12 +54,21 @@ pub fn run_rows<'a>(
                 at = wide(row.fails);
             }
             Outcome::Fault => {
-                return Verdict::Refused(Refusal::Data(at));
+                return Judged {
+                    verdict: Verdict::Refused(Refusal::Data(at)),
+                    count,
+                };
             }
         }
     }
     if at == wide(Target::TRUE) {
-        return Verdict::True;
+        return Judged {
+            verdict: Verdict::True,
+            count,
+        };
     }
-    Verdict::False
+    Judged {
+        verdict: Verdict::False,
+        count,
+    }
 }

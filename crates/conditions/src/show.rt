@@ -24,18 +24,18 @@ pub fn show<'a>(
     match planned {
         Written::Refused(refusal) => Shown::Refused(refusal),
         Written::Count(count) => {
-            let verdict = run(items, literals, bytes, &rows[..count], record, switches);
+            let judged = run(items, literals, bytes, &rows[..count], record, switches);
             let expanded = expand(items, literals, bytes, tokens, form);
             match expanded {
                 Written::Refused(refusal) => Shown::Calls {
                     count,
-                    verdict,
+                    judged,
                     expanded,
                     again: Written::Refused(refusal),
                 },
                 Written::Count(length) => Shown::Calls {
                     count,
-                    verdict,
+                    judged,
                     expanded,
                     again: plan(items, literals, bytes, &form[..length], second),
                 },

@@ -1,45 +1,98 @@
-// The calls for C and COBOL. A slice passes as a pointer and then a length. An answer is one number: the refusal's number in the
-// upper half (0: success), and in the lower half the count, 1 or 0 for true or false, or the refusal's place.
+// The calls for C and COBOL. A slice passes as a pointer and then a length. A call returns the refusal's number, 0 for success, and
+// leaves the rest in a lent answer of nine numbers (specs/Answer.antt), each of which is written.
 ghost use mathlib.Core.Path.{_≡_};
 ghost use Prim.Native.Nat.{_≤_};
 ghost use Rattle.tables.specs.Refusals.{place};
 ghost use Rattle.tables.specs.Operands.{lend};
 ghost use Rattle.rules.specs.Calls.{expandGives, planGives, judgeGives, runGives};
-ghost use Rattle.rules.specs.Places.{Small, Modest};
-ghost use Rattle.conditions_c.specs.Packed.{refusalPacked, writtenPacked, verdictPacked, Leaves};
-use tables::Refusal;
+ghost use Rattle.rules.specs.Places.{Small, Fits};
+ghost use Rattle.conditions_c.specs.Answer.{answerNumbers, writtenNumber, writtenPlace, writtenCount, writtenNumbers, verdictNumber, verdictValue, Told, Leaves, Tells};
+use tables::Judged;
 use tables::Verdict;
 use tables::Written;
 use tables::refusals::number_of;
 use tables::refusals::place_of;
 
-// Every count and every place is at most 640, so that the halves stay apart.
-fn refusal_packed(refusal: Refusal) -> u64
-    requires { ⌜ place refusal ≤ 640 ⌝ }
-    ensures { λ r. ⌜ r ≡ refusalPacked refusal ⌝ }
+// Every count and every place is at most 640.
+fn answer_numbers(value: usize, judged: usize, written: usize) -> [u32; 9]
+    requires { ⌜ (value ≤ 640) × (judged ≤ 640) × (written ≤ 640) ⌝ }
+    ensures { λ r. ⌜ r ≡ answerNumbers value 0 judged written ⌝ }
 {
-    number_of(refusal) as u64 * 4294967296 + place_of(refusal) as u64
+    [
+        value as u32,
+        0,
+        judged as u32,
+        written as u32,
+        0,
+        0,
+        0,
+        0,
+        0,
+    ]
 }
 
-fn written_packed(written: Written) -> u64
-    requires { ⌜ Small written ⌝ }
-    ensures { λ r. ⌜ r ≡ writtenPacked written ⌝ }
+fn written_number(written: Written) -> u32
+    ensures { λ r. ⌜ r ≡ writtenNumber written ⌝ }
 {
     match written {
-        Written::Count(count) => count as u64,
-        Written::Refused(refusal) => refusal_packed(refusal),
+        Written::Count(_) => 0,
+        Written::Refused(refusal) => number_of(refusal),
     }
 }
 
-fn verdict_packed(verdict: Verdict) -> u64
-    requires { ⌜ Modest verdict ⌝ }
-    ensures { λ r. ⌜ r ≡ verdictPacked verdict ⌝ }
+fn written_place(written: Written) -> usize
+    ensures { λ r. ⌜ r ≡ writtenPlace written ⌝ }
+{
+    match written {
+        Written::Count(_) => 0,
+        Written::Refused(refusal) => place_of(refusal),
+    }
+}
+
+fn written_count(written: Written) -> usize
+    ensures { λ r. ⌜ r ≡ writtenCount written ⌝ }
+{
+    match written {
+        Written::Count(count) => count,
+        Written::Refused(_) => 0,
+    }
+}
+
+fn tell_written(written: Written, answer: &mut [u32; 9]) -> u32
+    requires { ⌜ Small written ⌝ }
+    ensures { λ r. ⌜ Told (writtenNumber written) (writtenNumbers written) r (now (answer .exit)) ⌝ }
+{
+    *answer = answer_numbers(written_place(written), 0, written_count(written));
+    written_number(written)
+}
+
+fn verdict_number(verdict: Verdict) -> u32
+    ensures { λ r. ⌜ r ≡ verdictNumber verdict ⌝ }
+{
+    match verdict {
+        Verdict::True => 0,
+        Verdict::False => 0,
+        Verdict::Refused(refusal) => number_of(refusal),
+    }
+}
+
+fn verdict_value(verdict: Verdict) -> usize
+    ensures { λ r. ⌜ r ≡ verdictValue verdict ⌝ }
 {
     match verdict {
         Verdict::True => 1,
         Verdict::False => 0,
-        Verdict::Refused(refusal) => refusal_packed(refusal),
+        Verdict::Refused(refusal) => place_of(refusal),
     }
+}
+
+fn tell_judged(judged: Judged, answer: &mut [u32; 9]) -> u32
+    requires { ⌜ Fits judged ⌝ }
+    ensures { λ r. ⌜ Tells judged r (now (answer .exit)) ⌝ }
+{
+    let verdict = judged.verdict;
+    *answer = answer_numbers(verdict_value(verdict), judged.count, 0);
+    verdict_number(verdict)
 }
 
 #[no_mangle]
@@ -49,10 +102,14 @@ pub extern "C" fn oboecurlew_expand(
     bytes: &[u8],
     tokens: &[u32],
     output: &mut [u32],
-) -> u64
-    ensures { λ r. ⌜ Leaves (expandGives (lend (now (items .entry)) (now (literals .entry)) (now (bytes .entry))) (now (tokens .entry)) (now (output .entry))) r (now (output .exit)) ⌝ }
+    answer: &mut [u32; 9],
+) -> u32
+    ensures { λ r. ⌜ Leaves (expandGives (lend (now (items .entry)) (now (literals .entry)) (now (bytes .entry))) (now (tokens .entry)) (now (output .entry))) r (now (answer .exit)) (now (output .exit)) ⌝ }
 {
-    written_packed(conditions::calls::expand(items, literals, bytes, tokens, output))
+    tell_written(
+        conditions::calls::expand(items, literals, bytes, tokens, output),
+        answer,
+    )
 }
 
 #[no_mangle]
@@ -62,10 +119,14 @@ pub extern "C" fn oboecurlew_plan(
     bytes: &[u8],
     tokens: &[u32],
     output: &mut [u32],
-) -> u64
-    ensures { λ r. ⌜ Leaves (planGives (lend (now (items .entry)) (now (literals .entry)) (now (bytes .entry))) (now (tokens .entry)) (now (output .entry))) r (now (output .exit)) ⌝ }
+    answer: &mut [u32; 9],
+) -> u32
+    ensures { λ r. ⌜ Leaves (planGives (lend (now (items .entry)) (now (literals .entry)) (now (bytes .entry))) (now (tokens .entry)) (now (output .entry))) r (now (answer .exit)) (now (output .exit)) ⌝ }
 {
-    written_packed(conditions::calls::plan(items, literals, bytes, tokens, output))
+    tell_written(
+        conditions::calls::plan(items, literals, bytes, tokens, output),
+        answer,
+    )
 }
 
 #[no_mangle]
@@ -76,10 +137,14 @@ pub extern "C" fn oboecurlew_judge<'a>(
     tokens: &[u32],
     record: &'a [u8],
     switches: u8,
-) -> u64
-    ensures { λ r. ⌜ r ≡ verdictPacked (judgeGives (lend (now (items .entry)) (now (literals .entry)) (now (bytes .entry))) (now (tokens .entry)) (now («record» .entry)) switches) ⌝ }
+    answer: &mut [u32; 9],
+) -> u32
+    ensures { λ r. ⌜ Tells (judgeGives (lend (now (items .entry)) (now (literals .entry)) (now (bytes .entry))) (now (tokens .entry)) (now («record» .entry)) switches) r (now (answer .exit)) ⌝ }
 {
-    verdict_packed(conditions::calls::judge(items, literals, bytes, tokens, record, switches))
+    tell_judged(
+        conditions::calls::judge(items, literals, bytes, tokens, record, switches),
+        answer,
+    )
 }
 
 #[no_mangle]
@@ -90,8 +155,12 @@ pub extern "C" fn oboecurlew_run<'a>(
     plan: &[u32],
     record: &'a [u8],
     switches: u8,
-) -> u64
-    ensures { λ r. ⌜ r ≡ verdictPacked (runGives (lend (now (items .entry)) (now (literals .entry)) (now (bytes .entry))) (now (plan .entry)) (now («record» .entry)) switches) ⌝ }
+    answer: &mut [u32; 9],
+) -> u32
+    ensures { λ r. ⌜ Tells (runGives (lend (now (items .entry)) (now (literals .entry)) (now (bytes .entry))) (now (plan .entry)) (now («record» .entry)) switches) r (now (answer .exit)) ⌝ }
 {
-    verdict_packed(conditions::calls::run(items, literals, bytes, plan, record, switches))
+    tell_judged(
+        conditions::calls::run(items, literals, bytes, plan, record, switches),
+        answer,
+    )
 }

@@ -66,7 +66,8 @@ fn the_verdicts(plan: &[u32]) {
           \n\
           `run` follows the plan on each entry. Numbers are compared by value: in entry 2 the meter\n\
           shows 999.9 hours, less than 1000. In entries 5 to 7 it is blank: row 0 jumps to row 5, past\n\
-          the rows that would compare it, and DRIFT alone decides.\n\
+          the rows that would compare it, and DRIFT alone decides. `judged` counts the conditions that were\n\
+          looked at, for the bill of machine time.\n\
           \n",
     );
     verdict::show(By::Plan, plan);

@@ -8,6 +8,7 @@ use crate::logbook::FIELDS;
 use crate::tokens::LITERAL_BYTES;
 use crate::tokens::LITERALS;
 use conditions::calls;
+use tables::Judged;
 use tables::Refusal;
 use tables::Verdict;
 use tables::rows::ends_within;
@@ -58,14 +59,15 @@ fn answer(verdict: Verdict) {
     }
 }
 
-fn entry_line(n: usize, record: &[u8], verdict: Verdict) {
+fn entry_line(n: usize, record: &[u8], judged: Judged) {
     line::to(line::number(line::to(0, 2), n), 7);
     let column = logbook::remark(line::to(cells(record), 36), n);
-    line::to(column, 55);
+    line::to(line::number(line::to(column, 55), judged.count), 63);
+    let verdict = judged.verdict;
     answer(verdict);
 }
 
-fn given(by: By, numbers: &[u32], record: &[u8]) -> Verdict {
+fn given(by: By, numbers: &[u32], record: &[u8]) -> Judged {
     let fields = FIELDS;
     let literals = LITERALS;
     let bytes = LITERAL_BYTES;
@@ -89,6 +91,6 @@ fn each(by: By, numbers: &[u32], entries: &[u8]) {
 }
 
 pub fn show(by: By, numbers: &[u32]) {
-    line::write(b"  no.  DRIVE   HOURS  LIMIT  DRIFT  remark             verdict\n");
+    line::write(b"  no.  DRIVE   HOURS  LIMIT  DRIFT  remark             judged  verdict\n");
     each(by, numbers, &ENTRIES);
 }

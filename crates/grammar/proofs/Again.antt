@@ -31,13 +31,13 @@ at-place (x ∷ ts) zero l = List·Memᴰ·head refl
 at-place (x ∷ ts) (suc k) l = List·Memᴰ·tail (at-place ts k (omega arith))
 
 module _ (lent : Lent) where
-  there-passes : (ts : List ℕ) → There lent ts → tokenCheck lent ts ≡ Sound
+  pub there-passes : (ts : List ℕ) → There lent ts → tokenCheck lent ts ≡ Sound
   there-passes ts h =
-      failing-none (λ i. exists (rowCount (lent .items)) (rowCount (lent .literals)) (getD ts i 0)) Token 0 (length ts)
+      failing-none (λ i. exists (lent .off) (rowCount (lent .items)) (rowCount (lent .literals)) (getD ts i 0)) Token 0 (length ts)
       (λ k l m. h (getD ts k 0) (at-place ts k (omega arith)))
 
   record Insertable (x : ℕ) : Type 0 where
-    there : exists (rowCount (lent .items)) (rowCount (lent .literals)) x ≡ true
+    there : exists (lent .off) (rowCount (lent .items)) (rowCount (lent .literals)) x ≡ true
     not-opening : eqb x 262144 ≡ false
     not-closing : eqb x 262145 ≡ false
 

@@ -82,7 +82,7 @@ abbrev Expands-body : (Carry → List ℕ → Tree → Carry → Type 0) → Lis
 Expands-body F ts t d = Expands F ts (expanded t) t d × Logical (expanded t)
 
 -- an operand, a switch and "(" are none of NOT > < =
-low-logical : {ts : List ℕ} (x : ℕ) → x ≤ 262144 → Logical (x ∷ ts)
+pub low-logical : {ts : List ℕ} (x : ℕ) → x ≤ 262144 → Logical (x ∷ ts)
 low-logical x l = logical (λ (h : Is order x). omega (arith, order-token x h)) (λ (h : Is not x). omega (arith, not-token x h))
 
 relation-expands : {r ts : List ℕ} {a n b : ℕ} → Is operand a → Relation r n → Is operand b → Inserted ts (a ∷ r ++ b ∷ []) →

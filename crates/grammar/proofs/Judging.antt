@@ -1,13 +1,14 @@
 -- Judging a tree: chains and conditions as lists of their parts, and how many simple conditions are judged.
 use mathlib.Core.Path.{_≡_, refl, ap}
 use mathlib.Core.List.{List, [], _∷_}
+use lib.ListN.{length, length-append}
 use Prim.Native.Nat.{ℕ, _+_, _<_, _≤_}
 use native.Mathlib.Omega.{arith}
 use Rattle.tables.specs.declared.Verdict.{Verdict}
 use Rattle.tables.specs.declared.Verdict.the-variants.{True, False, Refused}
 use Rattle.tables.specs.declared.Refusal.{Refusal}
 use Rattle.grammar.specs.Grammar.{Tree, simple, negated, bracketed, both, either}
-use Rattle.grammar.specs.Judging.{Outcomes, leaves, when, judged, chain-of, condition-of, judged-terms, judged-chains}
+use Rattle.grammar.specs.Judging.{Outcomes, leaves, when, judged, Visit, visited, chain-of, condition-of, judged-terms, judged-chains}
 
 pub when-same : (v : Verdict) → v ≡ when v True False Refused
 unfolding when
@@ -42,12 +43,11 @@ some-leaf (both t u) = omega (arith, some-leaf t)
 some-leaf (either t u) = omega (arith, some-leaf t)
 
 -- How many simple conditions are judged, one that stops among them: so many rows a run of the plan goes through.
-unfoldable pub steps : Outcomes → ℕ → Tree → ℕ
-steps out n (simple a r b) = 1
-steps out n (negated t) = steps out n t
-steps out n (bracketed t) = steps out n t
-steps out n (both t u) = steps out n t + when (judged out n t) (steps out (n + leaves t) u) 0 (λ _. 0)
-steps out n (either t u) = steps out n t + when (judged out n t) 0 (steps out (n + leaves t) u) (λ _. 0)
+pub when-length : (v : Verdict) (xs ys : List Visit) → length (when v xs ys (λ _. [])) ≡ when v (length xs) (length ys) (λ _. 0)
+unfolding when
+when-length True xs ys = refl
+when-length False xs ys = refl
+when-length (Refused refusal) xs ys = refl
 
 when-le : (v : Verdict) (a b m : ℕ) → a ≤ m → b ≤ m → when v a b (λ _. 0) ≤ m
 unfolding when
@@ -55,12 +55,25 @@ when-le True a b m p q = p
 when-le False a b m p q = q
 when-le (Refused refusal) a b m p q = omega arith
 
-pub steps-le : (out : Outcomes) (n : ℕ) (t : Tree) → steps out n t ≤ leaves t
-unfolding leaves steps
-steps-le out n (simple a r b) = omega arith
-steps-le out n (negated t) = steps-le out n t
-steps-le out n (bracketed t) = steps-le out n t
-steps-le out n (both t u) =
-    omega (arith, steps-le out n t, when-le (judged out n t) (steps out (n + leaves t) u) 0 (leaves u) (steps-le out (n + leaves t) u) (omega arith))
-steps-le out n (either t u) =
-    omega (arith, steps-le out n t, when-le (judged out n t) 0 (steps out (n + leaves t) u) (leaves u) (omega arith) (steps-le out (n + leaves t) u))
+-- at most the simple conditions that there are, and at least one
+pub visited-le : (out : Outcomes) (n : ℕ) (t : Tree) → length (visited out n t) ≤ leaves t
+unfolding leaves visited
+visited-le out n (simple a r b) = omega arith
+visited-le out n (negated t) = visited-le out n t
+visited-le out n (bracketed t) = visited-le out n t
+visited-le out n (both t u) =
+    let h = visited-le out (n + leaves t) u in
+    rw (length-append, when-length)
+    (omega (arith, visited-le out n t, when-le (judged out n t) (length (visited out (n + leaves t) u)) 0 (leaves u) h (omega arith)))
+visited-le out n (either t u) =
+    let h = visited-le out (n + leaves t) u in
+    rw (length-append, when-length)
+    (omega (arith, visited-le out n t, when-le (judged out n t) 0 (length (visited out (n + leaves t) u)) (leaves u) (omega arith) h))
+
+pub some-visit : (out : Outcomes) (n : ℕ) (t : Tree) → 1 ≤ length (visited out n t)
+unfolding visited
+some-visit out n (simple a r b) = omega arith
+some-visit out n (negated t) = some-visit out n t
+some-visit out n (bracketed t) = some-visit out n t
+some-visit out n (both t u) = rw length-append (omega (arith, some-visit out n t))
+some-visit out n (either t u) = rw length-append (omega (arith, some-visit out n t))

@@ -9,9 +9,14 @@ pub mod Expansion
 pub mod Size
 pub mod Judging
 pub mod Segment
+pub mod Walk
+pub mod Visits
 pub mod Typed
 pub mod Sure
 pub mod Planned
 pub mod Lent
 pub mod Shapes
 pub mod Again
+pub mod Converted
+pub mod ConvertedWalk
+pub mod ConvertedSound

@@ -1,6 +1,8 @@
 -- The run of a tree's plan is the judging of the tree.
 use mathlib.Core.Path.{_≡_, refl, sym, ap, _∙_}
-use mathlib.Core.List.{List, [], _∷_, _++_}
+use mathlib.Core.Bool.{Bool, true, false, cond}
+use lib.Dec.{eqb}
+use mathlib.Core.List.{List, [], _∷_, _++_, append-nil, append-assoc}
 use Prim.Native.Nat.{ℕ, zero, suc, _+_, _*_, _-_, _<_, _≤_}
 use native.Mathlib.Omega.{arith}
 use native.Mathlib.Nat.{zero-add, add-zero, add-assoc}
@@ -12,9 +14,9 @@ use Rattle.tables.specs.declared.Verdict.{Verdict}
 use Rattle.tables.specs.declared.Verdict.the-variants.{True, False, Refused}
 use Rattle.grammar.specs.declared.PlanRow.{PlanRow}
 use Rattle.grammar.specs.Grammar.{Tree, simple, negated, bracketed, both, either}
-use Rattle.grammar.specs.Judging.{Outcomes, leaves, when, at, judged}
-use Rattle.grammar.specs.Plan.{onFalse, onTrue, rowsOf, flat, planned, planRow, planRows, follow, run}
-use Rattle.grammar.proofs.Judging.{when-same, when-not, steps, steps-le}
+use Rattle.grammar.specs.Judging.{Outcomes, leaves, when, at, judged, Visit, visit, visited}
+use Rattle.grammar.specs.Plan.{onFalse, onTrue, rowsOf, flat, planned, planRow, planRows, follow, run, reached, runVisits}
+use Rattle.grammar.proofs.Judging.{when-same, when-not, when-length, visited-le}
 
 pub rows-count : (n y f : ℕ) (t : Tree) → length (rowsOf n y f t) ≡ leaves t
 unfolding leaves rowsOf
@@ -92,35 +94,130 @@ module _ (F : ℕ → ℕ → Verdict) where
   after-either False w j m k y f h = h
   after-either (Refused refusal) w j m k y f h = refl
 
--- The rows of a tree, wherever they stand, are run as the tree is judged: with the steps of the judging, and m more, the run
+-- The rows of a tree, wherever they stand, are run as the tree is judged: with as many rows as the judging visits, and m more, the run
 -- comes to the exit of the verdict with m left, or stops with the same refusal.
 pub segment : (out : Outcomes) (row : ℕ → PlanRow) (t : Tree) (n y f m : ℕ) → n + leaves t ≤ onFalse → Stands row n (rowsOf n y f t) →
-    follow out row (steps out n t + m) n ≡ when (judged out n t) (follow out row m y) (follow out row m f) Refused
-unfolding leaves rowsOf judged steps
+    follow out row (length (visited out n t) + m) n ≡ when (judged out n t) (follow out row m y) (follow out row m f) Refused
+unfolding leaves rowsOf judged visited
 segment out row (simple a r b) n y f m l h =
     rw one-add (follow-row out row m n (omega arith) ∙ rw (stands-one row n (record { subject = a; relation = r; object = b; holds = y; fails = f }) h))
 segment out row (negated t) n y f m l h = segment out row t n f y m l h ∙ when-not (judged out n t) _ _ Refused
 segment out row (bracketed t) n y f m l h = segment out row t n y f m l h
 segment out row (both t u) n y f m l h =
     let p = stands-parts row n (n + leaves t) f y f t u h in
-    rw add-assoc
-    (segment out row t n (n + leaves t) f (when (judged out n t) (steps out (n + leaves t) u) 0 (λ _. 0) + m) (omega arith) (p .0)
-    ∙ after-both (follow out row) (judged out n t) (judged out (n + leaves t) u) (steps out (n + leaves t) u) m (n + leaves t) y f
+    rw (length-append, when-length, add-assoc)
+    (segment out row t n (n + leaves t) f (when (judged out n t) (length (visited out (n + leaves t) u)) 0 (λ _. 0) + m) (omega arith) (p .0)
+    ∙ after-both (follow out row) (judged out n t) (judged out (n + leaves t) u) (length (visited out (n + leaves t) u)) m (n + leaves t) y f
     (segment out row u (n + leaves t) y f m (omega arith) (p .1)))
 segment out row (either t u) n y f m l h =
     let p = stands-parts row n y (n + leaves t) y f t u h in
-    rw add-assoc
-    (segment out row t n y (n + leaves t) (when (judged out n t) 0 (steps out (n + leaves t) u) (λ _. 0) + m) (omega arith) (p .0)
-    ∙ after-either (follow out row) (judged out n t) (judged out (n + leaves t) u) (steps out (n + leaves t) u) m (n + leaves t) y f
+    rw (length-append, when-length, add-assoc)
+    (segment out row t n y (n + leaves t) (when (judged out n t) 0 (length (visited out (n + leaves t) u)) (λ _. 0) + m) (omega arith) (p .0)
+    ∙ after-either (follow out row) (judged out n t) (judged out (n + leaves t) u) (length (visited out (n + leaves t) u)) m (n + leaves t) y f
     (segment out row u (n + leaves t) y f m (omega arith) (p .1)))
+
+-- The rows reached, in the same way: those of the tree that judging visits, and then those reached from the exit.
+pub reached-row : (out : Outcomes) (row : ℕ → PlanRow) (m k : ℕ) → k < onFalse →
+    reached out row (suc m) k
+    ≡ visit k (row k .subject) (row k .relation) (row k .object)
+    ∷ when (at k (out (row k .subject) (row k .relation) (row k .object))) (reached out row m (row k .holds)) (reached out row m (row k .fails)) (λ _. [])
+unfolding reached
+reached-row out row m k l = rw (ne-eqb k onTrue (λ e. omega arith), ne-eqb k onFalse (λ e. omega arith))
+
+pub reached-true : (out : Outcomes) (row : ℕ → PlanRow) (m : ℕ) → reached out row m onTrue ≡ []
+unfolding reached
+reached-true out row zero = refl
+reached-true out row (suc m) = refl
+
+pub reached-false : (out : Outcomes) (row : ℕ → PlanRow) (m : ℕ) → reached out row m onFalse ≡ []
+unfolding reached
+reached-false out row zero = refl
+reached-false out row (suc m) = refl
+
+-- so many rows at most are reached, of any plan
+pub reached-le : (out : Outcomes) (row : ℕ → PlanRow) (m k : ℕ) → length (reached out row m k) ≤ m
+unfolding reached when
+reached-le out row zero k = omega arith
+reached-le out row (suc m) k =
+    go (eqb k onTrue) (eqb k onFalse) (at k (out (row k .subject) (row k .relation) (row k .object)))
+    (reached-le out row m (row k .holds)) (reached-le out row m (row k .fails))
+  where
+    go : (a b : Bool) (v : Verdict) → length (reached out row m (row k .holds)) ≤ m → length (reached out row m (row k .fails)) ≤ m →
+        length (
+        cond a []
+        (cond b []
+        (visit k (row k .subject) (row k .relation) (row k .object)
+        ∷ when v (reached out row m (row k .holds)) (reached out row m (row k .fails)) (λ _. [])))
+        ) ≤ suc m
+    go true b v p q = omega arith
+    go false true v p q = omega arith
+    go false false True p q = omega arith
+    go false false False p q = omega arith
+    go false false (Refused refusal) p q = omega arith
+
+module _ (G : ℕ → ℕ → List Visit) where
+  visits-both : (v w : Verdict) (xs : List Visit) (j m k y f : ℕ) →
+      G (j + m) k ≡ xs ++ when w (G m y) (G m f) (λ _. []) →
+      when v (G (when v j 0 (λ _. 0) + m) k) (G (when v j 0 (λ _. 0) + m) f) (λ _. [])
+      ≡ when v xs [] (λ _. []) ++ when (when v w False Refused) (G m y) (G m f) (λ _. [])
+  unfolding when
+  visits-both True w xs j m k y f h = h
+  visits-both False w xs j m k y f h = rw zero-add
+  visits-both (Refused refusal) w xs j m k y f h = refl
+
+  visits-either : (v w : Verdict) (xs : List Visit) (j m k y f : ℕ) →
+      G (j + m) k ≡ xs ++ when w (G m y) (G m f) (λ _. []) →
+      when v (G (when v 0 j (λ _. 0) + m) y) (G (when v 0 j (λ _. 0) + m) k) (λ _. [])
+      ≡ when v [] xs (λ _. []) ++ when (when v True w Refused) (G m y) (G m f) (λ _. [])
+  unfolding when
+  visits-either True w xs j m k y f h = rw zero-add
+  visits-either False w xs j m k y f h = h
+  visits-either (Refused refusal) w xs j m k y f h = refl
+
+pub segment-visits : (out : Outcomes) (row : ℕ → PlanRow) (t : Tree) (n y f m : ℕ) → n + leaves t ≤ onFalse → Stands row n (rowsOf n y f t) →
+    reached out row (length (visited out n t) + m) n ≡ visited out n t ++ when (judged out n t) (reached out row m y) (reached out row m f) (λ _. [])
+unfolding leaves rowsOf judged visited
+segment-visits out row (simple a r b) n y f m l h =
+    rw one-add (reached-row out row m n (omega arith) ∙ rw (stands-one row n (record { subject = a; relation = r; object = b; holds = y; fails = f }) h))
+segment-visits out row (negated t) n y f m l h =
+    segment-visits out row t n f y m l h ∙ ap (λ w. visited out n t ++ w) (when-not (judged out n t) _ _ (λ _. []))
+segment-visits out row (bracketed t) n y f m l h = segment-visits out row t n y f m l h
+segment-visits out row (both t u) n y f m l h =
+    let p = stands-parts row n (n + leaves t) f y f t u h in
+    rw (length-append, when-length, add-assoc, append-assoc)
+    (segment-visits out row t n (n + leaves t) f (when (judged out n t) (length (visited out (n + leaves t) u)) 0 (λ _. 0) + m) (omega arith) (p .0)
+    ∙ ap (λ w. visited out n t ++ w)
+    (visits-both (reached out row) (judged out n t) (judged out (n + leaves t) u) (visited out (n + leaves t) u) (length (visited out (n + leaves t) u)) m (n + leaves t) y f
+    (segment-visits out row u (n + leaves t) y f m (omega arith) (p .1))))
+segment-visits out row (either t u) n y f m l h =
+    let p = stands-parts row n y (n + leaves t) y f t u h in
+    rw (length-append, when-length, add-assoc, append-assoc)
+    (segment-visits out row t n y (n + leaves t) (when (judged out n t) 0 (length (visited out (n + leaves t) u)) (λ _. 0) + m) (omega arith) (p .0)
+    ∙ ap (λ w. visited out n t ++ w)
+    (visits-either (reached out row) (judged out n t) (judged out (n + leaves t) u) (visited out (n + leaves t) u) (length (visited out (n + leaves t) u)) m (n + leaves t) y f
+    (segment-visits out row u (n + leaves t) y f m (omega arith) (p .1))))
+
+when-none : (v : Verdict) → _≡_ {A = List Visit} (when v [] [] (λ _. [])) []
+unfolding when
+when-none True = refl
+when-none False = refl
+when-none (Refused refusal) = refl
+
+pub plan-visits : (out : Outcomes) (row : ℕ → PlanRow) (t : Tree) (m : ℕ) → leaves t ≤ onFalse → leaves t ≤ m → Stands row 0 (rowsOf 0 onTrue onFalse t) →
+    reached out row m 0 ≡ visited out 0 t
+plan-visits out row t m l g h =
+    let e : m ≡ length (visited out 0 t) + (m - length (visited out 0 t)) = omega (arith, visited-le out 0 t) in
+    ap (λ w. reached out row w 0) e
+    ∙ segment-visits out row t 0 onTrue onFalse (m - length (visited out 0 t)) (omega arith) h
+    ∙ rw (reached-true, reached-false, when-none, append-nil)
 
 -- any plan that holds the rows of a tree from row 0 on, run through as many rows as the tree has or more
 pub plan-runs : (out : Outcomes) (row : ℕ → PlanRow) (t : Tree) (m : ℕ) → leaves t ≤ onFalse → leaves t ≤ m → Stands row 0 (rowsOf 0 onTrue onFalse t) →
     follow out row m 0 ≡ judged out 0 t
 plan-runs out row t m l g h =
-    let e : m ≡ steps out 0 t + (m - steps out 0 t) = omega (arith, steps-le out 0 t) in
+    let e : m ≡ length (visited out 0 t) + (m - length (visited out 0 t)) = omega (arith, visited-le out 0 t) in
     ap (λ w. follow out row w 0) e
-    ∙ segment out row t 0 onTrue onFalse (m - steps out 0 t) (omega arith) h
+    ∙ segment out row t 0 onTrue onFalse (m - length (visited out 0 t)) (omega arith) h
     ∙ rw (follow-true, follow-false) (sym (when-same (judged out 0 t)))
 
 -- the numbers of rows hold the rows
@@ -164,3 +261,13 @@ planned-stands t = record { stands = λ k l. rw zero-add (row-of-flat (rowsOf 0 
 pub run-is-judging : (out : Outcomes) (t : Tree) → leaves t < 65534 → run out (planned t) ≡ judged out 0 t
 unfolding run
 run-is-judging out t l = plan-runs out (planRow (planned t)) t (planRows (planned t)) (omega arith) (omega (arith, planned-length t)) (planned-stands t)
+
+-- Document 02, i): the rows that the run of a tree's plan reaches are the simple conditions that judging visits, number for number.
+pub run-visits : (out : Outcomes) (t : Tree) → leaves t < 65534 → runVisits out (planned t) ≡ visited out 0 t
+unfolding runVisits
+run-visits out t l = plan-visits out (planRow (planned t)) t (planRows (planned t)) (omega arith) (omega (arith, planned-length t)) (planned-stands t)
+
+-- "at most the plan's", of any numbers
+pub run-count : (out : Outcomes) (plan : List ℕ) → length (runVisits out plan) ≤ planRows plan
+unfolding runVisits
+run-count out plan = reached-le out (planRow plan) (planRows plan) 0

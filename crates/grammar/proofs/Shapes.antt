@@ -40,12 +40,12 @@ member-passes passes (List·Memᴰ·tail m) h = member-passes passes m (λ k l. 
 module _ (lent : Lent) where
   -- each of the tokens exists
   abbrev pub There : List ℕ → Type 0
-  There ts = (x : ℕ) → List·Memᴰ x ts → exists (rowCount (lent .items)) (rowCount (lent .literals)) x ≡ true
+  There ts = (x : ℕ) → List·Memᴰ x ts → exists (lent .off) (rowCount (lent .items)) (rowCount (lent .literals)) x ≡ true
 
   pub tokens-there : (ts : List ℕ) → tokenCheck lent ts ≡ Sound → There ts
   tokens-there ts e x m =
-      member-passes (exists (rowCount (lent .items)) (rowCount (lent .literals))) m
-      (every-sound (λ i. exists (rowCount (lent .items)) (rowCount (lent .literals)) (getD ts i 0)) Token (length ts) e)
+      member-passes (exists (lent .off) (rowCount (lent .items)) (rowCount (lent .literals))) m
+      (every-sound (λ i. exists (lent .off) (rowCount (lent .items)) (rowCount (lent .literals)) (getD ts i 0)) Token (length ts) e)
 
   pub there-left : {ts : List ℕ} (us : List ℕ) → There (ts ++ us) → There ts
   there-left us h x m = h x (Memᴰ·append-left us m)

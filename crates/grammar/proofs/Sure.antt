@@ -46,7 +46,7 @@ pub record Sure (lent : Lent) (rows k : ℕ) (r : PlanRow) : Type 0 where
   pub fails : Later rows k (r .fails)
 
 module _ (lent : Lent) (plan : List ℕ) (p : planCheck lent plan ≡ Sound) where
-  lines : (planLengthSound plan ≡ true) × ((k : ℕ) → k < planRows plan → planRowSound lent (planRows plan) k (planRow plan k) ≡ true)
+  pub lines : (planLengthSound plan ≡ true) × ((k : ℕ) → k < planRows plan → planRowSound lent (planRows plan) k (planRow plan k) ≡ true)
   lines = let s = lines-sound _ p in (test-sound _ _ (s .0), every-sound _ _ _ (s .1 .0))
 
   pub some-rows : (length plan % 5 ≡ 0) × (1 ≤ planRows plan) × (planRows plan ≤ 128)

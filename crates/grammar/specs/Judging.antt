@@ -1,6 +1,6 @@
 -- Document 01, "Truth on a record": judging a tree from left to right.
 use Prim.Native.Nat.{ℕ, _+_}
-use mathlib.Core.List.{List, [], _∷_}
+use mathlib.Core.List.{List, [], _∷_, _++_}
 use Rattle.tables.specs.declared.Outcome.{Outcome}
 use Rattle.tables.specs.declared.Outcome.the-variants.{True as Holds, False as Fails, Fault}
 use Rattle.tables.specs.declared.Verdict.{Verdict}
@@ -43,6 +43,37 @@ judged out n (negated t) = when (judged out n t) False True Refused
 judged out n (bracketed t) = judged out n t
 judged out n (both t u) = when (judged out n t) (judged out (n + leaves t) u) False Refused
 judged out n (either t u) = when (judged out n t) True (judged out (n + leaves t) u) Refused
+
+-- A simple condition that is judged: its number, subject, relation and object.
+pub record Visit : Type 0 where
+  pub number : ℕ
+  pub subject : ℕ
+  pub relation : ℕ
+  pub object : ℕ
+
+abbrev pub visit : ℕ → ℕ → ℕ → ℕ → Visit
+visit n a r b = record { number = n; subject = a; relation = r; object = b }
+
+-- Document 02, i): the simple conditions that this judging comes to, in their order, one that stops among them. It is the walk of
+-- `judged`, line by line: a second part is walked exactly where `judged` asks for its answer.
+unfoldable pub visited : Outcomes → ℕ → Tree → List Visit
+visited out n (simple a r b) = visit n a r b ∷ []
+visited out n (negated t) = visited out n t
+visited out n (bracketed t) = visited out n t
+visited out n (both t u) = visited out n t ++ when (judged out n t) (visited out (n + leaves t) u) [] (λ _. [])
+visited out n (either t u) = visited out n t ++ when (judged out n t) [] (visited out (n + leaves t) u) (λ _. [])
+
+-- what a walk comes to: its verdict, and the simple conditions judged
+pub record Walk : Type 0 where
+  pub verdict : Verdict
+  pub visits : List Visit
+
+abbrev pub walk : Verdict → List Visit → Walk
+walk verdict visits = record { verdict = verdict; visits = visits }
+
+-- the walk of a condition's tree
+abbrev pub judging : Outcomes → Tree → Walk
+judging out t = walk (judged out 0 t) (visited out 0 t)
 
 -- the same of a chain and of a condition as the list of its parts
 unfoldable pub chain-of : Tree → List Tree → Tree

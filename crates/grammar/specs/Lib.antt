@@ -5,3 +5,4 @@ pub mod Expanded
 pub mod Judging
 pub mod Typed
 pub mod Plan
+pub mod Converted

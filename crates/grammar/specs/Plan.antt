@@ -15,7 +15,7 @@ use Rattle.typing.specs.Shape.{shapeSound}
 use Rattle.typing.specs.Typing.{typed}
 use Rattle.grammar.specs.declared.PlanRow.{PlanRow}
 use Rattle.grammar.specs.Grammar.{Tree, simple, negated, bracketed, both, either}
-use Rattle.grammar.specs.Judging.{Outcomes, leaves, when, at}
+use Rattle.grammar.specs.Judging.{Outcomes, leaves, when, at, Visit, visit, Walk, walk}
 
 -- "Verdicts stand as 65,534 for false and 65,535 for true."
 abbrev pub onFalse : ℕ
@@ -92,3 +92,22 @@ follow out row (suc m) k =
 
 unfoldable pub run : Outcomes → List ℕ → Verdict
 run out plan = follow out (planRow plan) (planRows plan) 0
+
+-- Document 02, i): "run's is the rows it reaches". The rows of that run, in their order, line by line as `follow`.
+unfoldable pub reached : Outcomes → (ℕ → PlanRow) → ℕ → ℕ → List Visit
+reached out row zero k = []
+reached out row (suc m) k =
+    cond (eqb k onTrue) []
+    (cond (eqb k onFalse) []
+    (visit k (row k .subject) (row k .relation) (row k .object)
+    ∷ when (at k (out (row k .subject) (row k .relation) (row k .object)))
+    (reached out row m (row k .holds))
+    (reached out row m (row k .fails))
+    (λ _. [])))
+
+unfoldable pub runVisits : Outcomes → List ℕ → List Visit
+runVisits out plan = reached out (planRow plan) (planRows plan) 0
+
+-- the walk of a run
+abbrev pub running : Outcomes → List ℕ → Walk
+running out plan = walk (run out plan) (runVisits out plan)

@@ -1,5 +1,5 @@
 -- What the calls give, over the definitions: of a condition that passes 1 to 9, of one that a line refuses, and of a plan.
-use mathlib.Core.Path.{_≡_, _∙_}
+use mathlib.Core.Path.{_≡_, ap₂, _∙_}
 use mathlib.Core.List.{List, [], _∷_, _++_}
 use Prim.Native.Nat.{ℕ, _≤_, _<_}
 use native.Mathlib.Omega.{arith}
@@ -19,19 +19,19 @@ use Rattle.values.specs.Truth.{outcome}
 use Rattle.grammar.specs.Grammar.{Tree}
 use Rattle.grammar.specs.Parser.{read}
 use Rattle.grammar.specs.Expanded.{expanded}
-use Rattle.grammar.specs.Judging.{leaves, judged}
-use Rattle.grammar.specs.Plan.{planned, planCheck, run}
+use Rattle.grammar.specs.Judging.{leaves, Walk, walk, judging}
+use Rattle.grammar.specs.Plan.{planned, planCheck, planRows, running}
 use Rattle.grammar.proofs.Size.{few-rows}
-use Rattle.grammar.proofs.Segment.{run-is-judging}
+use Rattle.grammar.proofs.Segment.{run-is-judging, run-visits, run-count}
 use Rattle.grammar.proofs.Shapes.{planned-plan-sound}
-use Rattle.rules.specs.Calls.{conditionLines, roomCheck, numbersOf, writing, expandGives, planGives, answers, judgeGives, runGives}
-use Rattle.rules.specs.Demands.{writtenOver, rulesAnswer, Refuses}
+use Rattle.rules.specs.Calls.{conditionLines, roomCheck, numbersOf, writing, expandGives, planGives, answers, told, judgeWalk, runWalk, runGives}
+use Rattle.rules.specs.Demands.{writtenOver, rulesWalk, Refuses}
 use Rattle.rules.proofs.Passing.{typing-passes, after-lines, Passes, read-as, condition-passes, tables-pass, few-tokens, tokens-exist}
 
 -- a condition that passes
 module _ {lent : Lent} {tokens : List ℕ} {t : Tree} (p : Passes lent tokens t) where
   -- the room is what is left to check
-  room-left : (make : Tree → List ℕ) (output : List ℕ) →
+  pub room-left : (make : Tree → List ℕ) (output : List ℕ) →
       firstOf (conditionLines lent tokens ++ roomCheck (numbersOf make (read tokens)) output ∷ []) ≡ roomCheck (make t) output
   room-left make output =
       after-lines (conditionLines lent tokens) (roomCheck (numbersOf make (read tokens)) output ∷ []) (condition-passes p)
@@ -46,8 +46,8 @@ module _ {lent : Lent} {tokens : List ℕ} {t : Tree} (p : Passes lent tokens t)
       writing make lent tokens output ≡ record { answer = Unwritten (Room (length (make t))); output = output }
   lacks-room make output l = rw (room-left make output, lt-leb _ _ l)
 
-  pub judges-as : (content : List ℕ) (switches : ℕ) → judgeGives lent tokens content switches ≡ rulesAnswer lent content switches t
-  unfolding judgeGives
+  pub judges-as : (content : List ℕ) (switches : ℕ) → judgeWalk lent tokens content switches ≡ rulesWalk lent content switches t
+  unfolding judgeWalk
   judges-as content switches =
       rw (after-lines (conditionLines lent tokens) (recordCheck lent content ∷ []) (condition-passes p), line-last, read-as p)
 
@@ -57,8 +57,9 @@ module _ {lent : Lent} {tokens : List ℕ} {t : Tree} (p : Passes lent tokens t)
   pub plan-passes : planCheck lent (planned t) ≡ Sound
   plan-passes = planned-plan-sound lent (p .accepts .derives) (few-tokens p) (tokens-exist p) (typing-passes lent 0 t (p .accepts .typed))
 
-  pub run-judges : (content : List ℕ) (switches : ℕ) → run (outcome lent content switches) (planned t) ≡ judged (outcome lent content switches) 0 t
-  run-judges content switches = run-is-judging (outcome lent content switches) t (omega (arith, few-leaves))
+  pub run-judges : (content : List ℕ) (switches : ℕ) → running (outcome lent content switches) (planned t) ≡ judging (outcome lent content switches) t
+  run-judges content switches =
+      ap₂ walk (run-is-judging (outcome lent content switches) t (omega (arith, few-leaves))) (run-visits (outcome lent content switches) t (omega (arith, few-leaves)))
 
 -- a condition that a line refuses
 module _ (lent : Lent) (tokens : List ℕ) {refusal : Refusal} (e : firstOf (conditionLines lent tokens) ≡ Refused refusal) where
@@ -66,7 +67,7 @@ module _ (lent : Lent) (tokens : List ℕ) {refusal : Refusal} (e : firstOf (con
   before others = lines-before (conditionLines lent tokens) others ∙ line-refused others e
 
   pub refuses : Refuses lent tokens refusal
-  unfolding expandGives planGives judgeGives
+  unfolding expandGives planGives judgeWalk
   refuses =
       record {
         expand = λ output. rw (before (roomCheck (numbersOf expanded (read tokens)) output ∷ []));
@@ -79,19 +80,30 @@ module _ (lent : Lent) (plan content : List ℕ) (switches : ℕ) where
   abbrev others : List Check
   others = planCheck lent plan ∷ recordCheck lent content ∷ []
 
-  pub tables-refuse : {refusal : Refusal} → firstOf (tableLines lent) ≡ Refused refusal → Unjudged refusal ≡ runGives lent plan content switches
-  unfolding runGives
+  pub tables-refuse : {refusal : Refusal} → firstOf (tableLines lent) ≡ Refused refusal → walk (Unjudged refusal) [] ≡ runWalk lent plan content switches
+  unfolding runWalk
   tables-refuse e = rw (lines-before (tableLines lent) others, line-refused others e)
 
-  pub after-tables : firstOf (tableLines lent) ≡ Sound → runGives lent plan content switches ≡ answers (firstOf others) (run (outcome lent content switches) plan)
-  unfolding runGives
+  pub after-tables : firstOf (tableLines lent) ≡ Sound → runWalk lent plan content switches ≡ answers (firstOf others) (running (outcome lent content switches) plan)
+  unfolding runWalk
   after-tables t = rw (after-lines (tableLines lent) others t)
 
   pub after-plan : firstOf (tableLines lent) ≡ Sound → planCheck lent plan ≡ Sound →
-      runGives lent plan content switches ≡ answers (recordCheck lent content) (run (outcome lent content switches) plan)
+      runWalk lent plan content switches ≡ answers (recordCheck lent content) (running (outcome lent content switches) plan)
   after-plan t e = after-tables t ∙ rw (line-sound (recordCheck lent content ∷ []) e, line-last)
 
+-- no run goes through more rows than the plan has
+answers-few : (line : Check) (w : Walk) (n : ℕ) → length (w .visits) ≤ n → told (answers line w) .count ≤ n
+answers-few Sound w n h = h
+answers-few (Refused refusal) w n h = omega arith
+
+pub run-few : (lent : Lent) (plan content : List ℕ) (switches : ℕ) → runGives lent plan content switches .count ≤ planRows plan
+unfolding runWalk
+run-few lent plan content switches =
+    answers-few (firstOf (tableLines lent ++ planCheck lent plan ∷ recordCheck lent content ∷ [])) (running (outcome lent content switches) plan) (planRows plan)
+    (run-count (outcome lent content switches) plan)
+
 pub runs-as : {lent : Lent} {tokens : List ℕ} {t : Tree} → Passes lent tokens t → (content : List ℕ) (switches : ℕ) →
-    runGives lent (planned t) content switches ≡ rulesAnswer lent content switches t
+    runWalk lent (planned t) content switches ≡ rulesWalk lent content switches t
 runs-as {lent} {tokens} {t} p content switches =
     after-plan lent (planned t) content switches (tables-pass p) (plan-passes p) ∙ rw (run-judges p content switches)

@@ -1,5 +1,5 @@
 -- Demands 2 and 3 hold of the definitions that the calls' contracts cite.
-use mathlib.Core.Path.{_≡_, refl}
+use mathlib.Core.Path.{_≡_, refl, ap}
 use mathlib.Core.List.{List, [], _∷_, _++_}
 use Prim.Native.Nat.{ℕ, _≤_}
 use native.Mathlib.Omega.{arith}
@@ -17,10 +17,10 @@ use Rattle.grammar.specs.Grammar.{Tree}
 use Rattle.grammar.specs.Parser.{read}
 use Rattle.grammar.specs.Expanded.{expanded}
 use Rattle.grammar.specs.Plan.{planned}
-use Rattle.rules.specs.Calls.{conditionLines, roomCheck, Gives, writes, numbersOf, writing, expandGives, planGives, answers, treeAnswer, judgeGives}
+use Rattle.rules.specs.Calls.{conditionLines, roomCheck, Gives, writes, numbersOf, writing, expandGives, planGives, answers, told, treeAnswer, judgeWalk, judgeGives}
 use Rattle.rules.specs.Demands.{Accepted, writtenOver, Writes, Judges, DemandTwo, Demand3, DemandThree}
 use Rattle.rules.proofs.Passing.{both-sound, Passes, passed, read-as, passes-again, Nine, condition-nine, underived-refused, ill-typed-refused}
-use Rattle.rules.proofs.Answers.{writes-over, judges-as, runs-as, refuses}
+use Rattle.rules.proofs.Answers.{writes-over, judges-as, runs-as, refuses, run-few}
 
 -- no condition is written, nor judged, but one that passes
 module _ (lent : Lent) (tokens : List ℕ) where
@@ -34,13 +34,13 @@ module _ (lent : Lent) (tokens : List ℕ) where
       go Sound q s w = passed lent tokens q
       go (Refused refusal) q s w = absurd (omega arith)
 
-  judged-only : Nine (firstOf (conditionLines lent tokens)) → (content : List ℕ) (switches : ℕ) → Judges (judgeGives lent tokens content switches) → (t : Tree) × Passes lent tokens t
-  unfolding judgeGives firstOf
+  judged-only : Nine (firstOf (conditionLines lent tokens)) → (content : List ℕ) (switches : ℕ) → Judges (judgeGives lent tokens content switches .verdict) → (t : Tree) × Passes lent tokens t
+  unfolding judgeWalk firstOf
   judged-only s content switches j =
       go (firstOf (conditionLines lent tokens)) refl s (rw (lines-before (conditionLines lent tokens) (recordCheck lent content ∷ [])) at j)
     where
       go : (line : Check) → firstOf (conditionLines lent tokens) ≡ line → Nine line →
-          Judges (answers (firstOf (line ∷ recordCheck lent content ∷ [])) (treeAnswer lent content switches (read tokens))) → (t : Tree) × Passes lent tokens t
+          Judges (answers (firstOf (line ∷ recordCheck lent content ∷ [])) (treeAnswer lent content switches (read tokens)) .verdict) → (t : Tree) × Passes lent tokens t
       go Sound q s j = passed lent tokens q
       go (Refused refusal) q s j = absurd (omega arith)
 
@@ -66,7 +66,7 @@ demand-two lent tokens f d =
     record {
       expands = λ t a. writes-over (passes t a) expanded;
       plans = λ t a. writes-over (passes t a) planned;
-      judges = λ t a. judges-as (passes t a);
+      judges = λ t a content switches. ap told (judges-as (passes t a) content switches);
       expand-only = λ output w. let (t, p) = written-only lent tokens expanded nine output w in (t, p .accepts);
       plan-only = λ output w. let (t, p) = written-only lent tokens planned nine output w in (t, p .accepts);
       judge-only = λ content switches j. let (t, p) = judged-only lent tokens nine content switches j in (t, p .accepts);
@@ -90,13 +90,15 @@ module _ (gives : Gives) (numbers output : List ℕ) (n : ℕ) (w : gives ≡ wr
 
 demanded : {lent : Lent} {tokens : List ℕ} {t : Tree} (plan : List ℕ) (n : ℕ) → Passes lent tokens t → plan ≡ planned t → length (planned t) ≡ n → Demand3 lent tokens plan n
 unfolding expandGives planGives
-demanded {t = t} plan n p e c =
+demanded {lent} {tokens} {t} plan n p e c =
     record {
       tree = t;
       accepted = p .accepts;
       rows = e;
       counts = rw (e, c);
-      runs = λ content switches. rw e (runs-as p content switches);
+      runs = λ content switches. rw e (ap told (runs-as p content switches));
+      reaches = λ content switches. rw e (ap (λ w. w .visits) (runs-as p content switches));
+      few = λ content switches. run-few lent plan content switches;
       expands = writes-over p expanded;
       plans-again = λ l output r. rw e (writes-over (passes-again p l) planned output (rw e at r));
     }

@@ -4,3 +4,6 @@ pub mod Deep
 pub mod Places
 pub mod Answers
 pub mod Demands
+pub mod Footprint
+pub mod Converting
+pub mod Samples

@@ -1,4 +1,4 @@
--- No place is above 640, and no count: an answer fits one half of a 64-bit number.
+-- No place is above 640, and no count: an answer fits numbers of 32 bits.
 use mathlib.Core.Path.{_≡_, refl, sym, ap, _∙_}
 use mathlib.Core.Bool.{Bool, true, false, cond, _&&_}
 use mathlib.Core.List.{List, [], _∷_, _++_}
@@ -30,16 +30,17 @@ use Rattle.grammar.specs.Grammar.{Tree, Derives, simple, negated, bracketed, bo
 use Rattle.grammar.specs.Parser.{Result, parsed, stuck, Reading, accepted, refused, reading, read}
 use Rattle.grammar.specs.Depth.{depthCheck}
 use Rattle.grammar.specs.Typed.{typingFrom}
-use Rattle.grammar.specs.Judging.{Outcomes, leaves, when, at, judged}
+use Rattle.grammar.specs.Judging.{Outcomes, leaves, when, at, judged, Walk}
 use Rattle.grammar.proofs.Reading.{sound, place as grammar-place}
 use Rattle.grammar.proofs.Depth.{depth-inside}
+use Rattle.grammar.proofs.Judging.{visited-le}
 use Rattle.grammar.proofs.Size.{few-rows, expanded-bound}
-use Rattle.grammar.proofs.Segment.{planned-length, follow-row, follow-true, follow-false}
+use Rattle.grammar.proofs.Segment.{planned-length, follow-row, follow-true, follow-false, run-count}
 use Rattle.grammar.proofs.Sure.{some-rows, sure}
 use Rattle.grammar.specs.Expanded.{expanded}
-use Rattle.grammar.specs.Plan.{onTrue, onFalse, planned, planRow, planRows, planLengthSound, planCheck, follow, run}
-use Rattle.rules.specs.Places.{Small, Modest}
-use Rattle.rules.specs.Calls.{grammarCheck, earlier, typingCheck, conditionLines, roomCheck, writes, numbersOf, writing, expandGives, planGives, answers, treeAnswer, judgeGives, runGives}
+use Rattle.grammar.specs.Plan.{onTrue, onFalse, planned, planRow, planRows, planLengthSound, planCheck, follow, run, running}
+use Rattle.rules.specs.Places.{Small, Modest, Fits}
+use Rattle.rules.specs.Calls.{grammarCheck, earlier, typingCheck, conditionLines, roomCheck, writes, numbersOf, writing, expandGives, planGives, answers, told, treeAnswer, judgeWalk, judgeGives, runWalk, runGives}
 use Rattle.rules.proofs.Passing.{both-sound, passed, read-as, few-tokens as short-passed}
 
 -- a line that is none, or one whose place is at most 640
@@ -177,9 +178,9 @@ unfolding planGives
 plan-small = small-writing planned (λ tokens t h short. omega (arith, planned-length t, few-rows h short))
 
 -- a place of judge or run
-modest-answers : (line : Check) (verdict : Verdict) → Low line → (line ≡ Sound → Modest verdict) → Modest (answers line verdict)
-modest-answers Sound verdict h g = g refl
-modest-answers (Refused refusal) verdict h g = h
+modest-answers : (line : Check) (w : Walk) → Low line → (line ≡ Sound → Modest (w .verdict)) → Modest (answers line w .verdict)
+modest-answers Sound w h g = g refl
+modest-answers (Refused refusal) w h g = h
 
 -- 13
 modest-at : (n : ℕ) (o : Outcome) → n ≤ 640 → Modest (at n o)
@@ -204,14 +205,35 @@ modest-judged out n (chained t u) l =
 modest-judged out n (either t u) l =
     modest-when (judged out n t) True (judged out (n + leaves t) u) (modest-judged out n t (omega arith)) tt (modest-judged out (n + leaves t) u (omega arith))
 
-pub judge-modest : (lent : Lent) (tokens content : List ℕ) (switches : ℕ) → Modest (judgeGives lent tokens content switches)
-unfolding judgeGives
+judge-modest : (lent : Lent) (tokens content : List ℕ) (switches : ℕ) → Modest (judgeGives lent tokens content switches .verdict)
+unfolding judgeWalk
 judge-modest lent tokens content switches =
     modest-answers _ (treeAnswer lent content switches (read tokens))
     (low-condition lent tokens (recordCheck lent content) (λ few short. low-record lent content few))
     (λ e.
     let (t, p) = passed lent tokens (both-sound (conditionLines lent tokens) (recordCheck lent content ∷ []) e .0) in
     rw (read-as p) (modest-judged _ 0 t (omega (arith, few-rows (p .accepts .derives) (short-passed p)))))
+
+-- a count of judge or run
+few-answers : (line : Check) (w : Walk) → (line ≡ Sound → length (w .visits) ≤ 128) → told (answers line w) .count ≤ 128
+few-answers Sound w g = g refl
+few-answers (Refused refusal) w g = omega arith
+
+judge-few : (lent : Lent) (tokens content : List ℕ) (switches : ℕ) → judgeGives lent tokens content switches .count ≤ 128
+unfolding judgeWalk
+judge-few lent tokens content switches =
+    few-answers (firstOf (conditionLines lent tokens ++ recordCheck lent content ∷ [])) (treeAnswer lent content switches (read tokens))
+    (λ e.
+    let (t, p) = passed lent tokens (both-sound (conditionLines lent tokens) (recordCheck lent content ∷ []) e .0) in
+    rw (read-as p) (omega (arith, visited-le (outcome lent content switches) 0 t, few-rows (p .accepts .derives) (short-passed p))))
+
+run-few : (lent : Lent) (plan content : List ℕ) (switches : ℕ) → runGives lent plan content switches .count ≤ 128
+unfolding runWalk
+run-few lent plan content switches =
+    few-answers (firstOf (tableLines lent ++ planCheck lent plan ∷ recordCheck lent content ∷ [])) (running (outcome lent content switches) plan)
+    (λ e.
+    let s = lines-sound _ (both-sound (tableLines lent) (planCheck lent plan ∷ recordCheck lent content ∷ []) e .1) .0 in
+    omega (arith, run-count (outcome lent content switches) plan, some-rows lent plan s))
 
 -- a run of a sound plan comes to its rows only
 module _ (lent : Lent) (plan : List ℕ) (s : planCheck lent plan ≡ Sound) (out : Outcomes) where
@@ -254,11 +276,17 @@ low-plan lent plan =
     leb-true _ _ (both (eqb (length plan % 5) 0 && leb 1 (planRows plan)) (leb (planRows plan) 128) (test-sound _ (PlanFault 0) e) .1) in
     low-last _ (low-failing _ PlanFault (λ k. refl) 0 (planRows plan) (omega arith)))
 
-pub run-modest : (lent : Lent) (plan content : List ℕ) (switches : ℕ) → Modest (runGives lent plan content switches)
-unfolding runGives run
+run-modest : (lent : Lent) (plan content : List ℕ) (switches : ℕ) → Modest (runGives lent plan content switches .verdict)
+unfolding runWalk run
 run-modest lent plan content switches =
-    modest-answers _ (run (outcome lent content switches) plan)
+    modest-answers _ (running (outcome lent content switches) plan)
     (low-tables lent _ (λ few. low-first (planCheck lent plan) _ (low-plan lent plan) (λ s. low-last _ (low-record lent content few))))
     (λ e.
     let s = lines-sound _ (both-sound (tableLines lent) (planCheck lent plan ∷ recordCheck lent content ∷ []) e .1) .0 in
     modest-follow lent plan s (outcome lent content switches) (planRows plan) 0 (omega arith, λ _. omega (arith, some-rows lent plan s)))
+
+pub judge-fits : (lent : Lent) (tokens content : List ℕ) (switches : ℕ) → Fits (judgeGives lent tokens content switches)
+judge-fits lent tokens content switches = (judge-modest lent tokens content switches, judge-few lent tokens content switches)
+
+pub run-fits : (lent : Lent) (plan content : List ℕ) (switches : ℕ) → Fits (runGives lent plan content switches)
+run-fits lent plan content switches = (run-modest lent plan content switches, run-few lent plan content switches)

@@ -10,7 +10,7 @@ use Rattle.tables.specs.declared.Check.{Check}
 use Rattle.tables.specs.declared.Check.the-variants.{Sound, Refused}
 use Rattle.tables.specs.declared.Written.{Written}
 use Rattle.tables.specs.declared.Written.the-variants.{Count, Refused as Unwritten}
-use Rattle.tables.specs.declared.Verdict.{Verdict}
+use Rattle.tables.specs.declared.Judged.{Judged}
 use Rattle.tables.specs.declared.Verdict.the-variants.{Refused as Unjudged}
 use Rattle.tables.specs.Operands.{Lent}
 use Rattle.tables.specs.Refusals.{place, unless, firstOf}
@@ -21,8 +21,8 @@ use Rattle.grammar.specs.Parser.{Reading, accepted, refused, read}
 use Rattle.grammar.specs.Depth.{depthCheck}
 use Rattle.grammar.specs.Typed.{typingFrom}
 use Rattle.grammar.specs.Expanded.{expanded}
-use Rattle.grammar.specs.Judging.{judged}
-use Rattle.grammar.specs.Plan.{planned, planCheck, run}
+use Rattle.grammar.specs.Judging.{Walk, walk, judging}
+use Rattle.grammar.specs.Plan.{planned, planCheck, running}
 
 -- 7: "the grammar derives no such sequence"
 abbrev pub grammarCheck : Reading → Check
@@ -89,23 +89,33 @@ expandGives = writing expanded
 unfoldable pub planGives : Lent → List ℕ → List ℕ → Gives
 planGives = writing planned
 
--- a verdict, after the lines that refuse
-abbrev pub answers : Check → Verdict → Verdict
-answers (Refused refusal) verdict = Unjudged refusal
-answers Sound verdict = verdict
+-- a walk, after the lines that refuse: where one does, nothing was judged
+abbrev pub answers : Check → Walk → Walk
+answers (Refused refusal) w = walk (Unjudged refusal) []
+answers Sound w = w
+
+-- "Judge and run also report how many simple conditions were judged, a refused one counted, 0 if refused earlier."
+abbrev pub told : Walk → Judged
+told w = record { verdict = w .verdict; count = length (w .visits) }
 
 -- "the answer of the derived tree"; a sequence without one is refused with 7
-abbrev pub treeAnswer : Lent → List ℕ → ℕ → Reading → Verdict
-treeAnswer lent content switches (accepted t) = judged (outcome lent content switches) 0 t
-treeAnswer lent content switches (refused at) = Unjudged (Grammar at)
+abbrev pub treeAnswer : Lent → List ℕ → ℕ → Reading → Walk
+treeAnswer lent content switches (accepted t) = judging (outcome lent content switches) t
+treeAnswer lent content switches (refused at) = walk (Unjudged (Grammar at)) []
 
 -- "judge 1 to 9, 12, 13". "The rules' answer, for tokens and tables that none of 1 to 9 refuses, is refusal 12 where the table
 -- below gives it, else the answer of the derived tree."
-unfoldable pub judgeGives : Lent → List ℕ → List ℕ → ℕ → Verdict
-judgeGives lent tokens content switches =
+unfoldable pub judgeWalk : Lent → List ℕ → List ℕ → ℕ → Walk
+judgeWalk lent tokens content switches =
     answers (firstOf (conditionLines lent tokens ++ recordCheck lent content ∷ [])) (treeAnswer lent content switches (read tokens))
 
+abbrev pub judgeGives : Lent → List ℕ → List ℕ → ℕ → Judged
+judgeGives lent tokens content switches = told (judgeWalk lent tokens content switches)
+
 -- "run 1 to 4, 11, 12, 13"
-unfoldable pub runGives : Lent → List ℕ → List ℕ → ℕ → Verdict
-runGives lent plan content switches =
-    answers (firstOf (tableLines lent ++ planCheck lent plan ∷ recordCheck lent content ∷ [])) (run (outcome lent content switches) plan)
+unfoldable pub runWalk : Lent → List ℕ → List ℕ → ℕ → Walk
+runWalk lent plan content switches =
+    answers (firstOf (tableLines lent ++ planCheck lent plan ∷ recordCheck lent content ∷ [])) (running (outcome lent content switches) plan)
+
+abbrev pub runGives : Lent → List ℕ → List ℕ → ℕ → Judged
+runGives lent plan content switches = told (runWalk lent plan content switches)

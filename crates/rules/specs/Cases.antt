@@ -7,7 +7,9 @@ use lib.IntN.{ℤ, negsuc}
 use Rattle.tables.specs.declared.Refusal.{Refusal}
 use Rattle.tables.specs.declared.Written.{Written}
 use Rattle.tables.specs.declared.Written.the-variants.{Count, Refused as Unwritten}
+use mathlib.Core.Bool.{false}
 use Rattle.tables.specs.declared.Verdict.{Verdict}
+use Rattle.tables.specs.declared.Judged.{Judged}
 use Rattle.tables.specs.declared.Verdict.the-variants.{True, False, Refused as Unjudged}
 use Rattle.tables.specs.Operands.{Lent}
 use Rattle.tables.specs.Refusals.{number, place}
@@ -50,7 +52,7 @@ abbrev pub planOf : Gives → List ℕ
 planOf gives = elim (gives .answer) [ Count n ↦ take n (gives .output) | Unwritten refusal ↦ [] ]
 
 module _ (lent : Lent) (tokens : List ℕ) where
-  abbrev pub runs : List ℕ → Verdict
+  abbrev pub runs : List ℕ → Judged
   runs content = runGives lent (planOf (planGives lent tokens lentOutput)) content 0
 
   -- Expand, plan and judge refuse alike where a case gives a refusal; judge and the run of the plan answer alike where it gives
@@ -61,10 +63,10 @@ module _ (lent : Lent) (tokens : List ℕ) where
   Meets (refuses number place) =
       (ofWritten (expandGives lent tokens lentOutput .answer) ≡ number ∷ place ∷ [])
       × (ofWritten (planGives lent tokens lentOutput .answer) ≡ number ∷ place ∷ [])
-      × (ofVerdict (judgeGives lent tokens [] 0) ≡ number ∷ place ∷ [])
-  Meets (judges content verdict) = (judgeGives lent tokens content 0 ≡ verdict) × (runs content ≡ verdict)
+      × (ofVerdict (judgeGives lent tokens [] 0 .verdict) ≡ number ∷ place ∷ [])
+  Meets (judges content verdict) = (judgeGives lent tokens content 0 .verdict ≡ verdict) × (runs content .verdict ≡ verdict)
   Meets (stops content number place) =
-      (ofVerdict (judgeGives lent tokens content 0) ≡ number ∷ place ∷ []) × (ofVerdict (runs content) ≡ number ∷ place ∷ [])
+      (ofVerdict (judgeGives lent tokens content 0 .verdict) ≡ number ∷ place ∷ []) × (ofVerdict (runs content .verdict) ≡ number ∷ place ∷ [])
   Meets (values content operand z) = valueOf (sideOf lent content operand) ≡ z
 
 -- every case of the table holds
@@ -131,7 +133,7 @@ abbrev ZERO : ℕ
 ZERO = 262160
 
 abbrev items : List ℕ → Lent
-items rows = record { items = rows; literals = []; bytes = [] }
+items rows = record { off = false; items = rows; literals = []; bytes = [] }
 
 -- four items of kind 3, one digit each
 abbrev digits : Lent

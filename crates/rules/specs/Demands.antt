@@ -11,6 +11,7 @@ use Rattle.tables.specs.declared.Check.the-variants.{Sound, Refused as Unsound}
 use Rattle.tables.specs.declared.Written.{Written}
 use Rattle.tables.specs.declared.Written.the-variants.{Count, Refused as Unwritten}
 use Rattle.tables.specs.declared.Verdict.{Verdict}
+use Rattle.tables.specs.declared.Judged.{Judged}
 use Rattle.tables.specs.declared.Verdict.the-variants.{True, False, Refused}
 use Rattle.tables.specs.Operands.{Lent}
 use Rattle.tables.specs.Refusals.{number, firstOf}
@@ -21,9 +22,9 @@ use Rattle.grammar.specs.Grammar.{Tree, simple, negated, bracketed, both, eithe
 use Rattle.grammar.specs.Depth.{depthCheck}
 use Rattle.grammar.specs.Typed.{typingFrom}
 use Rattle.grammar.specs.Expanded.{expanded}
-use Rattle.grammar.specs.Judging.{judged}
-use Rattle.grammar.specs.Plan.{planned}
-use Rattle.rules.specs.Calls.{Gives, tokenLines, answers, expandGives, planGives, judgeGives, runGives}
+use Rattle.grammar.specs.Judging.{Walk, judging}
+use Rattle.grammar.specs.Plan.{planned, planRows}
+use Rattle.rules.specs.Calls.{Gives, tokenLines, answers, told, expandGives, planGives, judgeGives, runWalk, runGives}
 
 -- every part of the tree is well typed
 abbrev pub WellTyped : Lent → Tree → Type 0
@@ -43,8 +44,12 @@ abbrev pub writtenOver : List ℕ → List ℕ → Gives
 writtenOver numbers output = record { answer = Count (length numbers); output = numbers ++ drop (length numbers) output }
 
 -- "The rules' answer .. is refusal 12 where the table below gives it, else the answer of the derived tree."
-abbrev pub rulesAnswer : Lent → List ℕ → ℕ → Tree → Verdict
-rulesAnswer lent content switches t = answers (recordCheck lent content) (judged (outcome lent content switches) 0 t)
+-- Document 02, i): with the simple conditions that the rules' own judging comes to.
+abbrev pub rulesWalk : Lent → List ℕ → ℕ → Tree → Walk
+rulesWalk lent content switches t = answers (recordCheck lent content) (judging (outcome lent content switches) t)
+
+abbrev pub rulesAnswer : Lent → List ℕ → ℕ → Tree → Judged
+rulesAnswer lent content switches t = told (rulesWalk lent content switches t)
 
 -- an answer that is none of the refusals 1 to 9
 abbrev pub Writes : Written → Type 0
@@ -60,7 +65,7 @@ Judges (Refused refusal) = 9 < number refusal
 pub record Refuses (lent : Lent) (tokens : List ℕ) (refusal : Refusal) : Type 0 where
   pub expand : (output : List ℕ) → expandGives lent tokens output ≡ record { answer = Unwritten refusal; output = output }
   pub plan : (output : List ℕ) → planGives lent tokens output ≡ record { answer = Unwritten refusal; output = output }
-  pub judge : (content : List ℕ) (switches : ℕ) → judgeGives lent tokens content switches ≡ Refused refusal
+  pub judge : (content : List ℕ) (switches : ℕ) → judgeGives lent tokens content switches ≡ record { verdict = Refused refusal; count = 0 }
 
 -- Demand 2. For tables and tokens that refusals 1 to 6 and 8 do not refuse: a condition is accepted exactly when the rules derive
 -- a tree whose parts are well typed; and its expanded form, its plan, its truth and its stop are those of that tree.
@@ -74,7 +79,7 @@ pub record Demand2 (lent : Lent) (tokens : List ℕ) : Type 0 where
   -- and no other condition is accepted: what has no tree is refused with 7, and what is ill typed with 9
   pub expand-only : (output : List ℕ) → Writes (expandGives lent tokens output .answer) → (t : Tree) × Accepted lent tokens t
   pub plan-only : (output : List ℕ) → Writes (planGives lent tokens output .answer) → (t : Tree) × Accepted lent tokens t
-  pub judge-only : (content : List ℕ) (switches : ℕ) → Judges (judgeGives lent tokens content switches) → (t : Tree) × Accepted lent tokens t
+  pub judge-only : (content : List ℕ) (switches : ℕ) → Judges (judgeGives lent tokens content switches .verdict) → (t : Tree) × Accepted lent tokens t
   pub underived : ((t : Tree) → ¬ Derives tokens t) → (at : ℕ) → Place tokens at → Refuses lent tokens (Grammar at)
   pub ill-typed : (t : Tree) → Derives tokens t → (refusal : Refusal) → typingFrom lent 0 t ≡ Unsound refusal → Refuses lent tokens refusal
 
@@ -89,8 +94,13 @@ pub record Demand3 (lent : Lent) (tokens plan : List ℕ) (n : ℕ) : Type 0 whe
   -- "row for row as "The plan" says"
   pub rows : plan ≡ planned tree
   pub counts : n ≡ length plan
-  -- "For every record and switch byte, what run gives equals the rules' answer for the condition"
+  -- "For every record and switch byte, what run gives equals the rules' answer for the condition": the verdict, and (02, i) how many
+  -- simple conditions were judged
   pub runs : (content : List ℕ) (switches : ℕ) → runGives lent plan content switches ≡ rulesAnswer lent content switches tree
+  -- the rows that run reaches are the simple conditions that the rules' judging comes to, number for number, and no more than the
+  -- plan's rows
+  pub reaches : (content : List ℕ) (switches : ℕ) → runWalk lent plan content switches .visits ≡ rulesWalk lent content switches tree .visits
+  pub few : (content : List ℕ) (switches : ℕ) → runGives lent plan content switches .count ≤ planRows plan
   -- "Expand succeeds on the same condition with every output that has room, and the tokens that it counts are the rules' own
   -- expanded form."
   pub expands : (output : List ℕ) → length (expanded tree) ≤ length output →

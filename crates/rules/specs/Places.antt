@@ -5,6 +5,7 @@ use Rattle.tables.specs.declared.Written.{Written}
 use Rattle.tables.specs.declared.Written.the-variants.{Count, Refused as Unwritten}
 use Rattle.tables.specs.declared.Verdict.{Verdict}
 use Rattle.tables.specs.declared.Verdict.the-variants.{True, False, Refused as Unjudged}
+use Rattle.tables.specs.declared.Judged.{Judged}
 use Rattle.tables.specs.Refusals.{place}
 
 -- of a writing call
@@ -17,3 +18,6 @@ abbrev pub Modest : Verdict → Type 0
 Modest True = Unit {0}
 Modest False = Unit {0}
 Modest (Unjudged refusal) = place refusal ≤ 640
+
+abbrev pub Fits : Judged → Type 0
+Fits judged = Modest (judged .verdict) × (judged .count ≤ 128)

@@ -60,10 +60,10 @@ module _ (lent : Lent) (content : List ℕ) (x : ℕ) (tables : firstOf (tableLi
 -- a switch that is there is one of 0 to 7
 switch-index : (lent : Lent) (x : ℕ) → switchSound lent x ≡ true → indexOf x ≤ 7
 switch-index lent x e =
-    let p = both (isSwitch x) (exists (rowCount (lent .items)) (rowCount (lent .literals)) x) e in
+    let p = both (isSwitch x) (exists (lent .off) (rowCount (lent .items)) (rowCount (lent .literals)) x) e in
     ⊎-elim
     (λ on. leb-true _ _ (simp or-false at (rw (eqb-true (x / 65536) 2 on) at (p .1))))
-    (λ off. leb-true _ _ (simp or-false at (rw (eqb-true (x / 65536) 3 off) at (p .1))))
+    (λ off. leb-true _ _ (both (lent .off) (leb (indexOf x) 7) (simp or-false at (rw (eqb-true (x / 65536) 3 off) at (p .1))) .1))
     (either (isOn x) (isOff x) (p .0))
 
 -- a fit side has bytes, and holds a number where its row is numeric

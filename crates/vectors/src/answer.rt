@@ -1,20 +1,23 @@
-// An answer as two numbers.
+// An answer as numbers.
+use tables::Judged;
 use tables::Refusal;
 use tables::Verdict;
 use tables::Written;
 use tables::refusals::number_of;
 use tables::refusals::place_of;
 
-// A refusal's number and place, or 0 and the value.
+// A refusal's number and place, or 0 and the value; how many simple conditions were judged.
 pub struct Answer {
     pub number: usize,
     pub value: usize,
+    pub judged: usize,
 }
 
-fn of_refusal(refusal: Refusal) -> Answer {
+fn of_refusal(refusal: Refusal, judged: usize) -> Answer {
     Answer {
         number: number_of(refusal) as usize,
         value: place_of(refusal),
+        judged,
     }
 }
 
@@ -23,28 +26,30 @@ pub fn of_written(given: Written) -> Answer {
         Written::Count(n) => Answer {
             number: 0,
             value: n,
+            judged: 0,
         },
-        Written::Refused(refusal) => of_refusal(refusal),
+        Written::Refused(refusal) => of_refusal(refusal, 0),
     }
 }
 
-pub fn of_verdict(given: Verdict) -> Answer {
-    match given {
+pub fn of_judged(given: Judged) -> Answer {
+    let verdict = given.verdict;
+    let judged = given.count;
+    match verdict {
         Verdict::True => Answer {
             number: 0,
             value: 1,
+            judged,
         },
         Verdict::False => Answer {
             number: 0,
             value: 0,
+            judged,
         },
-        Verdict::Refused(refusal) => of_refusal(refusal),
+        Verdict::Refused(refusal) => of_refusal(refusal, judged),
     }
 }
 
 pub fn same(one: Answer, other: Answer) -> bool {
-    if one.number == other.number {
-        return one.value == other.value;
-    }
-    false
+    (one.number == other.number) & (one.value == other.value) & (one.judged == other.judged)
 }

@@ -1,12 +1,11 @@
-// Demand 3 on a case, by the calls themselves: where a plan is written, its run answers as judge does, expand succeeds, and the
+// Demand 3 on a case, by the calls themselves: where a plan is written, its run answers and counts as judge does, expand succeeds, and the
 // expanded form, if at most 256 tokens, has the same plan.
-use crate::answer::of_verdict;
+use crate::answer::of_judged;
 use crate::answer::same;
 use crate::lent;
 use crate::parts::TOKENS;
 use crate::parts::front;
 use crate::parts::part;
-use tables::Verdict;
 use tables::Written;
 
 // Room for every expanded form (634 tokens) and every plan.
@@ -52,7 +51,7 @@ fn expanded_has_plan(words: &[u32], bytes: &[u8], rows: &[u32]) -> bool {
 fn of_plan<'a>(words: &[u32], bytes: &'a [u8], record: &'a [u8], rows: &[u32]) -> bool {
     let judged = lent::judge(words, bytes, record);
     let ran = lent::run(words, bytes, rows, record);
-    if same(of_verdict(ran), of_verdict(judged)) {
+    if same(of_judged(ran), of_judged(judged)) {
         return expanded_has_plan(words, bytes, rows);
     }
     false

@@ -5,7 +5,7 @@ use crate::parts::TOKENS;
 use crate::parts::part;
 use crate::parts::switches;
 use conditions::calls;
-use tables::Verdict;
+use tables::Judged;
 use tables::Written;
 
 pub fn expand(words: &[u32], bytes: &[u8], output: &mut [u32]) -> Written {
@@ -21,14 +21,14 @@ pub fn plan(words: &[u32], bytes: &[u8], tokens: &[u32], output: &mut [u32]) -> 
     calls::plan(items, literals, bytes, tokens, output)
 }
 
-pub fn judge<'a>(words: &[u32], bytes: &'a [u8], record: &'a [u8]) -> Verdict {
+pub fn judge<'a>(words: &[u32], bytes: &'a [u8], record: &'a [u8]) -> Judged {
     let items = part(words, ITEMS);
     let literals = part(words, LITERALS);
     let tokens = part(words, TOKENS);
     calls::judge(items, literals, bytes, tokens, record, switches(words))
 }
 
-pub fn run<'a>(words: &[u32], bytes: &'a [u8], plan: &[u32], record: &'a [u8]) -> Verdict {
+pub fn run<'a>(words: &[u32], bytes: &'a [u8], plan: &[u32], record: &'a [u8]) -> Judged {
     let items = part(words, ITEMS);
     let literals = part(words, LITERALS);
     calls::run(items, literals, bytes, plan, record, switches(words))

@@ -1,6 +1,6 @@
-// The line of a case: E n p h P n p h J n v R n v D d (tests/second/README.md).
+// The line of a case: E n p h P n p h J n v b c R n v b c D d (tests/second/README.md).
 use crate::answer::Answer;
-use crate::answer::of_verdict;
+use crate::answer::of_judged;
 use crate::answer::of_written;
 use crate::demand;
 use crate::lent;
@@ -28,6 +28,13 @@ fn answer(call: &[u8], given: Answer) {
     number(given.number);
     text(b" ");
     number(given.value);
+}
+
+// With the byte of a stop, which no refusal names yet, and the count of simple conditions judged.
+fn judged(call: &[u8], given: Answer) {
+    answer(call, given);
+    text(b" 0 ");
+    number(given.judged);
 }
 
 fn sum(output: &[u32]) {
@@ -67,12 +74,12 @@ fn plan(words: &[u32], bytes: &[u8]) {
 }
 
 fn judge<'a>(words: &[u32], bytes: &'a [u8], record: &'a [u8]) {
-    answer(b" J ", of_verdict(lent::judge(words, bytes, record)));
+    judged(b" J ", of_judged(lent::judge(words, bytes, record)));
 }
 
 fn run<'a>(words: &[u32], bytes: &'a [u8], record: &'a [u8]) {
     let plan = part(words, PLAN);
-    answer(b" R ", of_verdict(lent::run(words, bytes, plan, record)));
+    judged(b" R ", of_judged(lent::run(words, bytes, plan, record)));
 }
 
 fn demand_three<'a>(words: &[u32], bytes: &'a [u8], record: &'a [u8]) {

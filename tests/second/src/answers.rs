@@ -1,8 +1,8 @@
 //! The rules' answers to a case, as one line of text:
-//! `E n p h P n p h J n v R n v D d`.
+//! `E n p h P n p h J n v b c R n v b c D d`.
 
 use crate::case::Case;
-use crate::rules::{self, Refusal, Tables};
+use crate::rules::{self, Judged, Refusal, Tables};
 use std::fmt;
 
 /// Room for every expanded form (634) and every plan (640).
@@ -19,8 +19,8 @@ pub struct Written {
 pub struct Answers {
     pub expand: Written,
     pub plan: Written,
-    pub judge: Result<bool, Refusal>,
-    pub run: Result<bool, Refusal>,
+    pub judge: Judged,
+    pub run: Judged,
     pub demand_three: bool,
 }
 
@@ -47,8 +47,8 @@ impl Written {
     fn with_room(&self, call: Call, case: &Case) -> Option<Vec<u32>> {
         match self.result {
             Ok(count) => Some(self.output[..count as usize].to_vec()),
-            Err(Refusal { number: 10, place }) => {
-                let again = write(call, case, place as usize);
+            Err(refusal) if refusal.number == 10 => {
+                let again = write(call, case, refusal.place as usize);
                 again.result.is_ok().then_some(again.output)
             }
             Err(_) => None,
@@ -72,14 +72,9 @@ pub fn answer(case: &Case) -> Answers {
     }
 }
 
-/// Where a plan is written: its run gives the rules' answer, expand succeeds,
-/// and the expanded form, if at most 256 tokens, has the same plan.
-fn demand_three(
-    case: &Case,
-    expand: &Written,
-    plan: &Written,
-    judge: Result<bool, Refusal>,
-) -> bool {
+/// Where a plan is written: its run gives the rules' answer and count, expand
+/// succeeds, and the expanded form, if at most 256 tokens, has the same plan.
+fn demand_three(case: &Case, expand: &Written, plan: &Written, judge: Judged) -> bool {
     let Some(plan) = plan.with_room(rules::plan, case) else {
         return !matches!(plan.result, Err(Refusal { number: 10, .. }));
     };
@@ -111,9 +106,10 @@ impl fmt::Display for Answers {
             let (number, value) = pair(written.result);
             write!(f, "{letter} {number} {value} {}", checksum(&written.output))?;
         }
-        for (letter, result) in [("J", self.judge), ("R", self.run)] {
-            let (number, value) = pair(result);
-            write!(f, " {letter} {number} {value}")?;
+        for (letter, judged) in [("J", self.judge), ("R", self.run)] {
+            let (number, value) = pair(judged.answer);
+            let byte = judged.answer.err().map_or(0, |refusal| refusal.byte);
+            write!(f, " {letter} {number} {value} {byte} {}", judged.count)?;
         }
         write!(f, " D {}", u8::from(self.demand_three))
     }
@@ -140,7 +136,7 @@ mod tests {
             0, 262149, 1, 262147, 0, 262146, 262150, 2, 262148, 0, 262146, 262150, 3,
         ];
         let line = format!(
-            "E 0 13 {} P 10 15 2166136261 J 0 0 R 0 0 D 1",
+            "E 0 13 {} P 10 15 2166136261 J 0 0 0 2 R 0 0 0 2 D 1",
             checksum(&written)
         );
         assert_eq!(answer(&case).to_string(), line);

@@ -1,8 +1,9 @@
 //! The library, called through its C interface, against the rules.
 
-use crate::answers::{self, fresh_output, pair, Answers, Written, ENOUGH};
+use crate::answers::{self, fresh_output, Answers, Written, ENOUGH};
 use crate::case::Case;
 use crate::generate;
+use crate::outside::{of_judged, of_written, Answer, Said};
 
 extern "C" {
     fn oboecurlew_expand(
@@ -16,7 +17,8 @@ extern "C" {
         n_tokens: usize,
         output: *mut u32,
         n_output: usize,
-    ) -> u64;
+        answer: *mut Answer,
+    ) -> u32;
     fn oboecurlew_plan(
         items: *const u32,
         n_items: usize,
@@ -28,7 +30,8 @@ extern "C" {
         n_tokens: usize,
         output: *mut u32,
         n_output: usize,
-    ) -> u64;
+        answer: *mut Answer,
+    ) -> u32;
     fn oboecurlew_judge(
         items: *const u32,
         n_items: usize,
@@ -41,7 +44,8 @@ extern "C" {
         record: *const u8,
         n_record: usize,
         switches: u8,
-    ) -> u64;
+        answer: *mut Answer,
+    ) -> u32;
     fn oboecurlew_run(
         items: *const u32,
         n_items: usize,
@@ -54,12 +58,8 @@ extern "C" {
         record: *const u8,
         n_record: usize,
         switches: u8,
-    ) -> u64;
-}
-
-/// A refusal's number and place, or 0 and the value: the upper and lower half.
-fn halves(answer: u64) -> (u32, u32) {
-    ((answer >> 32) as u32, answer as u32)
+        answer: *mut Answer,
+    ) -> u32;
 }
 
 /// Calls of expand and plan have the same shape.
@@ -69,13 +69,14 @@ enum Writing {
     Plan,
 }
 
-fn write(call: Writing, case: &Case, tokens: &[u32], output: &mut [u32]) -> (u32, u32) {
+fn write(call: Writing, case: &Case, tokens: &[u32], output: &mut [u32]) -> Said {
     let function = match call {
         Writing::Expand => oboecurlew_expand,
         Writing::Plan => oboecurlew_plan,
     };
+    let mut answer = Answer::UNWRITTEN;
     // Slices give pointers that are never null and that match their lengths.
-    halves(unsafe {
+    let number = unsafe {
         function(
             case.items.as_ptr(),
             case.items.len(),
@@ -87,8 +88,10 @@ fn write(call: Writing, case: &Case, tokens: &[u32], output: &mut [u32]) -> (u32
             tokens.len(),
             output.as_mut_ptr(),
             output.len(),
+            &mut answer,
         )
-    })
+    };
+    (number, answer)
 }
 
 /// Calls of judge and run have the same shape.
@@ -98,13 +101,14 @@ enum Judging {
     Run,
 }
 
-fn judge(call: Judging, case: &Case, numbers: &[u32]) -> (u32, u32) {
+fn judge(call: Judging, case: &Case, numbers: &[u32]) -> Said {
     let function = match call {
         Judging::Judge => oboecurlew_judge,
         Judging::Run => oboecurlew_run,
     };
+    let mut answer = Answer::UNWRITTEN;
     // As above.
-    halves(unsafe {
+    let number = unsafe {
         function(
             case.items.as_ptr(),
             case.items.len(),
@@ -117,8 +121,10 @@ fn judge(call: Judging, case: &Case, numbers: &[u32]) -> (u32, u32) {
             case.record.as_ptr(),
             case.record.len(),
             case.switches,
+            &mut answer,
         )
-    })
+    };
+    (number, answer)
 }
 
 /// Compares so many cases and gives the number of those that differ.
@@ -186,8 +192,8 @@ fn compare_writing(call: Writing, lent: &Case, rules: &Answers, found: &mut Vec<
     let fresh = fresh_output(room + GUARDS);
     let mut buffer = fresh.clone();
     let answer = write(call, lent, &lent.tokens, &mut buffer[..room]);
-    if answer != pair(*result) {
-        let wanted = pair(*result);
+    let wanted = of_written(result.map(|count| [count]));
+    if answer != wanted {
         found.push(format!("{name}: library {answer:?}, rules {wanted:?}"));
     }
     if buffer[..room] != output[..] {
@@ -207,7 +213,7 @@ fn compare_judging(lent: &Case, rules: &Answers, found: &mut Vec<String>) {
         ("run", Judging::Run, &lent.plan, rules.run),
     ];
     for (name, call, numbers, expected) in calls {
-        let (answer, wanted) = (judge(call, lent, numbers), pair(expected));
+        let (answer, wanted) = (judge(call, lent, numbers), of_judged(expected));
         if answer != wanted {
             found.push(format!("{name}: library {answer:?}, rules {wanted:?}"));
         }
@@ -215,31 +221,32 @@ fn compare_judging(lent: &Case, rules: &Answers, found: &mut Vec<String>) {
 }
 
 /// Demand 3 with the library's own calls: the run of its plan against its
-/// judging, and the plan of its expanded form against its plan.
+/// judging, counts included, and the plan of its expanded form against its plan.
 fn demand_three(lent: &Case) -> Result<(), String> {
     let mut output = [0; ENOUGH];
-    let (refused, count) = write(Writing::Plan, lent, &lent.tokens, &mut output);
+    let (refused, planned) = write(Writing::Plan, lent, &lent.tokens, &mut output);
     if refused != 0 {
         return Ok(());
     }
-    let plan = part(&output, count)?;
+    let plan = part(&output, planned.written[0])?;
     let run = judge(Judging::Run, lent, plan);
     let judged = judge(Judging::Judge, lent, &lent.tokens);
     if run != judged {
         return Err(format!("run of the plan {run:?}, judge {judged:?}"));
     }
     let mut output = [0; ENOUGH];
-    let (refused, length) = write(Writing::Expand, lent, &lent.tokens, &mut output);
+    let (refused, written) = write(Writing::Expand, lent, &lent.tokens, &mut output);
     if refused != 0 {
-        return Err(format!("expand refuses with {refused} at {length}"));
+        return Err(format!("expand refuses with {refused}, {written:?}"));
     }
+    let length = written.written[0];
     let expanded = part(&output, length)?;
     if length > 256 {
         return Ok(());
     }
     let mut again = vec![0; plan.len()];
     let answer = write(Writing::Plan, lent, expanded, &mut again);
-    if answer != (0, count) || again != plan {
+    if answer != (0, planned) || again != plan {
         return Err(format!("plan of the expanded form: {answer:?} {again:?}"));
     }
     Ok(())

@@ -34,7 +34,9 @@ pub fn case(seed: u64, index: u64) -> Case {
 fn choose_rooms(random: &mut Random, case: &mut Case) {
     let told = rules::expand(&case.tables(), &case.tokens, &mut []);
     let (expanded, planned) = match told {
-        Err(Refusal { number: 10, place }) => (place, 5 * (joiners(&case.tokens) + 1)),
+        Err(Refusal {
+            number: 10, place, ..
+        }) => (place, 5 * (joiners(&case.tokens) + 1)),
         _ => (random.below(30), random.below(30)),
     };
     case.expand_room = room(random, expanded);

@@ -6,7 +6,9 @@ pub mod case;
 #[cfg(feature = "library")]
 pub mod compare;
 pub mod generate;
+pub mod outside;
 pub mod random;
 pub mod rules;
 pub mod show;
 pub mod stats;
+pub mod texts;

@@ -1,15 +1,16 @@
-//! Commands: generate SEED COUNT, answers, stats SEED COUNT, show SEED INDEX,
+//! Commands: generate SEED COUNT, answers, texts, stats SEED COUNT, show SEED INDEX,
 //! and with the feature `library` compare SEED COUNT.
 
 use second::answers;
 use second::case::{self, Case};
-use second::{generate, stats};
+use second::{generate, stats, texts};
 use std::env;
 use std::io::{self, BufReader, BufWriter, Write};
 use std::process::ExitCode;
 
 const USAGE: &str = "usage: second generate SEED COUNT   cases to standard output
        second answers               cases from standard input, lines to standard output
+       second texts                 the cases of a text from standard input, with their answers
        second stats SEED COUNT      what occurs in so many cases
        second show SEED INDEX       one case in readable form
        second compare SEED COUNT    the library against the rules (feature library)";
@@ -31,6 +32,7 @@ fn dispatch(words: &[&str]) -> io::Result<ExitCode> {
     match *words {
         ["generate", seed, count] => write_cases(number(seed)?, number(count)?)?,
         ["answers"] => write_answers()?,
+        ["texts"] => print!("{}", texts::answers(&io::read_to_string(io::stdin())?)),
         ["stats", seed, count] => write_stats(number(seed)?, number(count)?)?,
         ["show", seed, index] => show_case(number(seed)?, number(index)?)?,
         #[cfg(feature = "library")]

@@ -50,10 +50,10 @@ impl Stats {
         self.cases += 1;
         self.expand[number(&answers.expand.result)] += 1;
         self.plan[number(&answers.plan.result)] += 1;
-        self.judge[number(&answers.judge)] += 1;
-        self.run[number(&answers.run)] += 1;
-        self.judge_true += u64::from(answers.judge == Ok(true));
-        self.run_true += u64::from(answers.run == Ok(true));
+        self.judge[number(&answers.judge.answer)] += 1;
+        self.run[number(&answers.run.answer)] += 1;
+        self.judge_true += u64::from(answers.judge.answer == Ok(true));
+        self.run_true += u64::from(answers.run.answer == Ok(true));
         self.plans_128 += u64::from(case.plan.len() == 640);
         self.demand_three_broken += u64::from(!answers.demand_three);
         self.add_lengths(case);
@@ -82,14 +82,15 @@ impl Stats {
     /// Counts a judged condition with a simple condition that would stop, had
     /// it been reached: a plan of that row alone stops.
     fn add_guards(&mut self, case: &Case, answers: &Answers) {
-        if answers.judge.is_err() {
+        if answers.judge.answer.is_err() {
             return;
         }
         let mut output = [0; ENOUGH];
         let count = rules::plan(&case.tables(), &case.tokens, &mut output).unwrap_or(0);
         let stops = output[..count as usize].chunks(5).any(|row| {
             let alone = [row[0], row[1], row[2], VERDICT_TRUE, VERDICT_FALSE];
-            rules::run(&case.tables(), &alone, &case.record, case.switches).is_err()
+            let judged = rules::run(&case.tables(), &alone, &case.record, case.switches);
+            judged.answer.is_err()
         });
         self.guarded_stops += u64::from(stops);
     }

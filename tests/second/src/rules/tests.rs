@@ -1,8 +1,9 @@
-//! The sixteen cases of the scope paper, its "also run" list, and the
-//! recogniser against an enumeration of the grammar.
+//! The sixteen cases of the scope paper, its "also run" list, and refusals.
 
+mod grammar;
+
+use super::tokens::{WORD, WORD_AND};
 use super::*;
-use std::collections::HashSet;
 
 const FALSE: u32 = VERDICT_FALSE;
 const TRUE: u32 = VERDICT_TRUE;
@@ -80,20 +81,27 @@ fn check_expansion(text: &str, full: &str) {
 
 fn check_refusal(text: &str, number: u32, place: u32) {
     let tables = items_only(&ABCD);
-    let refusal = Refusal { number, place };
+    let refusal = Refusal::at(number, place);
     assert_eq!(expanded(&tables, &tokens(text)), Err(refusal));
     assert_eq!(planned(&tables, &tokens(text)), Err(refusal));
-    assert_eq!(judge(&tables, &tokens(text), b"01020304", 0), Err(refusal));
+    assert_eq!(
+        judge(&tables, &tokens(text), b"01020304", 0),
+        Judged::refused_earlier(refusal)
+    );
 }
 
 /// Judges, and checks that a run of the plan says the same.
-fn judged(tables: &Tables, text: &str, record: &[u8], switches: u8) -> Result<bool, Refusal> {
+fn counted(tables: &Tables, text: &str, record: &[u8], switches: u8) -> Judged {
     let condition = tokens(text);
-    let answer = judge(tables, &condition, record, switches);
+    let judged = judge(tables, &condition, record, switches);
     if let Ok(plan) = planned(tables, &condition) {
-        assert_eq!(run(tables, &plan, record, switches), answer);
+        assert_eq!(run(tables, &plan, record, switches), judged);
     }
-    answer
+    judged
+}
+
+fn judged(tables: &Tables, text: &str, record: &[u8], switches: u8) -> Result<bool, Refusal> {
+    counted(tables, text, record, switches).answer
 }
 
 fn check_judged(items: &[u32], record: &[u8], text: &str, answer: bool) {
@@ -206,16 +214,63 @@ fn case_15_an_item_not_reached_is_not_read() {
     let tables = items_only(&ABCD);
     let record = b"1212  12";
     assert_eq!(judged(&tables, "a = b OR c = d", record, 0), Ok(true));
-    let stop = Refusal {
-        number: 13,
-        place: 0,
-    };
+    let stop = Refusal::at(13, 0);
     assert_eq!(judged(&tables, "c = d OR a = b", record, 0), Err(stop));
 }
 
 #[test]
 fn case_16_numeric_guards() {
     check_judged(&ABCD, b"12  1212", "b NUMERIC AND b > a", false);
+}
+
+/// "Judge's number is that of the rules' own left-to-right judging" (02, i).
+#[test]
+fn simple_conditions_judged() {
+    let tables = items_only(&ABCD);
+    let check = |text: &str, answer: bool, count: u32| {
+        let answer = Ok(answer);
+        let judged = counted(&tables, text, b"010102  ", 0x80);
+        assert_eq!(judged, Judged { answer, count }, "{text}");
+    };
+    check("a = b", true, 1);
+    check("a = b OR d = c", true, 1);
+    check("a > b AND d = c OR p", true, 2);
+    check("NOT ( q OR p OR d = c ) AND d = c", false, 2);
+    check("( q AND d = c OR p ) AND ( a = b OR d = c )", true, 3);
+    check("a = b AND c OR NOT p OR q", false, 4);
+    check("d NUMERIC AND d = a", false, 1);
+    let stops = |text: &str, place, count| {
+        let answer = counted(&tables, text, b"010102  ", 0x80);
+        assert_eq!(
+            (answer.answer.unwrap_err().place, answer.count),
+            (place, count)
+        );
+    };
+    stops("d = c", 0, 1);
+    stops("a = b AND d = c", 1, 2);
+    stops("a > b AND q AND p OR q OR d = c OR p", 4, 3);
+    // What is refused before judging has judged nothing.
+    assert_eq!(counted(&tables, "a = b", b"0101", 0).count, 0);
+    assert_eq!(
+        counted(&tables, "a = b OR ALPHABETIC", b"01010101", 0).count,
+        0
+    );
+}
+
+/// "Run's is the rows it reaches, at most the plan's" (02, i).
+#[test]
+fn rows_reached() {
+    let on = |switch: u32, targets: [u32; 2]| [131072 + switch, 0, 0, targets[0], targets[1]];
+    let plan = [on(0, [2, 1]), on(1, [TRUE, 2]), on(2, [TRUE, FALSE])].concat();
+    let tables = items_only(&[]);
+    let ran = |switches| {
+        let judged = run(&tables, &plan, &[], switches);
+        (judged.answer, judged.count)
+    };
+    assert_eq!(ran(0b1000_0000), (Ok(false), 2));
+    assert_eq!(ran(0b0100_0000), (Ok(true), 2));
+    assert_eq!(ran(0b0010_0000), (Ok(true), 3));
+    assert_eq!(ran(0b1010_0000), (Ok(true), 2));
 }
 
 #[test]
@@ -225,12 +280,9 @@ fn sixteen_brackets_and_seventeen() {
         tokens(&text)
     };
     let tables = items_only(&[]);
-    assert_eq!(judge(&tables, &nested(16), &[], 0x80), Ok(true));
-    let refusal = Refusal {
-        number: 8,
-        place: 16,
-    };
-    assert_eq!(judge(&tables, &nested(17), &[], 0x80), Err(refusal));
+    assert_eq!(judge(&tables, &nested(16), &[], 0x80).answer, Ok(true));
+    let refusal = Refusal::at(8, 16);
+    assert_eq!(judge(&tables, &nested(17), &[], 0x80).answer, Err(refusal));
     assert_eq!(planned(&tables, &nested(17)), Err(refusal));
     assert_eq!(expanded(&tables, &nested(17)), Err(refusal));
 }
@@ -258,12 +310,12 @@ fn tokens_256_and_257() {
     assert_eq!(condition.len(), 256);
     assert_eq!(planned(&tables, &condition).unwrap().len(), 5 * 127);
     condition.push(WORD_AND);
-    let refusal = Refusal {
-        number: 5,
-        place: 0,
-    };
+    let refusal = Refusal::at(5, 0);
     assert_eq!(planned(&tables, &condition), Err(refusal));
-    assert_eq!(judge(&tables, &condition, b"01020304", 0), Err(refusal));
+    assert_eq!(
+        judge(&tables, &condition, b"01020304", 0).answer,
+        Err(refusal)
+    );
     assert_eq!(planned(&tables, &[]), Err(refusal));
 }
 
@@ -297,12 +349,7 @@ fn output_one_number_short() {
     let tables = items_only(&ABCD);
     let condition = tokens("a > b AND NOT < c OR d");
     let mut output = [7; 13];
-    let short = |needed| {
-        Err(Refusal {
-            number: 10,
-            place: needed,
-        })
-    };
+    let short = |needed| Err(Refusal::at(10, needed));
     assert_eq!(expand(&tables, &condition, &mut output[..12]), short(13));
     assert_eq!(output, [7; 13]);
     assert_eq!(expand(&tables, &condition, &mut output), Ok(13));
@@ -336,10 +383,7 @@ fn numeric_beside_text_and_group() {
     let items = [5, 0, 3, 0, 2, 3, 2, 0, 0, 5, 3, 0, 6, 8, 3, 0];
     let record = b"*1212*1212-";
     let tables = items_only(&items);
-    let stop = Refusal {
-        number: 13,
-        place: 0,
-    };
+    let stop = Refusal::at(13, 0);
     assert_eq!(judged(&tables, "a = b", record, 0), Err(stop));
     assert_eq!(judged(&tables, "a = c", record, 0), Ok(true));
     assert_eq!(judged(&tables, "d = b", record, 0), Ok(true));
@@ -384,10 +428,11 @@ fn table_refusals() {
             literals,
             bytes,
         };
-        let refusal = judge(&tables, &tokens("p"), &[0; 80_000], 0).unwrap_err();
+        let judged = judge(&tables, &tokens("p"), &[0; 80_000], 0);
+        let refusal = judged.answer.unwrap_err();
         assert_eq!(
             run(&tables, &[131072, 0, 0, TRUE, FALSE], &[0; 80_000], 0),
-            Err(refusal)
+            judged
         );
         (refusal.number, refusal.place)
     };
@@ -426,7 +471,7 @@ fn table_refusals() {
 #[test]
 fn record_and_plan_refusals() {
     let tables = items_only(&ABCD);
-    let refusal = |number, place| Err(Refusal { number, place });
+    let refusal = |number, place| Judged::refused_earlier(Refusal::at(number, place));
     assert_eq!(judge(&tables, &tokens("p"), b"0102030", 0), refusal(12, 3));
     let check = |plan: &[u32], place| {
         assert_eq!(run(&tables, plan, b"01020304", 0), refusal(11, place));
@@ -455,129 +500,6 @@ fn record_and_plan_refusals() {
     }
 }
 
-/// Sequences of symbols that the grammar derives, each with whether it leaves
-/// a carry, up to a length, made by applying the paper's sentences literally.
-type Derived = HashSet<(Vec<u8>, bool)>;
-
-const OPERAND: u8 = 0;
-const NOT: u8 = 4;
-
-fn all_symbols() -> [Symbol; 10] {
-    use Symbol::*;
-    [
-        Operand, Switch, Open, Close, Not, And, Or, Plain, Joined, Test,
-    ]
-}
-
-/// A token with the symbol of that number.
-fn sample(symbol: u8) -> u32 {
-    [
-        0,
-        131072,
-        WORD_OPEN,
-        WORD_CLOSE,
-        WORD_NOT,
-        WORD_AND,
-        WORD_OR,
-        WORD + 5,
-        WORD + 8,
-        WORD + 10,
-    ][symbol as usize]
-}
-
-fn derive_simple(carry: bool) -> Derived {
-    let relations: [&[u8]; 3] = [&[7], &[NOT, 7], &[8]];
-    let mut derived = Derived::new();
-    for relation in relations {
-        derived.insert(([&[OPERAND], relation, &[OPERAND]].concat(), true));
-        if carry {
-            derived.insert(([relation, &[OPERAND]].concat(), true));
-        }
-    }
-    if carry {
-        derived.insert((vec![OPERAND], true));
-    }
-    derived.insert((vec![OPERAND, 9], false));
-    derived.insert((vec![OPERAND, NOT, 9], false));
-    derived.insert((vec![1], false));
-    derived
-}
-
-fn derive_terms(carry: bool, longest: usize) -> Derived {
-    let mut bodies = derive_simple(carry);
-    if longest >= 3 {
-        for (inside, _) in derive_condition(false, longest - 2) {
-            bodies.insert(([&[2], &inside[..], &[3]].concat(), false));
-        }
-    }
-    let mut terms = bodies.clone();
-    for (body, leaves) in bodies {
-        if body[0] != NOT {
-            terms.insert(([&[NOT], &body[..]].concat(), leaves));
-        }
-    }
-    terms.retain(|(term, _)| term.len() <= longest);
-    terms
-}
-
-/// Terms joined by AND and OR: as a set of sequences, chains joined by OR.
-fn derive_condition(carry: bool, longest: usize) -> Derived {
-    let firsts = derive_terms(carry, longest);
-    let mut derived = firsts.clone();
-    for (first, leaves) in firsts {
-        if first.len() + 2 > longest {
-            continue;
-        }
-        for (rest, leaves) in derive_condition(leaves, longest - first.len() - 1) {
-            for joiner in [5, 6] {
-                derived.insert(([&first[..], &[joiner], &rest[..]].concat(), leaves));
-            }
-        }
-    }
-    derived
-}
-
-/// Every sequence of up to four symbols: the place of refusal 7 against the
-/// longest beginning that some derived sequence of up to nine symbols shares.
-/// Nine are enough: four open brackets, a body of one, four closing ones.
-#[test]
-fn recogniser_against_enumeration() {
-    let derived: HashSet<Vec<u8>> = derive_condition(false, 9)
-        .into_iter()
-        .map(|(sequence, _)| sequence)
-        .collect();
-    assert!(derived.len() > 1_000);
-    let beginnings: HashSet<&[u8]> = derived
-        .iter()
-        .flat_map(|sequence| (0..=sequence.len().min(4)).map(move |length| &sequence[..length]))
-        .collect();
-    let mut checked = 0;
-    for length in 1..=4 {
-        for number in 0..10_usize.pow(length) {
-            let sequence: Vec<u8> = (0..length)
-                .map(|digit| (number / 10_usize.pow(digit) % 10) as u8)
-                .collect();
-            let shared = (0..=sequence.len())
-                .rev()
-                .find(|&length| beginnings.contains(&sequence[..length]))
-                .unwrap();
-            let expected = if derived.contains(&sequence) {
-                Ok(())
-            } else {
-                refuse(7, shared)
-            };
-            let condition: Vec<u32> = sequence.iter().map(|&symbol| sample(symbol)).collect();
-            assert_eq!(recognise(&condition), expected, "{sequence:?}");
-            checked += 1;
-        }
-    }
-    assert_eq!(checked, 11_110);
-    for sequence in &derived {
-        let condition: Vec<u32> = sequence.iter().map(|&symbol| sample(symbol)).collect();
-        assert_eq!(recognise(&condition), Ok(()), "{sequence:?}");
-    }
-}
-
 /// The expanded form holds the condition's tokens in their order, and
 /// expanding it again changes nothing.
 #[test]
@@ -601,11 +523,4 @@ fn expanded_forms_of_generated_cases() {
         abbreviated += u32::from(full.len() > case.tokens.len());
     }
     assert!(abbreviated > 2_000);
-}
-
-#[test]
-fn samples_have_their_symbols() {
-    for (number, known) in all_symbols().into_iter().enumerate() {
-        assert_eq!(symbol(sample(number as u8)), known);
-    }
 }

@@ -15,6 +15,9 @@ prepare-requires c κs = search needs
 enum-known-prepared : tie.Need-enum-known-prepared
 enum-known-prepared c = search needs
 
+unjudged-requires : tie.Need-unjudged-requires
+unjudged-requires c κs = search needs
+
 enum-known-prepared-2 : tie.Need-enum-known-prepared-2
 enum-known-prepared-2 c = search needs
 
@@ -24,10 +27,13 @@ check-record-requires c κs = search needs
 enum-known-held : tie.Need-enum-known-held
 enum-known-held c = search needs
 
+unjudged-requires-2 : tie.Need-unjudged-requires-2
+unjudged-requires-2 c κs = search needs
+
 returns : tie.Need-returns
 returns c =
-    judge-record-refuses (c .before .before .before .before .before .before .before .before .prepare .ensures) (c .before .before .before .before .before .prepared2 .given .1) _ _
-    (sym (c .before .before .before .check-record .ensures) ∙ c .before .held .given .1)
+    c .unjudged2 .ensures ∙ judge-record-refuses (c .before .before .before .before .before .before .before .before .before .prepare .ensures) (c .before .before .before .before .before .before .prepared2 .given .1) _ _
+    (sym (c .before .before .before .before .check-record .ensures) ∙ c .before .before .held .given .1)
 
 enum-told : tie.Need-enum-told
 enum-told c = search needs
@@ -47,7 +53,7 @@ run-rows-requires c κs =
     (sym (c .before .before .before .check-record .ensures) ∙ c .before .enum-told .given .1)
 
 returns-2 : tie.Need-returns-2
-returns-2 c = judge-refused (c .before .before .before .before .prepare .ensures) (c .before .prepared .given .1) _ _
+returns-2 c = c .unjudged .ensures ∙ judge-refused (c .before .before .before .before .before .prepare .ensures) (c .before .before .prepared .given .1) _ _
 
 returns-3 : tie.Need-returns-3
 returns-3 c =
@@ -62,9 +68,11 @@ judge-spec =
     slice-aggregate-prepare
     prepare-requires
     enum-known-prepared
+    unjudged-requires
     enum-known-prepared-2
     check-record-requires
     enum-known-held
+    unjudged-requires-2
     returns
     enum-told
     mul-end

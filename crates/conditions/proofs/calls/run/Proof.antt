@@ -1,5 +1,6 @@
 -- Rests on what the checks ensure: the first line that refuses, or a plan that can be run.
-use mathlib.Core.Path.{sym, _∙_}
+use mathlib.Core.Path.{sym, ap, _∙_}
+use Rattle.rules.specs.Calls.{told}
 use borrow.Author.Needs.{needs}
 use Rattle.rules.proofs.Answers.{tables-refuse}
 use Rattle.conditions.proofs.Calling.{plan-refuses, run-record-refuses, plan-runnable, run-answers}
@@ -12,8 +13,11 @@ check-tables-requires c κs = search needs
 enum-known-tables : tie.Need-enum-known-tables
 enum-known-tables c = search needs
 
+unjudged-requires : tie.Need-unjudged-requires
+unjudged-requires c κs = search needs
+
 returns : tie.Need-returns
-returns c = tables-refuse _ _ _ _ (sym (c .before .before .before .check-tables .ensures) ∙ c .before .tables .given .1)
+returns c = c .unjudged .ensures ∙ ap told (tables-refuse _ _ _ _ (sym (c .before .before .before .before .check-tables .ensures) ∙ c .before .before .tables .given .1))
 
 enum-told : tie.Need-enum-told
 enum-told c = search needs
@@ -24,10 +28,13 @@ check-plan-requires c κs = search needs
 enum-known-rows : tie.Need-enum-known-rows
 enum-known-rows c = search needs
 
+unjudged-requires-2 : tie.Need-unjudged-requires-2
+unjudged-requires-2 c κs = search needs
+
 returns-2 : tie.Need-returns-2
 returns-2 c =
-    plan-refuses _ _ _ _ _ (sym (c .before .before .before .before .before .before .check-tables .ensures) ∙ c .before .before .before .before .enum-told .given .1) _
-    (sym (c .before .before .before .check-plan .ensures) ∙ c .before .rows .given .1)
+    c .unjudged2 .ensures ∙ plan-refuses _ _ _ _ _ (sym (c .before .before .before .before .before .before .before .check-tables .ensures) ∙ c .before .before .before .before .before .enum-told .given .1) _
+    (sym (c .before .before .before .before .check-plan .ensures) ∙ c .before .before .rows .given .1)
 
 enum-told-2 : tie.Need-enum-told-2
 enum-told-2 c = search needs
@@ -38,11 +45,14 @@ check-record-requires c κs = search needs
 enum-known-held : tie.Need-enum-known-held
 enum-known-held c = search needs
 
+unjudged-requires-3 : tie.Need-unjudged-requires-3
+unjudged-requires-3 c κs = search needs
+
 returns-3 : tie.Need-returns-3
 returns-3 c =
-    run-record-refuses _ _ _ _ _ (sym (c .before .before .before .before .before .before .before .before .before .check-tables .ensures) ∙ c .before .before .before .before .before .before .before .enum-told .given .1) _
-    (sym (c .before .before .before .before .before .before .check-plan .ensures) ∙ c .before .before .before .before .enum-told2 .given .1)
-    (sym (c .before .before .before .check-record .ensures) ∙ c .before .held .given .1)
+    c .unjudged3 .ensures ∙ run-record-refuses _ _ _ _ _ (sym (c .before .before .before .before .before .before .before .before .before .before .check-tables .ensures) ∙ c .before .before .before .before .before .before .before .before .enum-told .given .1) _
+    (sym (c .before .before .before .before .before .before .before .check-plan .ensures) ∙ c .before .before .before .before .before .enum-told2 .given .1)
+    (sym (c .before .before .before .before .check-record .ensures) ∙ c .before .before .held .given .1)
 
 enum-told-3 : tie.Need-enum-told-3
 enum-told-3 c = search needs
@@ -67,14 +77,17 @@ run-spec =
     (tie.spec
     check-tables-requires
     enum-known-tables
+    unjudged-requires
     returns
     enum-told
     check-plan-requires
     enum-known-rows
+    unjudged-requires-2
     returns-2
     enum-told-2
     check-record-requires
     enum-known-held
+    unjudged-requires-3
     returns-3
     enum-told-3
     run-rows-requires

@@ -5,15 +5,15 @@ use native.Mathlib.Omega.{arith}
 use borrow.Author.Needs.{needs}
 use Rattle.tables.specs.Operands.{lend}
 use Rattle.values.specs.Truth.{outcome}
-use Rattle.conditions.proofs.Running.{certain, readable, Going, start, goes-true, goes-false, stops, ends-true, ends-false}
+use Rattle.conditions.proofs.Running.{certain, readable, Going, start, goes-true, goes-false, few, stops, ends-true, ends-false}
 use Rattle.conditions.proofs.runner.run_rows.Statement.{statement}
 use Rattle.conditions.proofs.runner.run_rows.Tie as tie
 
 abbrev Inv-loop : tie.InvT-loop
-Inv-loop items literals bytes plan «record» switches at₀ at = Going (outcome (lend items literals bytes) «record» switches) plan at
+Inv-loop items literals bytes plan «record» switches at₀ count₀ at count = Going (outcome (lend items literals bytes) «record» switches) plan at count
 
 abbrev μ-loop : tie.MeasureT-loop
-μ-loop items literals bytes plan «record» switches at₀ at = 65536 - at
+μ-loop items literals bytes plan «record» switches at₀ count₀ at count = 65536 - at
 
 loop-holds : tie.Need-loop-holds Inv-loop μ-loop
 loop-holds c = start _ _ _ (c .before .before .before .before .before .pre) _
@@ -29,6 +29,11 @@ truth-of-requires c κs =
     let k = c .before .before .before in
     let p = k .before .before .before .before .before .before .pre in
     rw (c .plan-row .ensures) (readable _ _ _ p (k .loop .at) (k .loop .inv .inside (omega arith)))
+
+add-count : tie.Need-add-count Inv-loop μ-loop
+add-count c =
+    let k = c .before .before .before .before in
+    omega (arith, few _ _ _ (k .before .before .before .before .before .before .pre) _ (k .loop .at) (k .loop .count) (k .loop .inv) (omega arith))
 
 enum-told : tie.Need-enum-told Inv-loop μ-loop
 enum-told c = search needs
@@ -47,7 +52,7 @@ loop-again c =
     let r = c .before .before .before .before in
     let k = r .before .before .before in
     let p = k .before .before .before .before .before .before .pre in
-    rw (c .wide2 .ensures, r .plan-row .ensures) (goes-true _ _ _ p _ (k .loop .at) (k .loop .inv) (omega arith)
+    rw (c .wide2 .ensures, r .plan-row .ensures) (goes-true _ _ _ p _ (k .loop .at) (k .loop .count) (k .loop .inv) (omega arith)
     (sym (rw (r .plan-row .ensures) at (c .before .before .before .truth-of .ensures)) ∙ c .before .enum-told .given .1))
 
 enum-told-2 : tie.Need-enum-told-2 Inv-loop μ-loop
@@ -67,7 +72,7 @@ loop-again-2 c =
     let r = c .before .before .before .before in
     let k = r .before .before .before in
     let p = k .before .before .before .before .before .before .pre in
-    rw (c .wide3 .ensures, r .plan-row .ensures) (goes-false _ _ _ p _ (k .loop .at) (k .loop .inv) (omega arith)
+    rw (c .wide3 .ensures, r .plan-row .ensures) (goes-false _ _ _ p _ (k .loop .at) (k .loop .count) (k .loop .inv) (omega arith)
     (sym (rw (r .plan-row .ensures) at (c .before .before .before .truth-of .ensures)) ∙ c .before .enum-told2 .given .1))
 
 enum-told-3 : tie.Need-enum-told-3 Inv-loop μ-loop
@@ -78,7 +83,7 @@ returns c =
     let r = c .before .before .before in
     let k = r .before .before .before in
     let p = k .before .before .before .before .before .before .pre in
-    stops _ _ _ p _ (k .loop .at) (k .loop .inv) (omega arith)
+    stops _ _ _ p _ (k .loop .at) (k .loop .count) (k .loop .inv) (omega arith)
     (sym (rw (r .plan-row .ensures) at (c .before .before .truth-of .ensures)) ∙ c .enum-told3 .given .1)
 
 wide-requires-4 : tie.Need-wide-requires-4 Inv-loop μ-loop
@@ -87,12 +92,12 @@ wide-requires-4 c κs = search needs
 returns-2 : tie.Need-returns-2 Inv-loop μ-loop
 returns-2 c =
     let k = c .before .before .before .before in
-    ends-true _ _ _ (k .before .before .before .before .before .before .pre) _ (k .loop .at) (k .loop .inv) (omega arith)
+    ends-true _ _ _ (k .before .before .before .before .before .before .pre) _ (k .loop .at) (k .loop .count) (k .loop .inv) (omega arith)
 
 returns-3 : tie.Need-returns-3 Inv-loop μ-loop
 returns-3 c =
     let k = c .before .before .before .before in
-    ends-false _ _ _ (k .before .before .before .before .before .before .pre) _ (k .loop .at) (k .loop .inv) (omega (arith, k .loop .inv .top))
+    ends-false _ _ _ (k .before .before .before .before .before .before .pre) _ (k .loop .at) (k .loop .count) (k .loop .inv) (omega (arith, k .loop .inv .top))
 
 pub run-rows-spec : {M : Type 1} → statement M
 run-rows-spec =
@@ -104,6 +109,7 @@ run-rows-spec =
     wide-requires
     plan-row-requires
     truth-of-requires
+    add-count
     enum-told
     wide-requires-2
     loop-less

@@ -2,7 +2,7 @@
 use Prim.Native.Nat.{ℕ, _/_}
 use native.Mathlib.Decide.{ℕ-discrete}
 use mathlib.Core.Path.{_≡_}
-use mathlib.Core.Bool.{_&&_, or-false}
+use mathlib.Core.Bool.{true, _&&_, or-false}
 use lib.Dec.{leb}
 use borrow.Author.Needs.{needs}
 use borrow.Author.Tests.{ne-eqb}
@@ -11,11 +11,11 @@ use Rattle.typing.proofs.shape.shape_sound.Statement.{statement}
 use Rattle.typing.proofs.shape.shape_sound.Tie as tie
 
 -- whether a switch exists is not asked of the tables
-switch-there : (items literals token : ℕ) → isSwitch token && leb (indexOf token) 7 ≡ isSwitch token && exists items literals token
+switch-there : (items literals token : ℕ) → isSwitch token && leb (indexOf token) 7 ≡ isSwitch token && exists true items literals token
 switch-there items literals token = by (ℕ-discrete (token / 65536) 2) (ℕ-discrete (token / 65536) 3)
   where
     by : Dec (token / 65536 ≡ 2) → Dec (token / 65536 ≡ 3)
-        → isSwitch token && leb (indexOf token) 7 ≡ isSwitch token && exists items literals token
+        → isSwitch token && leb (indexOf token) 7 ≡ isSwitch token && exists true items literals token
     by (yes on) d = simp (on, or-false)
     by (no not-on) (yes off) = simp (off, or-false)
     by (no not-on) (no not-off) = rw (ne-eqb _ _ not-on, ne-eqb _ _ not-off)

@@ -1,0 +1,79 @@
+-- Worked examples of document 02, i), l), n), by computation.
+use mathlib.Core.Path.{_≡_, refl}
+use mathlib.Core.List.{List, [], _∷_}
+use Prim.Native.Nat.{ℕ}
+use mathlib.Core.Bool.{true, false}
+use Rattle.tables.specs.declared.Refusal.the-variants.{Record, Token, PlanRow as PlanFault, Data}
+use Rattle.tables.specs.declared.Verdict.the-variants.{True, False, Refused}
+use Rattle.tables.specs.Operands.{Lent, under}
+use Rattle.content.specs.Content.{all, numberFrom}
+use Rattle.tables.specs.Refusals.{firstFailing, firstOf}
+use Rattle.typing.specs.Typing.{typed}
+use Rattle.compare.specs.Compared.{byteOrder}
+use Rattle.values.specs.Comparison.{comparison}
+use Rattle.compare.specs.Classes.{classHolds}
+use Rattle.compare.specs.Switches.{switchHolds}
+use Rattle.values.specs.Truth.{outcome}
+use Rattle.grammar.specs.Grammar.{class}
+use Rattle.grammar.specs.Parser.{on, parse-condition, read}
+use Rattle.grammar.specs.Depth.{depthFrom}
+use Rattle.grammar.specs.Typed.{typingFrom}
+use Rattle.grammar.specs.Judging.{leaves, when, at, judged, visited}
+use Rattle.grammar.specs.Plan.{flat, planRow, planRowSound, follow, run, reached, runVisits}
+use Rattle.grammar.specs.Converted.{onlyOn, convertedTokens, onRow, onRows, rowsFrom, convertedPlan}
+use Rattle.rules.specs.Calls.{judgeWalk, judgeGives, runWalk, runGives}
+use Rattle.rules.specs.Footprint.{itemsAmong, footprint}
+
+-- four items of kind 3, one digit each: a, b, c, d are 0 to 3; of the record, c is blank
+abbrev digits : Lent
+digits = record { off = false; items = 3 ∷ 0 ∷ 1 ∷ 0 ∷ 3 ∷ 1 ∷ 1 ∷ 0 ∷ 3 ∷ 2 ∷ 1 ∷ 0 ∷ 3 ∷ 3 ∷ 1 ∷ 0 ∷ []; literals = []; bytes = [] }
+
+abbrev c-blank : List ℕ
+c-blank = 0x31 ∷ 0x31 ∷ 0x20 ∷ 0x31 ∷ []
+
+abbrev one-of-two : List ℕ
+one-of-two = 0 ∷ 262151 ∷ 1 ∷ 262148 ∷ 2 ∷ 262151 ∷ 3 ∷ []
+
+abbrev exchanged : List ℕ
+exchanged = 2 ∷ 262151 ∷ 3 ∷ 262148 ∷ 0 ∷ 262151 ∷ 1 ∷ []
+
+abbrev blank-not-read : List ℕ
+blank-not-read = 2 ∷ 262154 ∷ 262147 ∷ 2 ∷ 262149 ∷ 0 ∷ []
+
+-- i): cases 15 and 16 with their counts; a stop is counted; 0 where the record is too short or a token is none
+counts : (judgeGives digits one-of-two c-blank 0 ≡ record { verdict = True; count = 1 })
+    × (judgeGives digits exchanged c-blank 0 ≡ record { verdict = Refused (Data 0); count = 1 })
+    × (judgeGives digits blank-not-read c-blank 0 ≡ record { verdict = False; count = 1 })
+    × (judgeGives digits (0 ∷ 262151 ∷ 3 ∷ 262147 ∷ 1 ∷ 262148 ∷ 3 ∷ []) c-blank 0 ≡ record { verdict = True; count = 2 })
+    × (judgeGives digits one-of-two (0x31 ∷ []) 0 ≡ record { verdict = Refused (Record 1); count = 0 })
+    × (judgeGives digits (4 ∷ []) c-blank 0 ≡ record { verdict = Refused (Token 0); count = 0 })
+unfolding all numberFrom firstFailing firstOf typed byteOrder comparison classHolds switchHolds outcome class on parse-condition read depthFrom typingFrom leaves when at judged visited judgeWalk
+counts = (refl, refl, refl, refl, refl, refl)
+
+-- n): what those look at: items 0 and 1; items 2 and 3; item 2, and not item 0, although the row has 0 for its object
+looks : (footprint (judgeWalk digits one-of-two c-blank 0 .visits) ≡ 0 ∷ 1 ∷ [])
+    × (footprint (judgeWalk digits exchanged c-blank 0 .visits) ≡ 2 ∷ 3 ∷ [])
+    × (footprint (judgeWalk digits blank-not-read c-blank 0 .visits) ≡ 2 ∷ [])
+unfolding all numberFrom firstFailing firstOf typed byteOrder comparison classHolds switchHolds outcome class on parse-condition read depthFrom typingFrom leaves when at judged visited judgeWalk itemsAmong footprint
+looks = (refl, refl, refl)
+
+-- l): NOT off 0 AND off 1 becomes on 0 AND NOT on 1; NOT ( off 1 ) becomes NOT ( NOT on 1 ); the NOT of a relation and a NOT before
+-- an on switch stay
+words : (convertedTokens (262146 ∷ 196608 ∷ 262147 ∷ 196609 ∷ []) ≡ 131072 ∷ 262147 ∷ 262146 ∷ 131073 ∷ [])
+    × (convertedTokens (262146 ∷ 262144 ∷ 196609 ∷ 262145 ∷ []) ≡ 262146 ∷ 262144 ∷ 262146 ∷ 131073 ∷ 262145 ∷ [])
+    × (convertedTokens (0 ∷ 262146 ∷ 262149 ∷ 1 ∷ 262147 ∷ 262146 ∷ 131072 ∷ []) ≡ 0 ∷ 262146 ∷ 262149 ∷ 1 ∷ 262147 ∷ 262146 ∷ 131072 ∷ [])
+unfolding onlyOn
+words = (refl, refl, refl)
+
+-- the row of an off switch
+row : convertedPlan (196608 ∷ 0 ∷ 0 ∷ 1 ∷ 65534 ∷ 131073 ∷ 0 ∷ 0 ∷ 65535 ∷ 65534 ∷ []) ≡ 131072 ∷ 0 ∷ 0 ∷ 65534 ∷ 1 ∷ 131073 ∷ 0 ∷ 0 ∷ 65535 ∷ 65534 ∷ []
+unfolding flat planRow onRow onRows rowsFrom convertedPlan
+row = refl
+
+-- "Expand, plan and judge refuse it with 6, run with 11"; the old rules do not
+refused : (judgeGives digits (196608 ∷ []) c-blank 0 ≡ record { verdict = Refused (Token 0); count = 0 })
+    × (runGives digits (196608 ∷ 0 ∷ 0 ∷ 65535 ∷ 65534 ∷ []) c-blank 0 ≡ record { verdict = Refused (PlanFault 0); count = 0 })
+    × (judgeGives (under true digits) (196608 ∷ []) c-blank 0 ≡ record { verdict = True; count = 1 })
+    × (runGives (under true digits) (196608 ∷ 0 ∷ 0 ∷ 65535 ∷ 65534 ∷ []) c-blank 0 ≡ record { verdict = True; count = 1 })
+unfolding all numberFrom firstFailing firstOf typed byteOrder comparison classHolds switchHolds outcome class on parse-condition read depthFrom typingFrom leaves when at judged visited judgeWalk planRow planRowSound follow run reached runVisits runWalk
+refused = (refl, refl, refl, refl)

@@ -1,0 +1,47 @@
+//! Typing of simple conditions; refusal 9.
+
+use super::parts::{simple_conditions, Simple};
+use super::tables::Tables;
+use super::tokens::{is_item, row_of};
+use super::{refuse, Refusal, WITH_NOT};
+
+/// 9: "typing broken", "first such simple condition". "Simple conditions are
+/// numbered from 0 in text order"; gives their number.
+pub fn check_typing(tables: &Tables, tokens: &[u32]) -> Result<usize, Refusal> {
+    let mut count = 0;
+    for simple in simple_conditions(tokens) {
+        if !typed(tables, &simple) {
+            return refuse(9, count);
+        }
+        count += 1;
+    }
+    Ok(count)
+}
+
+/// "Typing of a simple condition, over kinds": "class: the operand is an item;
+/// NUMERIC for kinds 2 to 6, the alphabetic tests for 0 to 2"; "sign: an item
+/// of kinds 3 to 6". A switch has no typing.
+pub fn typed(tables: &Tables, simple: &Simple) -> bool {
+    let subject = simple.subject;
+    let item_of =
+        |low, high| is_item(subject) && (low..=high).contains(&row_of(tables, subject).kind);
+    match simple.relation % WITH_NOT {
+        5..=9 => relation_typed(tables, subject, simple.object),
+        10 => item_of(2, 6),
+        11..=13 => item_of(0, 2),
+        14..=16 => item_of(3, 6),
+        _ => true,
+    }
+}
+
+/// "relation: not two literals; if exactly one side is numeric (3 to 6), its
+/// scale is 0"
+pub fn relation_typed(tables: &Tables, subject: u32, object: u32) -> bool {
+    let (left, right) = (row_of(tables, subject), row_of(tables, object));
+    let scale_fits = match (left.numeric(), right.numeric()) {
+        (true, false) => left.scale == 0,
+        (false, true) => right.scale == 0,
+        _ => true,
+    };
+    (is_item(subject) || is_item(object)) && scale_fits
+}

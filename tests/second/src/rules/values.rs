@@ -1,0 +1,154 @@
+//! Truth of one simple condition on a record and a switch byte.
+
+use super::content::{all_digits, digits, is_minus, valid_content, Digits};
+use super::parts::Simple;
+use super::tables::{Row, Tables};
+use super::tokens::{is_item, kind_of, row_of, v_of};
+use super::WITH_NOT;
+use std::cmp::Ordering;
+use std::iter;
+
+/// An operand: its row and its bytes, lent from the record or the literal bytes.
+#[derive(Clone, Copy)]
+struct Operand<'a> {
+    row: Row,
+    item: bool,
+    bytes: &'a [u8],
+}
+
+fn operand<'a>(tables: &Tables<'a>, token: u32, record: &'a [u8]) -> Operand<'a> {
+    let row = row_of(tables, token);
+    let item = is_item(token);
+    let source = if item { record } else { tables.bytes };
+    let start = row.offset as usize;
+    let bytes = &source[start..start + row.size as usize];
+    Operand { row, item, bytes }
+}
+
+/// "A simple condition gives true, false or its stop": None is the stop. "A
+/// reached relation or sign condition that uses a numeric item's value or
+/// digits with invalid content stops all with refusal 13. Class conditions
+/// never stop."
+pub fn test(tables: &Tables, simple: &Simple, record: &[u8], switches: u8) -> Option<bool> {
+    let subject = || operand(tables, simple.subject, record);
+    let object = || operand(tables, simple.object, record);
+    let word = simple.relation % WITH_NOT;
+    let holds = match word {
+        0 => switch_holds(simple.subject, switches),
+        5..=9 => relation_holds(word, compare(&subject(), &object())?),
+        10 => numeric_holds(&subject()),
+        11..=13 => alphabetic_holds(word, subject().bytes),
+        _ => sign_holds(word, number_of(&subject())?),
+    };
+    Some(holds != (simple.relation >= WITH_NOT))
+}
+
+/// "The switch byte numbers its bits from the left: switch 0 is hex 80, switch
+/// 7 hex 01." Kind 2 asks for on, kind 3 for off.
+fn switch_holds(token: u32, switches: u8) -> bool {
+    let on = switches & (0x80 >> v_of(token)) != 0;
+    on == (kind_of(token) == 2)
+}
+
+/// Words 5 to 9: > < = >= <=.
+fn relation_holds(word: u32, order: Ordering) -> bool {
+    match word {
+        5 => order == Ordering::Greater,
+        6 => order == Ordering::Less,
+        7 => order == Ordering::Equal,
+        8 => order != Ordering::Less,
+        _ => order != Ordering::Greater,
+    }
+}
+
+/// "NUMERIC on kind 2 means all digits; on 3 to 6, valid content."
+fn numeric_holds(operand: &Operand) -> bool {
+    match operand.row.kind {
+        2 => all_digits(operand.bytes),
+        kind => valid_content(kind, operand.bytes),
+    }
+}
+
+/// "ALPHABETIC: A to Z, a to z, space; UPPER and LOWER: that case and space."
+fn alphabetic_holds(word: u32, bytes: &[u8]) -> bool {
+    bytes.iter().all(|&byte| match byte {
+        b' ' => true,
+        b'A'..=b'Z' => word != 12,
+        b'a'..=b'z' => word != 13,
+        _ => false,
+    })
+}
+
+/// "Signs compare the value with 0." Words 14 to 16: POSITIVE, NEGATIVE, ZERO.
+fn sign_holds(word: u32, value: i128) -> bool {
+    match word {
+        14 => value > 0,
+        15 => value < 0,
+        _ => value == 0,
+    }
+}
+
+/// "Two numeric sides: with digit values D1, D2 (signed) and scales s1, s2,
+/// compare D1 × 10^s2 with D2 × 10^s1 as whole numbers." Both products stay
+/// below 10^36. "Other pairs: compare bytes from the left as unsigned numbers,
+/// the shorter side filled on the right with hex 20."
+fn compare(left: &Operand, right: &Operand) -> Option<Ordering> {
+    if left.row.numeric() && right.row.numeric() {
+        let scaled = |side: &Operand, scale| Some(number_of(side)? * 10_i128.pow(scale));
+        let left_product = scaled(left, right.row.scale)?;
+        return Some(left_product.cmp(&scaled(right, left.row.scale)?));
+    }
+    let left_text = characters(left, right)?;
+    let right_text = characters(right, left)?;
+    Some(compare_filled(left_text.bytes(), right_text.bytes()))
+}
+
+fn compare_filled(left: &[u8], right: &[u8]) -> Ordering {
+    let length = left.len().max(right.len());
+    filled(left, length).cmp(filled(right, length))
+}
+
+fn filled(bytes: &[u8], length: usize) -> impl Iterator<Item = u8> + '_ {
+    bytes.iter().copied().chain(iter::repeat(0x20)).take(length)
+}
+
+/// What a side gives as characters: its own bytes, or digits picked out.
+enum Characters<'a> {
+    Lent(&'a [u8]),
+    Picked(Digits),
+}
+
+impl Characters<'_> {
+    fn bytes(&self) -> &[u8] {
+        match self {
+            Characters::Lent(bytes) => bytes,
+            Characters::Picked(digits) => digits.bytes(),
+        }
+    }
+}
+
+/// "A numeric side beside a kind 1 or 2 operand gives its digits as characters,
+/// without sign. A numeric item beside a group gives its bytes as they lie,
+/// unchecked. A numeric literal gives its digits in both cases."
+fn characters<'a>(side: &Operand<'a>, beside: &Operand) -> Option<Characters<'a>> {
+    let as_they_lie = !side.row.numeric() || (side.item && beside.row.kind == 0);
+    if as_they_lie {
+        return Some(Characters::Lent(side.bytes));
+    }
+    Some(Characters::Picked(digits_of(side)?))
+}
+
+/// None where the content is invalid.
+fn digits_of(operand: &Operand) -> Option<Digits> {
+    let (kind, bytes) = (operand.row.kind, operand.bytes);
+    valid_content(kind, bytes).then(|| digits(kind, bytes))
+}
+
+/// The signed digit value. "Zero has one value whatever its sign."
+fn number_of(operand: &Operand) -> Option<i128> {
+    let digits = digits_of(operand)?;
+    let add_digit = |value: i64, &character: &u8| 10 * value + i64::from(character - b'0');
+    let value = i128::from(digits.bytes().iter().fold(0, add_digit));
+    let minus = is_minus(operand.row.kind, operand.bytes);
+    Some(if minus { -value } else { value })
+}
