@@ -24,6 +24,10 @@ pub data Wrong : Type 0 where
   Nowhere : Wrong
   At : ℕ → Wrong
 
+abbrev pub nowhere : Wrong → Bool
+nowhere Nowhere = true
+nowhere (At i) = false
+
 -- the first byte that fails the test of its place, of those that stand from `at` on
 unfoldable pub firstFrom : (ℕ → ℕ → Bool) → ℕ → List ℕ → Wrong
 firstFrom right at [] = Nowhere
@@ -31,10 +35,6 @@ firstFrom right at (b ∷ bytes) = cond (right at b) (firstFrom right (suc at) b
 
 abbrev pub firstWrong : ℕ → List ℕ → Wrong
 firstWrong kind bytes = firstFrom (rightAt kind (length bytes)) 0 bytes
-
-abbrev pub nowhere : Wrong → Bool
-nowhere Nowhere = true
-nowhere (At i) = false
 
 -- "Valid content": no byte is wrong
 unfoldable pub validContent : ℕ → List ℕ → Bool

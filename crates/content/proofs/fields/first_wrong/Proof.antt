@@ -1,4 +1,4 @@
--- The loop's invariant: the first wrong byte is the first from `i` on, so that there is a byte `i`.
+-- The loop's invariant: the first wrong byte is the first from `at` on, so that there is a byte `at`.
 use Prim.Native.Nat.{_+_, _-_, _<_}
 use native.Mathlib.Omega.{arith}
 use mathlib.Core.Path.{_≡_, refl, sym, ap, _∙_}
@@ -11,10 +11,10 @@ use Rattle.content.proofs.fields.first_wrong.Statement.{statement}
 use Rattle.content.proofs.fields.first_wrong.Tie as tie
 
 abbrev Inv-loop : tie.InvT-loop
-Inv-loop kind bytes i₀ i = (i < length bytes) × (firstWrong kind bytes ≡ firstFrom (rightAt kind (length bytes)) i (drop i bytes))
+Inv-loop kind bytes at₀ at = (at < length bytes) × (firstWrong kind bytes ≡ firstFrom (rightAt kind (length bytes)) at (drop at bytes))
 
 abbrev μ-loop : tie.MeasureT-loop
-μ-loop kind bytes i₀ i = length bytes - i
+μ-loop kind bytes at₀ at = length bytes - at
 
 loop-holds : tie.Need-loop-holds Inv-loop μ-loop
 loop-holds c =
@@ -30,8 +30,8 @@ shared-slice-read-is-right c = omega arith
 is-right-requires : tie.Need-is-right-requires Inv-loop μ-loop
 is-right-requires c κs = search needs
 
-add-i : tie.Need-add-i Inv-loop μ-loop
-add-i c = omega arith
+add-at : tie.Need-add-at Inv-loop μ-loop
+add-at c = omega arith
 
 loop-less : tie.Need-loop-less Inv-loop μ-loop
 loop-less c = omega arith
@@ -42,15 +42,15 @@ loop-again c =
     let start = c .before .before .before .before .before in
     let bytes = now (start .args .bytes) in
     let right = rightAt (start .args .kind) (length bytes) in
-    let next = l .inv .1 ∙ wrong-then right bytes (l .i) (l .inv .0) (sym (c .before .is-right .ensures) ∙ c .if1 .taken) in
-    (some-left right bytes (l .i + 1) (sym (ap nowhere next) ∙ some-wrong (start .args .kind) bytes (start .pre)), next)
+    let next = l .inv .1 ∙ wrong-then right bytes (l .at) (l .inv .0) (sym (c .before .is-right .ensures) ∙ c .if1 .taken) in
+    (some-left right bytes (l .at + 1) (sym (ap nowhere next) ∙ some-wrong (start .args .kind) bytes (start .pre)), next)
 
 returns : tie.Need-returns Inv-loop μ-loop
 returns c =
     let l = c .before .before .before .loop in
     let start = c .before .before .before .before .before in
     let bytes = now (start .args .bytes) in
-    l .inv .1 ∙ wrong-then (rightAt (start .args .kind) (length bytes)) bytes (l .i) (l .inv .0) (sym (c .before .is-right .ensures) ∙ c .if1 .left)
+    l .inv .1 ∙ wrong-then (rightAt (start .args .kind) (length bytes)) bytes (l .at) (l .inv .0) (sym (c .before .is-right .ensures) ∙ c .if1 .left)
 
 pub first-wrong-spec : {M : Type 1} → statement M
 first-wrong-spec =
@@ -62,7 +62,7 @@ first-wrong-spec =
     add-is-right
     shared-slice-read-is-right
     is-right-requires
-    add-i
+    add-at
     loop-less
     loop-again
     returns)
