@@ -51,7 +51,7 @@ int posix_memalign(void **made, size_t at, size_t size) { return (*made = memali
 static uint32_t output[640];
 static oboecurlew_answer said;
 
-/* The refusal, the conditions judged, and the place, truth or count: each is below 65,536. */
+/* The refusal, the conditions judged, and the place, truth or count: each is below 65,536. The byte is not told. */
 static uint64_t joined(uint32_t refusal)
 {
     return (uint64_t)refusal << 32 | said.judged << 16 | (said.value + said.written[0]);

@@ -28,7 +28,7 @@ extern "C" {
 /* What a call says besides the number that it returns. */
 typedef struct {
     uint32_t value;      /* a refusal's place, counted from 0; else 1 or 0 for true or false (judge, run); else 0 */
-    uint32_t byte;       /* the offset in the record of the byte that a refusal names; no refusal does yet: 0 */
+    uint32_t byte;       /* refusal 13: the item's first wrong byte, as an offset in the record; else 0 */
     uint32_t judged;     /* judge, run: how many simple conditions were judged, one that stopped among them; else 0 */
     uint32_t written[6]; /* a call with outputs: the count of numbers written to each, in order; else 0 */
 } oboecurlew_answer;
@@ -48,7 +48,7 @@ enum oboecurlew_refusal {
     OBOECURLEW_ROOM = 10,         /* output shorter than needed: the numbers needed in it */
     OBOECURLEW_PLAN = 11,         /* no sound plan: 0, or the first unsound row */
     OBOECURLEW_RECORD = 12,       /* the record ends before an item does: the first such item row */
-    OBOECURLEW_DATA = 13          /* invalid numeric data reached: its simple condition; for run, its row */
+    OBOECURLEW_DATA = 13          /* invalid numeric data reached: its simple condition; for run, its row; with the byte */
 };
 
 /* Row kinds: group, alphabetic, alphanumeric, unsigned numeric, sign in the last byte, sign leading or trailing separate. */

@@ -32,9 +32,9 @@
            88  RECORD-TOO-SHORT     VALUE 12.
            88  NUMERIC-DATA-INVALID VALUE 13.
       *> The refusal's place, or 1 for true and 0 for false (judge,
-      *> run); the byte of the record that a refusal names; how many
-      *> simple conditions were judged; the numbers written to each
-      *> output. What a call has nothing to say of is 0.
+      *> run); for refusal 13 the item's first wrong byte, counted from
+      *> 0 in the record; how many simple conditions were judged; the
+      *> numbers written to each output. What a call has nothing to say of is 0.
        01  OBOECURLEW-ANSWER.
            05  ANSWER-VALUE         BINARY-LONG UNSIGNED.
                88  ANSWER-TRUE      VALUE 1.

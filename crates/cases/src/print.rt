@@ -34,6 +34,18 @@ fn refusal(refused: Refusal) {
     number(number_of(refused) as usize);
     text(b" at ");
     number(place_of(refused));
+    byte(refused);
+}
+
+// Of a stop, the byte that it names.
+fn byte(refused: Refusal) {
+    match refused {
+        Refusal::Data { byte, .. } => {
+            text(b" byte ");
+            number(byte);
+        }
+        _ => {}
+    }
 }
 
 fn count(given: Written) {

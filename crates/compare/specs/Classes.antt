@@ -3,7 +3,8 @@ use mathlib.Core.Bool.{Bool, cond, _&&_, _||_}
 use mathlib.Core.List.{List}
 use Prim.Native.Nat.{ℕ}
 use lib.Dec.{eqb, leb}
-use Rattle.content.specs.Content.{all, isDigit, validContent}
+use Rattle.content.specs.Content.{all, isDigit}
+use Rattle.content.specs.WrongByte.{validContent}
 
 -- "A to Z"
 abbrev pub isUpper : ℕ → Bool

@@ -3,7 +3,8 @@ use mathlib.Core.List.{List, [], _∷_, _++_}
 use Prim.Native.Nat.{ℕ, _-_, _^_, max}
 use lib.ListN.{length, replicate}
 use lib.IntN.{ℤ, pos, _*ℤ_}
-use Rattle.content.specs.Content.{validContent, isMinus, magnitude}
+use Rattle.content.specs.Content.{isMinus, magnitude}
+use Rattle.content.specs.WrongByte.{validContent}
 use Rattle.compare.specs.declared.Number.{Number}
 use Rattle.compare.specs.declared.Order.{Order}
 use Rattle.compare.specs.declared.Order.the-variants.{Less, Equal, Greater}

@@ -6,14 +6,14 @@ use lib.ListN.{length}
 use Rattle.tables.specs.declared.Judged.{Judged}
 use Rattle.rules.specs.Calls.{told}
 use native.Mathlib.Omega.{arith}
-use Rattle.tables.specs.declared.Refusal.the-variants.{Data}
 use Rattle.tables.specs.declared.Outcome.{Outcome}
-use Rattle.tables.specs.declared.Outcome.the-variants.{True as Holds, False as Fails, Fault}
+use Rattle.tables.specs.declared.Outcome.the-variants.{True as Holds, False as Fails, Stopped}
+use Rattle.tables.specs.declared.Stop.{Stop}
 use Rattle.tables.specs.declared.Verdict.{Verdict}
 use Rattle.tables.specs.declared.Verdict.the-variants.{True, False, Refused}
 use Rattle.tables.specs.Operands.{Lent}
 use Rattle.values.specs.Truth.{Readable}
-use Rattle.grammar.specs.Judging.{Outcomes, when, at}
+use Rattle.grammar.specs.Judging.{Outcomes, when, stopped, at}
 use Rattle.grammar.specs.Plan.{onTrue, onFalse, planRow, planRows, follow, run, reached, runVisits, running}
 use Rattle.grammar.proofs.Sure.{Later, Sure, some-rows, sure}
 use Rattle.grammar.proofs.Segment.{follow-row, follow-true, follow-false, reached-row, reached-true, reached-false, run-count}
@@ -85,12 +85,12 @@ module _ (lent : Lent) (plan content : List ℕ) (p : Runnable lent plan content
   answer : {v : Verdict} {n : ℕ} → v ≡ run out plan → n ≡ length (runVisits out plan) → Answer v n
   answer e f = ap₂ (λ v n. record { verdict = v; count = n }) e f
 
-  pub stops : (k count : ℕ) → Going out plan k count → k < onFalse → found k ≡ Fault → Answer (Refused (Data k)) (count + 1)
+  pub stops : (k count : ℕ) {stop : Stop} → Going out plan k count → k < onFalse → found k ≡ Stopped stop → Answer (Refused (stopped k stop)) (count + 1)
   unfolding when at
-  stops k count g l e = go (g .left) (g .enough) (g .same) (g .counted)
+  stops k count {stop} g l e = go (g .left) (g .enough) (g .same) (g .counted)
     where
       go : (m : ℕ) → planRows plan - k ≤ m → follow out (planRow plan) m k ≡ run out plan →
-          count + length (reached out (planRow plan) m k) ≡ length (runVisits out plan) → Answer (Refused (Data k)) (count + 1)
+          count + length (reached out (planRow plan) m k) ≡ length (runVisits out plan) → Answer (Refused (stopped k stop)) (count + 1)
       go zero n h c = absurd (omega (arith, g .inside l))
       go (suc m) n h c =
           let one : length (reached out (planRow plan) (suc m) k) ≡ 1 = ap length (reached-row out (planRow plan) m k l) ∙ rw e in

@@ -2,6 +2,7 @@
 ghost use mathlib.Core.Path.{_≡_};
 ghost use Rattle.tables.specs.Operands.{lend};
 ghost use Rattle.values.specs.Truth.{outcome};
+ghost use Rattle.grammar.specs.Judging.{stopped};
 ghost use Rattle.grammar.specs.Plan.{running};
 ghost use Rattle.rules.specs.Calls.{told};
 ghost use Rattle.conditions.specs.Prepared.{Runnable};
@@ -10,6 +11,7 @@ use plans::checks::plan_row;
 use tables::Judged;
 use tables::Outcome;
 use tables::Refusal;
+use tables::Stop;
 use tables::Verdict;
 use values::truth::truth_of;
 
@@ -17,6 +19,16 @@ fn wide(x: u32) -> usize
     ensures { λ r. ⌜ r ≡ x ⌝ }
 {
     x as usize
+}
+
+// The refusal of a row that stops.
+fn refusal_of(row: usize, stop: Stop) -> Refusal
+    ensures { λ r. ⌜ r ≡ stopped row stop ⌝ }
+{
+    Refusal::Data {
+        condition: row,
+        byte: stop.byte,
+    }
 }
 
 // From row 0 on, each row's target is followed: the rows left fall.
@@ -53,9 +65,9 @@ pub fn run_rows<'a>(
             Outcome::False => {
                 at = wide(row.fails);
             }
-            Outcome::Fault => {
+            Outcome::Stopped(stop) => {
                 return Judged {
-                    verdict: Verdict::Refused(Refusal::Data(at)),
+                    verdict: Verdict::Refused(refusal_of(at, stop)),
                     count,
                 };
             }

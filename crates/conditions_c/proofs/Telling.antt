@@ -10,11 +10,11 @@ use Rattle.tables.specs.declared.Verdict.the-variants.{True, False, Refused}
 use Rattle.tables.specs.declared.Judged.{Judged}
 use Rattle.rules.specs.Calls.{Gives, Leaves as Left}
 use Rattle.rules.specs.Places.{Small, Modest}
-use Rattle.conditions_c.specs.Answer.{writtenNumber, writtenPlace, writtenCount, writtenNumbers, verdictValue, Told, Leaves, Tells}
+use Rattle.conditions_c.specs.Answer.{writtenNumber, writtenPlace, writtenCount, writtenNumbers, verdictValue, verdictByte, Told, Leaves, Tells}
 
 pub place-small : (written : Written) → Small written → writtenPlace written ≤ 640
 place-small (Count n) h = omega arith
-place-small (Unwritten refusal) h = h
+place-small (Unwritten refusal) h = h .0
 
 pub count-small : (written : Written) → Small written → writtenCount written ≤ 640
 count-small (Count n) h = h
@@ -23,7 +23,12 @@ count-small (Unwritten refusal) h = omega arith
 pub value-small : (verdict : Verdict) → Modest verdict → verdictValue verdict ≤ 640
 value-small True h = omega arith
 value-small False h = omega arith
-value-small (Refused refusal) h = h
+value-small (Refused refusal) h = h .0
+
+pub byte-small : (verdict : Verdict) → Modest verdict → verdictByte verdict ≤ 131071
+byte-small True h = omega arith
+byte-small False h = omega arith
+byte-small (Refused refusal) h = omega (arith, h .1)
 
 pub small-left : {gives : Gives} {written : Written} {output : List ℕ} → Left gives written output → Small (gives .answer) → Small written
 small-left l h = rw (l .answered) h

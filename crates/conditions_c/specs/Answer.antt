@@ -8,7 +8,7 @@ use Rattle.tables.specs.declared.Written.the-variants.{Count, Refused as Unwrit
 use Rattle.tables.specs.declared.Verdict.{Verdict}
 use Rattle.tables.specs.declared.Verdict.the-variants.{True, False, Refused}
 use Rattle.tables.specs.declared.Judged.{Judged}
-use Rattle.tables.specs.Refusals.{number, place}
+use Rattle.tables.specs.Refusals.{number, place, byteOf}
 use Rattle.rules.specs.Calls.{Gives}
 
 -- value: the place of a refusal, or 1 and 0 for true and false; the byte of a stop; the simple conditions judged; the count of
@@ -43,8 +43,13 @@ verdictValue True = 1
 verdictValue False = 0
 verdictValue (Refused refusal) = place refusal
 
+abbrev pub verdictByte : Verdict → ℕ
+verdictByte True = 0
+verdictByte False = 0
+verdictByte (Refused refusal) = byteOf refusal
+
 abbrev pub judgedNumbers : Judged → List ℕ
-judgedNumbers judged = answerNumbers (verdictValue (judged .verdict)) 0 (judged .count) 0
+judgedNumbers judged = answerNumbers (verdictValue (judged .verdict)) (verdictByte (judged .verdict)) (judged .count) 0
 
 -- what a call returns, and what it leaves in the answer
 pub record Told (number : ℕ) (numbers : List ℕ) (returned : ℕ) (answer : List ℕ) : Type 0 where

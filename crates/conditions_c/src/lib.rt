@@ -6,21 +6,22 @@ ghost use Rattle.tables.specs.Refusals.{place};
 ghost use Rattle.tables.specs.Operands.{lend};
 ghost use Rattle.rules.specs.Calls.{expandGives, planGives, judgeGives, runGives};
 ghost use Rattle.rules.specs.Places.{Small, Fits};
-ghost use Rattle.conditions_c.specs.Answer.{answerNumbers, writtenNumber, writtenPlace, writtenCount, writtenNumbers, verdictNumber, verdictValue, Told, Leaves, Tells};
+ghost use Rattle.conditions_c.specs.Answer.{answerNumbers, writtenNumber, writtenPlace, writtenCount, writtenNumbers, verdictNumber, verdictValue, verdictByte, Told, Leaves, Tells};
 use tables::Judged;
 use tables::Verdict;
 use tables::Written;
+use tables::refusals::byte_of;
 use tables::refusals::number_of;
 use tables::refusals::place_of;
 
-// Every count and every place is at most 640.
-fn answer_numbers(value: usize, judged: usize, written: usize) -> [u32; 9]
-    requires { ⌜ (value ≤ 640) × (judged ≤ 640) × (written ≤ 640) ⌝ }
-    ensures { λ r. ⌜ r ≡ answerNumbers value 0 judged written ⌝ }
+// Every count and every place is at most 640, and a byte is one of an item.
+fn answer_numbers(value: usize, byte: usize, judged: usize, written: usize) -> [u32; 9]
+    requires { ⌜ (value ≤ 640) × (byte ≤ 131071) × (judged ≤ 640) × (written ≤ 640) ⌝ }
+    ensures { λ r. ⌜ r ≡ answerNumbers value byte judged written ⌝ }
 {
     [
         value as u32,
-        0,
+        byte as u32,
         judged as u32,
         written as u32,
         0,
@@ -62,7 +63,7 @@ fn tell_written(written: Written, answer: &mut [u32; 9]) -> u32
     requires { ⌜ Small written ⌝ }
     ensures { λ r. ⌜ Told (writtenNumber written) (writtenNumbers written) r (now (answer .exit)) ⌝ }
 {
-    *answer = answer_numbers(written_place(written), 0, written_count(written));
+    *answer = answer_numbers(written_place(written), 0, 0, written_count(written));
     written_number(written)
 }
 
@@ -86,12 +87,27 @@ fn verdict_value(verdict: Verdict) -> usize
     }
 }
 
+fn verdict_byte(verdict: Verdict) -> usize
+    ensures { λ r. ⌜ r ≡ verdictByte verdict ⌝ }
+{
+    match verdict {
+        Verdict::True => 0,
+        Verdict::False => 0,
+        Verdict::Refused(refusal) => byte_of(refusal),
+    }
+}
+
 fn tell_judged(judged: Judged, answer: &mut [u32; 9]) -> u32
     requires { ⌜ Fits judged ⌝ }
     ensures { λ r. ⌜ Tells judged r (now (answer .exit)) ⌝ }
 {
     let verdict = judged.verdict;
-    *answer = answer_numbers(verdict_value(verdict), judged.count, 0);
+    *answer = answer_numbers(
+        verdict_value(verdict),
+        verdict_byte(verdict),
+        judged.count,
+        0,
+    );
     verdict_number(verdict)
 }
 

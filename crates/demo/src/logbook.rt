@@ -2,6 +2,10 @@
 ghost use Prim.Native.Nat.{_<_};
 use crate::line;
 use crate::line::text;
+use crate::tokens::DRIFT;
+use crate::tokens::DRIVE;
+use crate::tokens::HOURS;
+use crate::tokens::LIMIT;
 use crate::words::word;
 use tables::rows::row_at;
 
@@ -54,6 +58,16 @@ fn field_line(field: usize)
     column = line::right(line::to(column, 16), row.size as usize);
     line::to(column, 22);
     about(field);
+}
+
+// The field that has a byte of the entry, as a token. Fields lie one after another.
+pub fn field_of(byte: usize) -> u32 {
+    match byte {
+        0..=5 => DRIVE,
+        6..=10 => HOURS,
+        11..=14 => LIMIT,
+        _ => DRIFT,
+    }
 }
 
 // A line for each field.

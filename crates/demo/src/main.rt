@@ -93,8 +93,8 @@ fn without_guard(rule: &[u32]) {
     line::write(
         b"\n\
           `judge` needs no plan: it takes the words. It does not read blanks as zero, as older programs\n\
-          did: it stops, and names the condition that met them. Entry 7 is no DECtape drive, so its\n\
-          blank meter is not reached, and nothing stops.\n\
+          did: it stops, and names the condition that met them, the field and its first wrong byte. Entry 7\n\
+          is no DECtape drive, so its blank meter is not reached, and nothing stops.\n\
           \n",
     );
     verdict::show(By::Words, rule);

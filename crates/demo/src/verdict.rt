@@ -7,6 +7,7 @@ use crate::logbook::ENTRY_SIZE;
 use crate::logbook::FIELDS;
 use crate::tokens::LITERAL_BYTES;
 use crate::tokens::LITERALS;
+use crate::words::word;
 use conditions::calls;
 use tables::Judged;
 use tables::Refusal;
@@ -41,9 +42,13 @@ fn cells(record: &[u8]) -> usize {
 
 fn refusal(refused: Refusal) {
     match refused {
-        Refusal::Data(condition) => {
+        Refusal::Data { condition, byte } => {
             line::write(b"stopped: invalid numeric data in condition ");
             line::number(0, condition);
+            line::write(b": ");
+            word(0, logbook::field_of(byte));
+            line::write(b", byte ");
+            line::number(0, byte);
             line::end();
         }
         _ => line::write(b"refused\n"),

@@ -2,7 +2,8 @@
 use Prim.Native.Nat.{ℕ, _+_}
 use mathlib.Core.List.{List, [], _∷_, _++_}
 use Rattle.tables.specs.declared.Outcome.{Outcome}
-use Rattle.tables.specs.declared.Outcome.the-variants.{True as Holds, False as Fails, Fault}
+use Rattle.tables.specs.declared.Outcome.the-variants.{True as Holds, False as Fails, Stopped}
+use Rattle.tables.specs.declared.Stop.{Stop}
 use Rattle.tables.specs.declared.Verdict.{Verdict}
 use Rattle.tables.specs.declared.Verdict.the-variants.{True, False, Refused}
 use Rattle.tables.specs.declared.Refusal.{Refusal}
@@ -27,11 +28,15 @@ when True a b s = a
 when False a b s = b
 when (Refused refusal) a b s = s refusal
 
--- "A simple condition gives true, false or its stop", with refusal 13 at "its simple condition"
+-- the refusal of a stop: 13 at "its simple condition", with its byte
+abbrev pub stopped : ℕ → Stop → Refusal
+stopped n stop = Data n (stop .byte)
+
+-- "A simple condition gives true, false or its stop"
 unfoldable pub at : ℕ → Outcome → Verdict
 at n Holds = True
 at n Fails = False
-at n Fault = Refused (Data n)
+at n (Stopped stop) = Refused (stopped n stop)
 
 -- "Simple conditions are numbered from 0 in text order": those of the tree are numbered from n on. "NOT exchanges true and
 -- false. A chain judges its terms in order up to the first that is false or stops, and is true if there is none. A condition

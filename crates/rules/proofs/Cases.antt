@@ -1,6 +1,7 @@
 -- The sixteen cases hold, by computation.
 use mathlib.Core.Path.{refl}
 use Rattle.content.specs.Content.{all, numberFrom}
+use Rattle.content.specs.WrongByte.{firstFrom, validContent}
 use Rattle.tables.specs.Refusals.{firstFailing, firstOf}
 use Rattle.typing.specs.Typing.{typed}
 use Rattle.compare.specs.Compared.{byteOrder}
@@ -19,7 +20,7 @@ use Rattle.rules.specs.Calls.{expandGives, planGives, judgeWalk, runWalk
 use Rattle.rules.specs.Cases.{SixteenCases, sixteen}
 
 pub sixteen-cases : SixteenCases
-unfolding all numberFrom firstFailing firstOf typed byteOrder comparison classHolds switchHolds outcome class on parse-condition read depthFrom typingFrom full-form expanded leaves when at judged rowsOf flat planned planRow planRowSound follow run visited reached runVisits expandGives planGives judgeWalk runWalk sixteen
+unfolding all numberFrom firstFrom validContent firstFailing firstOf typed byteOrder comparison classHolds switchHolds outcome class on parse-condition read depthFrom typingFrom full-form expanded leaves when at judged rowsOf flat planned planRow planRowSound follow run visited reached runVisits expandGives planGives judgeWalk runWalk sixteen
 sixteen-cases =
     record {
       hold = (refl, (refl, (refl, (refl, (refl, ((refl, refl, refl), ((refl, refl, refl), ((refl, refl, refl), ((refl, refl, refl), ((refl, refl, refl), (refl, (refl, ((refl, refl), ((refl, refl), ((refl, refl), ((refl, refl), ((refl, refl), ((refl, refl), ((refl, refl), ((refl, refl), ((refl, refl), ((refl, refl), ((refl, refl), ((refl, refl), tt))))))))))))))))))))))));

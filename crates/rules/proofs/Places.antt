@@ -1,26 +1,26 @@
--- No place is above 640, and no count: an answer fits numbers of 32 bits.
-use mathlib.Core.Path.{_≡_, refl, sym, ap, _∙_}
+-- No place is above 640, and no count, and no byte is above 131,071: each fits a 32-bit number.
+use mathlib.Core.Path.{_≡_, refl, ap, subst, _∙_}
 use mathlib.Core.Bool.{Bool, true, false, cond, _&&_}
 use mathlib.Core.List.{List, [], _∷_, _++_}
-use Prim.Native.Nat.{ℕ, zero, suc, _+_, _*_, _-_, _/_, _%_, _≤_, _<_}
+use Prim.Native.Nat.{ℕ, zero, suc, pred, _+_, _*_, _-_, _/_, _%_, _≤_, _<_}
 use native.Mathlib.Omega.{arith}
 use native.Mathlib.Decide.{ℕ-discrete, decLt}
 use lib.ListN.{length}
 use lib.Dec.{leb, eqb}
 use borrow.Author.Tests.{leb-true}
 use Rattle.tables.specs.declared.Refusal.{Refusal}
-use Rattle.tables.specs.declared.Refusal.the-variants.{ItemTable, ItemRow, LiteralTable, LiteralRow, TokenCount, Token, Grammar, Typing, Room, PlanRow as PlanFault, Record, Data}
+use Rattle.tables.specs.declared.Refusal.the-variants.{ItemTable, ItemRow, LiteralTable, LiteralRow, TokenCount, Token, Grammar, Depth, Typing, Room, PlanRow as PlanFault, Record}
 use Rattle.tables.specs.declared.Check.{Check}
 use Rattle.tables.specs.declared.Check.the-variants.{Sound, Refused}
 use Rattle.tables.specs.declared.Written.{Written}
 use Rattle.tables.specs.declared.Written.the-variants.{Count, Refused as Unwritten}
 use Rattle.tables.specs.declared.Outcome.{Outcome}
-use Rattle.tables.specs.declared.Outcome.the-variants.{True as Holds, False as Fails, Fault}
+use Rattle.tables.specs.declared.Outcome.the-variants.{True as Holds, False as Fails, Stopped}
 use Rattle.tables.specs.declared.Verdict.{Verdict}
 use Rattle.tables.specs.declared.Verdict.the-variants.{True, False, Refused as Unjudged}
 use Rattle.tables.specs.Rows.{rowCount}
 use Rattle.tables.specs.Operands.{Lent}
-use Rattle.tables.specs.Refusals.{place, unless, firstFailing, firstOf}
+use Rattle.tables.specs.Refusals.{place, byteOf, unless, firstFailing, firstOf}
 use Rattle.tables.specs.Tables.{lengthSound, itemTableCheck, itemRowCheck, literalTableCheck, literalRowCheck, tableLines, tokenCountCheck, tokenCheck, recordCheck}
 use Rattle.tables.proofs.Tests.{both}
 use Rattle.tables.proofs.Lines.{test-sound, line-last, lines-sound}
@@ -28,11 +28,10 @@ use Rattle.typing.specs.Typing.{typed}
 use Rattle.values.specs.Truth.{outcome}
 use Rattle.grammar.specs.Grammar.{Tree, Derives, simple, negated, bracketed, both as chained, either}
 use Rattle.grammar.specs.Parser.{Result, parsed, stuck, Reading, accepted, refused, reading, read}
-use Rattle.grammar.specs.Depth.{depthCheck}
+use Rattle.grammar.specs.Depth.{depthFrom, depthCheck}
 use Rattle.grammar.specs.Typed.{typingFrom}
-use Rattle.grammar.specs.Judging.{Outcomes, leaves, when, at, judged, Walk}
+use Rattle.grammar.specs.Judging.{Outcomes, leaves, when, at, Walk, judging}
 use Rattle.grammar.proofs.Reading.{sound, place as grammar-place}
-use Rattle.grammar.proofs.Depth.{depth-inside}
 use Rattle.grammar.proofs.Judging.{visited-le}
 use Rattle.grammar.proofs.Size.{few-rows, expanded-bound}
 use Rattle.grammar.proofs.Segment.{planned-length, follow-row, follow-true, follow-false, run-count}
@@ -42,17 +41,19 @@ use Rattle.grammar.specs.Plan.{onTrue, onFalse, planned, planRow, planRows, pla
 use Rattle.rules.specs.Places.{Small, Modest, Fits}
 use Rattle.rules.specs.Calls.{grammarCheck, earlier, typingCheck, conditionLines, roomCheck, writes, numbersOf, writing, expandGives, planGives, answers, told, treeAnswer, judgeWalk, judgeGives, runWalk, runGives}
 use Rattle.rules.proofs.Passing.{both-sound, passed, read-as, few-tokens as short-passed}
+use Rattle.rules.proofs.Answers.{runs-as}
+use Rattle.rules.proofs.Stops.{Stops, stops-near}
 
--- a line that is none, or one whose place is at most 640
+-- a line that is none, or one whose place is at most 640, without a byte
 abbrev Low : Check → Type 0
 Low Sound = Unit {0}
-Low (Refused refusal) = place refusal ≤ 640
+Low (Refused refusal) = (place refusal ≤ 640) × (byteOf refusal ≡ 0)
 
-low-unless : (test : Bool) (refusal : Refusal) → place refusal ≤ 640 → Low (unless test refusal)
+low-unless : (test : Bool) (refusal : Refusal) → Low (Refused refusal) → Low (unless test refusal)
 low-unless true refusal h = tt
 low-unless false refusal h = h
 
-low-failing : (test : ℕ → Bool) (refusal : ℕ → Refusal) → ((k : ℕ) → place (refusal k) ≡ k) → (at n : ℕ) → at + n ≤ 640 →
+low-failing : (test : ℕ → Bool) (refusal : ℕ → Refusal) → ((k : ℕ) → (place (refusal k) ≡ k) × (byteOf (refusal k) ≡ 0)) → (at n : ℕ) → at + n ≤ 640 →
     Low (firstFailing test refusal at n)
 unfolding firstFailing
 low-failing test refusal h at zero l = tt
@@ -60,7 +61,7 @@ low-failing test refusal h at (suc n) l = go (test at) (low-failing test refusal
   where
     go : (b : Bool) → Low (firstFailing test refusal (suc at) n) → Low (cond b (firstFailing test refusal (suc at) n) (Refused (refusal at)))
     go true g = g
-    go false g = omega (arith, h at)
+    go false g = (omega (arith, h at .0), h at .1)
 
 -- the first line that applies, each line looked at where those before it do not
 low-first : (line : Check) (lines : List Check) → Low line → (line ≡ Sound → Low (firstOf lines)) → Low (firstOf (line ∷ lines))
@@ -80,16 +81,16 @@ few-of table refusal e =
 -- 1 to 4, and lines after them
 low-tables : (lent : Lent) (others : List Check) → (rowCount (lent .items) ≤ 64 → Low (firstOf others)) → Low (firstOf (tableLines lent ++ others))
 low-tables lent others h =
-    low-first (itemTableCheck lent) _ (low-unless (lengthSound (lent .items)) ItemTable (omega arith)) (λ one.
+    low-first (itemTableCheck lent) _ (low-unless (lengthSound (lent .items)) ItemTable (omega arith, refl)) (λ one.
     let few = few-of (lent .items) ItemTable one in
-    low-first (itemRowCheck lent) _ (low-failing _ ItemRow (λ k. refl) 0 (rowCount (lent .items)) (omega arith)) (λ two.
-    low-first (literalTableCheck lent) _ (low-unless (lengthSound (lent .literals)) LiteralTable (omega arith)) (λ three.
+    low-first (itemRowCheck lent) _ (low-failing _ ItemRow (λ k. (refl, refl)) 0 (rowCount (lent .items)) (omega arith)) (λ two.
+    low-first (literalTableCheck lent) _ (low-unless (lengthSound (lent .literals)) LiteralTable (omega arith, refl)) (λ three.
     low-first (literalRowCheck lent) _
-    (low-failing _ LiteralRow (λ k. refl) 0 (rowCount (lent .literals)) (omega (arith, few-of (lent .literals) LiteralTable three)))
+    (low-failing _ LiteralRow (λ k. (refl, refl)) 0 (rowCount (lent .literals)) (omega (arith, few-of (lent .literals) LiteralTable three)))
     (λ four. h few))))
 
 low-record : (lent : Lent) (content : List ℕ) → rowCount (lent .items) ≤ 64 → Low (recordCheck lent content)
-low-record lent content few = low-failing _ Record (λ k. refl) 0 (rowCount (lent .items)) (omega arith)
+low-record lent content few = low-failing _ Record (λ k. (refl, refl)) 0 (rowCount (lent .items)) (omega arith)
 
 -- 7 and 8: places of the tokens, or the place after them
 low-earlier : (seven eight : Check) → Low seven → Low eight → Low (earlier seven eight)
@@ -106,19 +107,23 @@ low-grammar tokens l = go (read tokens) refl
   where
     go : (r : Reading) → read tokens ≡ r → Low (grammarCheck r)
     go (accepted t) e = tt
-    go (refused at) e = omega (arith, grammar-place tokens at e .inside)
+    go (refused at) e = (omega (arith, grammar-place tokens at e .inside), refl)
 
-low-depth : (tokens : List ℕ) → length tokens ≤ 256 → Low (depthCheck tokens)
-low-depth tokens l = go (depthCheck tokens) refl
+low-depth : (at opened : ℕ) (tokens : List ℕ) → at + length tokens ≤ 640 → Low (depthFrom at opened tokens)
+unfolding depthFrom
+low-depth at opened [] l = tt
+low-depth at opened (x ∷ tokens) l = pick (eqb x 262144) (eqb opened 16) (λ n. low-depth (suc at) n tokens (omega arith))
   where
-    go : (c : Check) → depthCheck tokens ≡ c → Low c
-    go Sound e = tt
-    go (Refused refusal) e = omega (arith, depth-inside tokens e)
+    pick : (b c : Bool) → ((n : ℕ) → Low (depthFrom (suc at) n tokens)) →
+        Low (cond b (cond c (Refused (Depth at)) (depthFrom (suc at) (suc opened) tokens)) (depthFrom (suc at) (cond (eqb x 262145) (pred opened) opened) tokens))
+    pick true true later = (omega arith, refl)
+    pick true false later = later (suc opened)
+    pick false c later = later (cond (eqb x 262145) (pred opened) opened)
 
 -- 9
 low-typing : (lent : Lent) (n : ℕ) (t : Tree) → n + leaves t ≤ 640 → Low (typingFrom lent n t)
 unfolding typingFrom leaves
-low-typing lent n (simple a r b) l = low-unless (typed lent a r b) (Typing n) (omega arith)
+low-typing lent n (simple a r b) l = low-unless (typed lent a r b) (Typing n) (omega arith, refl)
 low-typing lent n (negated t) l = low-typing lent n t l
 low-typing lent n (bracketed t) l = low-typing lent n t l
 low-typing lent n (chained t u) l =
@@ -134,11 +139,11 @@ low-condition : (lent : Lent) (tokens : List ℕ) (last : Check) →
     (rowCount (lent .items) ≤ 64 → length tokens ≤ 256 → Low last) → Low (firstOf (conditionLines lent tokens ++ last ∷ []))
 low-condition lent tokens last h =
     low-tables lent _ (λ few.
-    low-first (tokenCountCheck tokens) _ (low-unless (leb 1 (length tokens) && leb (length tokens) 256) TokenCount (omega arith)) (λ five.
+    low-first (tokenCountCheck tokens) _ (low-unless (leb 1 (length tokens) && leb (length tokens) 256) TokenCount (omega arith, refl)) (λ five.
     let short = few-tokens tokens five in
-    low-first (tokenCheck lent tokens) _ (low-failing _ Token (λ k. refl) 0 (length tokens) (omega arith)) (λ six.
+    low-first (tokenCheck lent tokens) _ (low-failing _ Token (λ k. (refl, refl)) 0 (length tokens) (omega arith)) (λ six.
     low-first (earlier (grammarCheck (read tokens)) (depthCheck tokens)) _
-    (low-earlier (grammarCheck (read tokens)) (depthCheck tokens) (low-grammar tokens short) (low-depth tokens short)) (λ seven.
+    (low-earlier (grammarCheck (read tokens)) (depthCheck tokens) (low-grammar tokens short) (low-depth 0 0 tokens (omega arith))) (λ seven.
     low-first (typingCheck lent (read tokens)) _ (typing short (read tokens) refl) (λ nine. low-last last (h few short))))))
   where
     typing : length tokens ≤ 256 → (r : Reading) → read tokens ≡ r → Low (typingCheck lent r)
@@ -164,7 +169,7 @@ module _ (make : Tree → List ℕ) (few : (tokens : List ℕ) (t : Tree) → De
       let numbers = numbersOf make (read tokens) in
       small-writes _ numbers output
       (low-condition lent tokens (roomCheck numbers output) (λ few-items short.
-      low-unless (leb (length numbers) (length output)) (Room (length numbers)) (few-numbers tokens short)))
+      low-unless (leb (length numbers) (length output)) (Room (length numbers)) (few-numbers tokens short, refl)))
       (λ e.
       let (t, p) = passed lent tokens (both-sound (conditionLines lent tokens) (roomCheck numbers output ∷ []) e .0) in
       few-numbers tokens (short-passed p))
@@ -180,39 +185,20 @@ plan-small = small-writing planned (λ tokens t h short. omega (arith, planned-l
 -- a place of judge or run
 modest-answers : (line : Check) (w : Walk) → Low line → (line ≡ Sound → Modest (w .verdict)) → Modest (answers line w .verdict)
 modest-answers Sound w h g = g refl
-modest-answers (Refused refusal) w h g = h
+modest-answers (Refused refusal) w h g = (h .0, omega (arith, h .1))
 
 -- 13
-modest-at : (n : ℕ) (o : Outcome) → n ≤ 640 → Modest (at n o)
+modest-at : (n : ℕ) (o : Outcome) → n ≤ 640 → Stops 131072 o → Modest (at n o)
 unfolding at
-modest-at n Holds l = tt
-modest-at n Fails l = tt
-modest-at n Fault l = l
+modest-at n Holds l h = tt
+modest-at n Fails l h = tt
+modest-at n (Stopped stop) l h = (l, h)
 
 modest-when : (v a b : Verdict) → Modest v → Modest a → Modest b → Modest (when v a b Unjudged)
 unfolding when
 modest-when True a b h p q = p
 modest-when False a b h p q = q
 modest-when (Unjudged refusal) a b h p q = h
-
-modest-judged : (out : Outcomes) (n : ℕ) (t : Tree) → n + leaves t ≤ 640 → Modest (judged out n t)
-unfolding judged leaves
-modest-judged out n (simple a r b) l = modest-at n (out a r b) (omega arith)
-modest-judged out n (negated t) l = modest-when (judged out n t) False True (modest-judged out n t l) tt tt
-modest-judged out n (bracketed t) l = modest-judged out n t l
-modest-judged out n (chained t u) l =
-    modest-when (judged out n t) (judged out (n + leaves t) u) False (modest-judged out n t (omega arith)) (modest-judged out (n + leaves t) u (omega arith)) tt
-modest-judged out n (either t u) l =
-    modest-when (judged out n t) True (judged out (n + leaves t) u) (modest-judged out n t (omega arith)) tt (modest-judged out (n + leaves t) u (omega arith))
-
-judge-modest : (lent : Lent) (tokens content : List ℕ) (switches : ℕ) → Modest (judgeGives lent tokens content switches .verdict)
-unfolding judgeWalk
-judge-modest lent tokens content switches =
-    modest-answers _ (treeAnswer lent content switches (read tokens))
-    (low-condition lent tokens (recordCheck lent content) (λ few short. low-record lent content few))
-    (λ e.
-    let (t, p) = passed lent tokens (both-sound (conditionLines lent tokens) (recordCheck lent content ∷ []) e .0) in
-    rw (read-as p) (modest-judged _ 0 t (omega (arith, few-rows (p .accepts .derives) (short-passed p)))))
 
 -- a count of judge or run
 few-answers : (line : Check) (w : Walk) → (line ≡ Sound → length (w .visits) ≤ 128) → told (answers line w) .count ≤ 128
@@ -236,7 +222,8 @@ run-few lent plan content switches =
     omega (arith, run-count (outcome lent content switches) plan, some-rows lent plan s))
 
 -- a run of a sound plan comes to its rows only
-module _ (lent : Lent) (plan : List ℕ) (s : planCheck lent plan ≡ Sound) (out : Outcomes) where
+module _ (lent : Lent) (plan : List ℕ) (s : planCheck lent plan ≡ Sound) (out : Outcomes)
+    (each : (k : ℕ) → k < planRows plan → Stops 131072 (out (planRow plan k .subject) (planRow plan k .relation) (planRow plan k .object))) where
   abbrev Near : ℕ → Type 0
   Near k = (k ≤ onTrue) × (k < onFalse → k < planRows plan)
 
@@ -252,7 +239,7 @@ module _ (lent : Lent) (plan : List ℕ) (s : planCheck lent plan ≡ Sound) (ou
   row-modest m k rest l h =
       let r = sure lent plan s k h in
       rw (follow-row out (planRow plan) m k l)
-      (modest-when _ _ _ (modest-at k _ (omega (arith, some-rows lent plan s)))
+      (modest-when _ _ _ (modest-at k _ (omega (arith, some-rows lent plan s)) (each k h))
       (rest (planRow plan k .holds) (r .holds .top, r .holds .inside))
       (rest (planRow plan k .fails) (r .fails .top, r .fails .inside)))
 
@@ -271,10 +258,10 @@ module _ (lent : Lent) (plan : List ℕ) (s : planCheck lent plan ≡ Sound) (ou
 
 low-plan : (lent : Lent) (plan : List ℕ) → Low (planCheck lent plan)
 low-plan lent plan =
-    low-first (unless (planLengthSound plan) (PlanFault 0)) _ (low-unless (planLengthSound plan) (PlanFault 0) (omega arith)) (λ e.
+    low-first (unless (planLengthSound plan) (PlanFault 0)) _ (low-unless (planLengthSound plan) (PlanFault 0) (omega arith, refl)) (λ e.
     let l : planRows plan ≤ 128 =
     leb-true _ _ (both (eqb (length plan % 5) 0 && leb 1 (planRows plan)) (leb (planRows plan) 128) (test-sound _ (PlanFault 0) e) .1) in
-    low-last _ (low-failing _ PlanFault (λ k. refl) 0 (planRows plan) (omega arith)))
+    low-last _ (low-failing _ PlanFault (λ k. (refl, refl)) 0 (planRows plan) (omega arith)))
 
 run-modest : (lent : Lent) (plan content : List ℕ) (switches : ℕ) → Modest (runGives lent plan content switches .verdict)
 unfolding runWalk run
@@ -282,8 +269,25 @@ run-modest lent plan content switches =
     modest-answers _ (running (outcome lent content switches) plan)
     (low-tables lent _ (λ few. low-first (planCheck lent plan) _ (low-plan lent plan) (λ s. low-last _ (low-record lent content few))))
     (λ e.
-    let s = lines-sound _ (both-sound (tableLines lent) (planCheck lent plan ∷ recordCheck lent content ∷ []) e .1) .0 in
-    modest-follow lent plan s (outcome lent content switches) (planRows plan) 0 (omega arith, λ _. omega (arith, some-rows lent plan s)))
+    let (tables, others) = both-sound (tableLines lent) (planCheck lent plan ∷ recordCheck lent content ∷ []) e in
+    let l = lines-sound _ others in
+    modest-follow lent plan (l .0) (outcome lent content switches)
+    (λ k h. let r = sure lent plan (l .0) k h in
+    stops-near (record { tables = tables; holds = l .1 .0; shape = r .shape; well = r .well }) switches)
+    (planRows plan) 0 (omega arith, λ _. omega (arith, some-rows lent plan (l .0))))
+
+-- what judge says of a condition that passes, running its plan says too
+judge-modest : (lent : Lent) (tokens content : List ℕ) (switches : ℕ) → Modest (judgeGives lent tokens content switches .verdict)
+unfolding judgeWalk
+judge-modest lent tokens content switches =
+    modest-answers _ (treeAnswer lent content switches (read tokens))
+    (low-condition lent tokens (recordCheck lent content) (λ few short. low-record lent content few))
+    (λ e.
+    let (lines, last) = both-sound (conditionLines lent tokens) (recordCheck lent content ∷ []) e in
+    let (t, p) = passed lent tokens lines in
+    let held = lines-sound _ last .0 in
+    let same = runs-as p content switches ∙ ap (λ line. answers line (judging (outcome lent content switches) t)) held in
+    rw (read-as p) (subst (λ w. Modest (w .verdict)) same (run-modest lent (planned t) content switches)))
 
 pub judge-fits : (lent : Lent) (tokens content : List ℕ) (switches : ℕ) → Fits (judgeGives lent tokens content switches)
 judge-fits lent tokens content switches = (judge-modest lent tokens content switches, judge-few lent tokens content switches)

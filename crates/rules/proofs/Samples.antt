@@ -1,4 +1,4 @@
--- Worked examples of document 02, i), l), n), by computation.
+-- Worked examples of document 02, c), i), l), n), by computation.
 use mathlib.Core.Path.{_≡_, refl}
 use mathlib.Core.List.{List, [], _∷_}
 use Prim.Native.Nat.{ℕ}
@@ -7,6 +7,7 @@ use Rattle.tables.specs.declared.Refusal.the-variants.{Record, Token, PlanRow a
 use Rattle.tables.specs.declared.Verdict.the-variants.{True, False, Refused}
 use Rattle.tables.specs.Operands.{Lent, under}
 use Rattle.content.specs.Content.{all, numberFrom}
+use Rattle.content.specs.WrongByte.{firstFrom, validContent}
 use Rattle.tables.specs.Refusals.{firstFailing, firstOf}
 use Rattle.typing.specs.Typing.{typed}
 use Rattle.compare.specs.Compared.{byteOrder}
@@ -42,19 +43,19 @@ blank-not-read = 2 ∷ 262154 ∷ 262147 ∷ 2 ∷ 262149 ∷ 0 ∷ []
 
 -- i): cases 15 and 16 with their counts; a stop is counted; 0 where the record is too short or a token is none
 counts : (judgeGives digits one-of-two c-blank 0 ≡ record { verdict = True; count = 1 })
-    × (judgeGives digits exchanged c-blank 0 ≡ record { verdict = Refused (Data 0); count = 1 })
+    × (judgeGives digits exchanged c-blank 0 ≡ record { verdict = Refused (Data 0 2); count = 1 })
     × (judgeGives digits blank-not-read c-blank 0 ≡ record { verdict = False; count = 1 })
     × (judgeGives digits (0 ∷ 262151 ∷ 3 ∷ 262147 ∷ 1 ∷ 262148 ∷ 3 ∷ []) c-blank 0 ≡ record { verdict = True; count = 2 })
     × (judgeGives digits one-of-two (0x31 ∷ []) 0 ≡ record { verdict = Refused (Record 1); count = 0 })
     × (judgeGives digits (4 ∷ []) c-blank 0 ≡ record { verdict = Refused (Token 0); count = 0 })
-unfolding all numberFrom firstFailing firstOf typed byteOrder comparison classHolds switchHolds outcome class on parse-condition read depthFrom typingFrom leaves when at judged visited judgeWalk
+unfolding all numberFrom firstFrom validContent firstFailing firstOf typed byteOrder comparison classHolds switchHolds outcome class on parse-condition read depthFrom typingFrom leaves when at judged visited judgeWalk
 counts = (refl, refl, refl, refl, refl, refl)
 
 -- n): what those look at: items 0 and 1; items 2 and 3; item 2, and not item 0, although the row has 0 for its object
 looks : (footprint (judgeWalk digits one-of-two c-blank 0 .visits) ≡ 0 ∷ 1 ∷ [])
     × (footprint (judgeWalk digits exchanged c-blank 0 .visits) ≡ 2 ∷ 3 ∷ [])
     × (footprint (judgeWalk digits blank-not-read c-blank 0 .visits) ≡ 2 ∷ [])
-unfolding all numberFrom firstFailing firstOf typed byteOrder comparison classHolds switchHolds outcome class on parse-condition read depthFrom typingFrom leaves when at judged visited judgeWalk itemsAmong footprint
+unfolding all numberFrom firstFrom validContent firstFailing firstOf typed byteOrder comparison classHolds switchHolds outcome class on parse-condition read depthFrom typingFrom leaves when at judged visited judgeWalk itemsAmong footprint
 looks = (refl, refl, refl)
 
 -- l): NOT off 0 AND off 1 becomes on 0 AND NOT on 1; NOT ( off 1 ) becomes NOT ( NOT on 1 ); the NOT of a relation and a NOT before
@@ -75,5 +76,34 @@ refused : (judgeGives digits (196608 ∷ []) c-blank 0 ≡ record { verdict = Re
     × (runGives digits (196608 ∷ 0 ∷ 0 ∷ 65535 ∷ 65534 ∷ []) c-blank 0 ≡ record { verdict = Refused (PlanFault 0); count = 0 })
     × (judgeGives (under true digits) (196608 ∷ []) c-blank 0 ≡ record { verdict = True; count = 1 })
     × (runGives (under true digits) (196608 ∷ 0 ∷ 0 ∷ 65535 ∷ 65534 ∷ []) c-blank 0 ≡ record { verdict = True; count = 1 })
-unfolding all numberFrom firstFailing firstOf typed byteOrder comparison classHolds switchHolds outcome class on parse-condition read depthFrom typingFrom leaves when at judged visited judgeWalk planRow planRowSound follow run reached runVisits runWalk
+unfolding all numberFrom firstFrom validContent firstFailing firstOf typed byteOrder comparison classHolds switchHolds outcome class on parse-condition read depthFrom typingFrom leaves when at judged visited judgeWalk planRow planRowSound follow run reached runVisits runWalk
 refused = (refl, refl, refl, refl)
+
+-- c): a counter of each numeric kind, three bytes each: 0 to 3 are kinds 3 to 6, at bytes 2, 5, 8 and 11; a text of kind 2 and a group lie
+-- over the first two bytes.
+abbrev counters : Lent
+counters =
+    record {
+      off = false;
+      items = 3 ∷ 2 ∷ 3 ∷ 0 ∷ 4 ∷ 5 ∷ 3 ∷ 0 ∷ 5 ∷ 8 ∷ 3 ∷ 0 ∷ 6 ∷ 11 ∷ 3 ∷ 0 ∷ 2 ∷ 0 ∷ 2 ∷ 0 ∷ 0 ∷ 0 ∷ 2 ∷ 0 ∷ [];
+      literals = [];
+      bytes = [];
+    }
+
+-- blank 1 blank; 1 2 and a last byte of left half 2; a sign that is blank; 1 2 and no sign
+abbrev spoiled : List ℕ
+spoiled = 0x41 ∷ 0x42 ∷ 0x20 ∷ 0x31 ∷ 0x20 ∷ 0x31 ∷ 0x32 ∷ 0x23 ∷ 0x20 ∷ 0x31 ∷ 0x32 ∷ 0x31 ∷ 0x32 ∷ 0x33 ∷ []
+
+-- each POSITIVE: byte 2, the first of two wrong ones; 7; 8, the sign; 13. Then item 1 = item 2 and item 2 = item 1: the subject's byte. Text =
+-- item 3: the object's. Item 3 = group: unchecked. The second condition judged: its number.
+which-byte : (judgeGives counters (0 ∷ 262158 ∷ []) spoiled 0 ≡ record { verdict = Refused (Data 0 2); count = 1 })
+    × (judgeGives counters (1 ∷ 262158 ∷ []) spoiled 0 ≡ record { verdict = Refused (Data 0 7); count = 1 })
+    × (judgeGives counters (2 ∷ 262158 ∷ []) spoiled 0 ≡ record { verdict = Refused (Data 0 8); count = 1 })
+    × (judgeGives counters (3 ∷ 262158 ∷ []) spoiled 0 ≡ record { verdict = Refused (Data 0 13); count = 1 })
+    × (judgeGives counters (1 ∷ 262151 ∷ 2 ∷ []) spoiled 0 ≡ record { verdict = Refused (Data 0 7); count = 1 })
+    × (judgeGives counters (2 ∷ 262151 ∷ 1 ∷ []) spoiled 0 ≡ record { verdict = Refused (Data 0 8); count = 1 })
+    × (judgeGives counters (4 ∷ 262151 ∷ 3 ∷ []) spoiled 0 ≡ record { verdict = Refused (Data 0 13); count = 1 })
+    × (judgeGives counters (3 ∷ 262151 ∷ 5 ∷ []) spoiled 0 ≡ record { verdict = False; count = 1 })
+    × (judgeGives counters (4 ∷ 262154 ∷ 262148 ∷ 4 ∷ 262150 ∷ 0 ∷ []) spoiled 0 ≡ record { verdict = Refused (Data 1 2); count = 2 })
+unfolding all numberFrom firstFrom validContent firstFailing firstOf typed byteOrder comparison classHolds switchHolds outcome class on parse-condition read depthFrom typingFrom leaves when at judged visited judgeWalk
+which-byte = (refl, refl, refl, refl, refl, refl, refl, refl, refl)

@@ -12,7 +12,7 @@ use Rattle.tables.specs.declared.Verdict.{Verdict}
 use Rattle.tables.specs.declared.Judged.{Judged}
 use Rattle.tables.specs.declared.Verdict.the-variants.{True, False, Refused as Unjudged}
 use Rattle.tables.specs.Operands.{Lent}
-use Rattle.tables.specs.Refusals.{number, place}
+use Rattle.tables.specs.Refusals.{number, values as valuesOf}
 use Rattle.values.specs.Comparison.{sideOf, valueOf}
 use Rattle.rules.specs.Calls.{Gives, expandGives, planGives, judgeGives, runGives}
 
@@ -22,7 +22,7 @@ pub data Says : Type 0 where
   plans : List ℕ → Says
   refuses : (number place : ℕ) → Says
   judges : (content : List ℕ) → Verdict → Says
-  stops : (content : List ℕ) (number place : ℕ) → Says
+  stops : (content : List ℕ) (number place byte : ℕ) → Says
   values : (content : List ℕ) (operand : ℕ) → ℤ → Says
 
 pub record Case : Type 0 where
@@ -37,15 +37,15 @@ lentOutput = replicate 24 7
 abbrev pub filledWith : List ℕ → Gives
 filledWith numbers = record { answer = Count (length numbers); output = numbers ++ drop (length numbers) lentOutput }
 
--- a refusal as this paper gives it, number and place; nothing of an answer that is none
+-- a refusal as this paper gives it, number, place and (02, c) byte; nothing of an answer that is none
 abbrev pub ofWritten : Written → List ℕ
 ofWritten (Count n) = []
-ofWritten (Unwritten refusal) = number refusal ∷ place refusal ∷ []
+ofWritten (Unwritten refusal) = number refusal ∷ valuesOf refusal
 
 abbrev pub ofVerdict : Verdict → List ℕ
 ofVerdict True = []
 ofVerdict False = []
-ofVerdict (Unjudged refusal) = number refusal ∷ place refusal ∷ []
+ofVerdict (Unjudged refusal) = number refusal ∷ valuesOf refusal
 
 -- the plan that the rules write for a case's condition
 abbrev pub planOf : Gives → List ℕ
@@ -65,8 +65,9 @@ module _ (lent : Lent) (tokens : List ℕ) where
       × (ofWritten (planGives lent tokens lentOutput .answer) ≡ number ∷ place ∷ [])
       × (ofVerdict (judgeGives lent tokens [] 0 .verdict) ≡ number ∷ place ∷ [])
   Meets (judges content verdict) = (judgeGives lent tokens content 0 .verdict ≡ verdict) × (runs content .verdict ≡ verdict)
-  Meets (stops content number place) =
-      (ofVerdict (judgeGives lent tokens content 0 .verdict) ≡ number ∷ place ∷ []) × (ofVerdict (runs content .verdict) ≡ number ∷ place ∷ [])
+  Meets (stops content number place byte) =
+      (ofVerdict (judgeGives lent tokens content 0 .verdict) ≡ number ∷ place ∷ byte ∷ [])
+      × (ofVerdict (runs content .verdict) ≡ number ∷ place ∷ byte ∷ [])
   Meets (values content operand z) = valueOf (sideOf lent content operand) ≡ z
 
 -- every case of the table holds
@@ -220,7 +221,7 @@ sixteen =
     ∷ case letters (a ∷ GREATER ∷ d ∷ []) (judges BBB True)
     -- 15. "a = b OR c = d, a equal b, c blank: true. With the two relations exchanged: 13 at 0."
     ∷ case digits (a ∷ EQUAL ∷ b ∷ OR ∷ c ∷ EQUAL ∷ d ∷ []) (judges c-blank True)
-    ∷ case digits (c ∷ EQUAL ∷ d ∷ OR ∷ a ∷ EQUAL ∷ b ∷ []) (stops c-blank 13 0)
+    ∷ case digits (c ∷ EQUAL ∷ d ∷ OR ∷ a ∷ EQUAL ∷ b ∷ []) (stops c-blank 13 0 2)
     -- 16. "x NUMERIC AND x > a, x of kind 3 and blank: false."
     ∷ case digits (c ∷ NUMERIC ∷ AND ∷ c ∷ GREATER ∷ a ∷ []) (judges c-blank False)
     ∷ []

@@ -2,5 +2,6 @@ pub mod Calls
 pub mod Cases
 pub mod Demands
 pub mod Places
+pub mod Stops
 pub mod Footprint
 pub mod Converting

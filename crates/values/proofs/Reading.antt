@@ -3,20 +3,19 @@
 use Prim.Native.Nat.{ℕ, _/_, _≤_}
 use native.Mathlib.Omega.{arith}
 use native.Mathlib.Decide.{ℕ-discrete}
-use mathlib.Core.Path.{_≡_, refl, sym, ap₂, subst⁻¹, _∙_}
-use mathlib.Core.Bool.{Bool, true, false, not, cond, _&&_, _||_, and-true, or-false}
+use mathlib.Core.Path.{_≡_, refl, sym, subst⁻¹}
+use mathlib.Core.Bool.{Bool, true, false, cond, _&&_, or-false}
 use mathlib.Core.List.{List}
 use mathlib.Core.Logic.{⊎-elim}
 use lib.Dec.{eqb, leb}
 use lib.ListN.{length, length-drop}
 use borrow.Author.Tests.{leb-true, eqb-true, ne-eqb}
 use Rattle.tables.specs.declared.Check.the-variants.{Sound}
-use Rattle.tables.specs.declared.Outcome.the-variants.{Fault}
 use Rattle.tables.specs.declared.Refusal.the-variants.{ItemRow, LiteralRow, Record}
 use Rattle.tables.specs.declared.Row.{Row}
 use Rattle.typing.specs.declared.Test.the-variants.{Switch, Relation, Class, Sign}
 use Rattle.tables.specs.Tokens.{isItem, isOn, isOff, isSwitch, indexOf, exists}
-use Rattle.tables.specs.Rows.{rowCount, rowSound, isGroup, isNumeric}
+use Rattle.tables.specs.Rows.{rowCount, rowSound, isNumeric}
 use Rattle.content.specs.Content.{digitBytes, digitCharacters, unsignedLast}
 use Rattle.tables.specs.Operands.{Lent, operandSound, switchSound, rowOf, operandBytes, liesWithin, Within}
 use Rattle.tables.specs.Refusals.{firstOf}
@@ -27,12 +26,9 @@ use Rattle.tables.proofs.Tests.{both, four, either}
 use Rattle.tables.proofs.Lines.{every-sound, AllSound, lines-sound}
 use Rattle.tables.proofs.Bytes.{row-facts, digits-fit, scale-small, item-there, literal-there, operand-length}
 use Rattle.content.proofs.Bytes.{but-last-length}
-use Rattle.compare.specs.declared.Number.{Number}
-use Rattle.compare.specs.declared.Order.{Order}
-use Rattle.compare.specs.Order.{relationHolds}
-use Rattle.compare.specs.Compared.{numberOf, scaledOrder}
-use Rattle.values.specs.Comparison.{Side, side, sideOf, numeric, valueOf, givesDigits, characters, comparison, invalid, faulty}
-use Rattle.values.specs.Truth.{truth, turned, relationOutcome, Readable, Fit, Sided, Numeral}
+use Rattle.compare.specs.Compared.{scaledOrder}
+use Rattle.values.specs.Comparison.{Side, side, sideOf, numeric, valueOf, givesDigits, characters, comparison}
+use Rattle.values.specs.Truth.{Readable, Fit, Near, Sided, Numeral}
 
 -- where no line on the tables applies and the record holds its items, a sound operand is fit to be read
 module _ (lent : Lent) (content : List ℕ) (x : ℕ) (tables : firstOf (tableLines lent) ≡ Sound) (holds : recordCheck lent content ≡ Sound) (there : operandSound lent x ≡ true) where
@@ -66,10 +62,16 @@ switch-index lent x e =
     (λ off. leb-true _ _ (both (lent .off) (leb (indexOf x) 7) (simp or-false at (rw (eqb-true (x / 65536) 3 off) at (p .1))) .1))
     (either (isOn x) (isOff x) (p .0))
 
--- a fit side has bytes, and holds a number where its row is numeric
+-- a fit side has bytes
 pub some-bytes : {s : Side} → Fit s → 1 ≤ length (s .bytes)
 some-bytes {s} f = omega (arith, row-facts (s .row) (f .sound) .some)
 
+-- and an offset in the record of one of its bytes is a small number
+pub fit-near : {s : Side} → Fit s → Near (s .row) (s .bytes)
+fit-near {s} f =
+    record { offset = row-facts (s .row) (f .sound) .near; most = omega (arith, f .sized, row-facts (s .row) (f .sound) .most) }
+
+-- it holds a number where its row is numeric
 pub numeral : {s : Side} → Fit s → isNumeric (s .row) ≡ true → Numeral (s .row) (s .bytes)
 numeral {s} f n =
     record {
@@ -77,6 +79,7 @@ numeral {s} f n =
       some = some-bytes f;
       digits = digits-fit (s .row) (s .bytes) (f .sound) n (f .sized);
       scaled = scale-small (s .row) (f .sound);
+      near = fit-near f;
     }
 
 -- what a side that holds a number gives to the code that reads it
@@ -85,20 +88,6 @@ pub read-fits : {row : Row} {bytes : List ℕ} → Numeral row bytes
 read-fits {row} n =
     let k = both (leb 3 (row .kind)) (leb (row .kind) 6) (n .kind) in
     ((leb-true _ _ (k .0), leb-true _ _ (k .1)), (n .some, n .digits))
-
--- what the number that is read of a numeric side says of it, alone and beside another numeric side, which is no group
-pub number-invalid : (s : Side) {n : Number} → numeric s ≡ true → n ≡ numberOf (s .row .kind) (s .bytes)
-    → s .item && not (n .valid) ≡ invalid s
-number-invalid s m e = rw (e, m, and-true (s .item))
-
-no-group : (row : Row) → isNumeric row ≡ true → isGroup row ≡ false
-no-group row n =
-    let three = leb-true 3 (row .kind) (both (leb 3 (row .kind)) (leb (row .kind) 6) n .0) in
-    ne-eqb (row .kind) 0 (λ e. omega (arith, three, e))
-
-pub number-faulty : (s o : Side) {n : Number} → numeric s ≡ true → numeric o ≡ true → n ≡ numberOf (s .row .kind) (s .bytes)
-    → s .item && not (n .valid) ≡ faulty s o
-number-faulty s o m k e = rw (no-group (o .row) k, and-true (invalid s)) (number-invalid s m e)
 
 pub by-value : (s o : Side) → numeric s ≡ true → numeric o ≡ true
     → comparison s o ≡ scaledOrder (valueOf s) (s .row .scale) (valueOf o) (o .row .scale)
@@ -139,18 +128,6 @@ module _ {lent : Lent} {content : List ℕ} {x : ℕ} (s : Sided lent content x)
 
   pub read-fit : Fit (side item row bytes)
   read-fit = subst⁻¹ Fit read-side (s .fit)
-
--- what a relation comes to, by the flags and the order that the code has of the two sides that it reads
-module _ (word : ℕ) (negated : Bool) {s s' o o' : Side} (left : s ≡ s') (right : o ≡ o') {f g : Bool} (e : f ≡ faulty s o) (h : g ≡ faulty o s) where
-  stops : f || g ≡ faulty s' o' || faulty o' s'
-  stops = ap₂ _||_ (e ∙ ap₂ faulty left right) (h ∙ ap₂ faulty right left)
-
-  pub relation-stops : f || g ≡ true → Fault ≡ relationOutcome word negated s' o'
-  relation-stops t = rw (sym stops ∙ t)
-
-  pub relation-goes : f || g ≡ false → {order : Order} → order ≡ comparison s o
-      → truth (turned negated (relationHolds word order)) ≡ relationOutcome word negated s' o'
-  relation-goes t k = rw (sym stops ∙ t, k ∙ ap₂ comparison left right)
 
 -- what a readable condition gives to the code, by what it tests
 module _ {lent : Lent} {content : List ℕ} {subject relation object : ℕ} (readable : Readable lent content subject relation object) where

@@ -1,9 +1,10 @@
 -- Document 01, "Truth on a record": how the two sides of a relation compare.
 use mathlib.Core.Bool.{Bool, not, cond, _&&_}
 use mathlib.Core.List.{List}
-use Prim.Native.Nat.{ℕ}
+use Prim.Native.Nat.{ℕ, _+_}
 use lib.IntN.{ℤ}
-use Rattle.content.specs.Content.{validContent, digitCharacters, value}
+use Rattle.content.specs.Content.{digitCharacters, value}
+use Rattle.content.specs.WrongByte.{Wrong, Nowhere, At, firstWrong}
 use Rattle.tables.specs.declared.Row.{Row}
 use Rattle.tables.specs.Tokens.{isItem}
 use Rattle.tables.specs.Rows.{isGroup, isNumeric}
@@ -47,10 +48,15 @@ comparison s o =
     (scaledOrder (valueOf s) (s .row .scale) (valueOf o) (o .row .scale))
     (characterOrder (characters s o) (characters o s))
 
--- a numeric item "with invalid content"
-abbrev pub invalid : Side → Bool
-invalid s = s .item && numeric s && not (validContent (s .row .kind) (s .bytes))
+-- a place in a field, as an offset in the record
+abbrev pub moved : ℕ → Wrong → Wrong
+moved offset Nowhere = Nowhere
+moved offset (At i) = At (offset + i)
 
--- a relation that "uses a numeric item's value or digits with invalid content": beside a group it uses neither
-abbrev pub faulty : Side → Side → Bool
-faulty s other = invalid s && not (group other)
+-- "the item's first wrong byte as an offset in the record": a literal has none, since 4 has looked at it
+abbrev pub wrongByte : Side → Wrong
+wrongByte s = cond (s .item) (moved (s .row .offset) (firstWrong (s .row .kind) (s .bytes))) Nowhere
+
+-- The fault of a side of a relation, beside a row. A relation "uses a numeric item's value or digits"; beside a group it uses neither.
+abbrev pub fault : Side → Row → Wrong
+fault s other = cond (isGroup other) Nowhere (wrongByte s)

@@ -1,18 +1,19 @@
 -- Document 01, "Truth on a record": what one simple condition comes to.
 use mathlib.Core.Path.{_≡_}
-use mathlib.Core.Bool.{Bool, true, false, not, cond, _||_}
+use mathlib.Core.Bool.{Bool, true, false, not, cond}
 use mathlib.Core.List.{List}
 use Prim.Native.Nat.{ℕ, _≤_}
 use lib.ListN.{length}
 use lib.IntN.{pos}
 use Rattle.tables.specs.declared.Outcome.{Outcome}
-use Rattle.tables.specs.declared.Outcome.the-variants.{True, False, Fault}
+use Rattle.tables.specs.declared.Outcome.the-variants.{True, False, Stopped}
 use Rattle.typing.specs.declared.Test.{Test}
 use Rattle.typing.specs.declared.Test.the-variants.{Switch, Relation, Class, Sign, Unknown}
 use Rattle.tables.specs.declared.Check.the-variants.{Sound}
 use Rattle.tables.specs.declared.Row.{Row}
 use Rattle.tables.specs.Rows.{rowSound, isNumeric}
 use Rattle.content.specs.Content.{digitBytes}
+use Rattle.content.specs.WrongByte.{Wrong, Nowhere, At}
 use Rattle.tables.specs.Operands.{Lent, Within}
 use Rattle.tables.specs.Refusals.{firstOf}
 use Rattle.tables.specs.Tables.{tableLines, recordCheck}
@@ -20,7 +21,7 @@ use Rattle.typing.specs.Tests.{testOf}
 use Rattle.typing.specs.Shape.{shapeSound}
 use Rattle.typing.specs.Typing.{typed}
 use Rattle.compare.specs.Order.{orderℤ, relationHolds, signHolds}
-use Rattle.values.specs.Comparison.{Side, sideOf, valueOf, comparison, invalid, faulty}
+use Rattle.values.specs.Comparison.{Side, sideOf, valueOf, comparison, wrongByte, fault}
 use Rattle.compare.specs.Classes.{classHolds}
 use Rattle.compare.specs.Switches.{switchHolds}
 
@@ -32,17 +33,22 @@ truth false = False
 abbrev pub turned : Bool → Bool → Bool
 turned negated b = cond negated (not b) b
 
+-- the stop at a wrong byte of a side, or what comes where there is none
+abbrev pub orStop : Wrong → Outcome → Outcome
+orStop Nowhere out = out
+orStop (At byte) out = Stopped (record { byte = byte })
+
 -- "A reached relation or sign condition that uses a numeric item's value or digits with invalid content stops all with refusal
--- 13. Class conditions never stop."
+-- 13. Class conditions never stop." Document 02, c): "the subject's fault before the object's"
 abbrev pub relationOutcome : ℕ → Bool → Side → Side → Outcome
 relationOutcome word negated s o =
-    cond (faulty s o || faulty o s) Fault (truth (turned negated (relationHolds word (comparison s o))))
+    orStop (fault s (o .row)) (orStop (fault o (s .row)) (truth (turned negated (relationHolds word (comparison s o)))))
 
 abbrev pub classOutcome : ℕ → Bool → Side → Outcome
 classOutcome word negated s = truth (turned negated (classHolds word (s .row .kind) (s .bytes)))
 
 abbrev pub signOutcome : ℕ → Bool → Side → Outcome
-signOutcome word negated s = cond (invalid s) Fault (truth (turned negated (signHolds word (orderℤ (valueOf s) (pos 0)))))
+signOutcome word negated s = orStop (wrongByte s) (truth (turned negated (signHolds word (orderℤ (valueOf s) (pos 0)))))
 
 module _ (lent : Lent) (content : List ℕ) (switches : ℕ) where
   abbrev pub testOutcome : Test → ℕ → ℕ → Outcome
@@ -52,7 +58,7 @@ module _ (lent : Lent) (content : List ℕ) (switches : ℕ) where
   testOutcome (Class word negated) subject object = classOutcome word negated (sideOf lent content subject)
   testOutcome (Sign word negated) subject object = signOutcome word negated (sideOf lent content subject)
   -- no simple condition that is well typed asks this
-  testOutcome Unknown subject object = Fault
+  testOutcome Unknown subject object = False
 
   -- "A simple condition gives true, false or its stop."
   unfoldable pub outcome : ℕ → ℕ → ℕ → Outcome
@@ -76,9 +82,15 @@ pub record Sided (lent : Lent) (content : List ℕ) (token : ℕ) : Type 0 where
   pub within : Within lent content token
   pub fit : Fit (sideOf lent content token)
 
+-- a part that starts and ends not too far from the record's start
+pub record Near (row : Row) (bytes : List ℕ) : Type 0 where
+  pub offset : row .offset ≤ 65535
+  pub most : length bytes ≤ 65535
+
 -- a side that holds a number: at most 18 digits, at most 18 of them after the point
 pub record Numeral (row : Row) (bytes : List ℕ) : Type 0 where
   pub kind : isNumeric row ≡ true
   pub some : 1 ≤ length bytes
   pub digits : length (digitBytes (row .kind) bytes) ≤ 18
   pub scaled : row .scale ≤ 18
+  pub near : Near row bytes

@@ -1,40 +1,42 @@
 // The two sides of a relation: whether one is faulty, and how they compare.
 ghost use mathlib.Core.Path.{_≡_};
-ghost use mathlib.Core.Bool.{false, cond, not, _&&_};
+ghost use mathlib.Core.Bool.{true, false, cond, not, _&&_};
 ghost use Prim.Native.Nat.{_≤_};
 ghost use lib.ListN.{length};
 ghost use Rattle.tables.specs.Rows.{isGroup, isNumeric};
 ghost use Rattle.content.specs.Content.{digitBytes};
-ghost use Rattle.values.specs.Comparison.{side, comparison, invalid};
-ghost use Rattle.values.specs.Truth.{Fit};
+ghost use Rattle.content.specs.WrongByte.{nowhere, validContent};
+ghost use Rattle.values.specs.Comparison.{side, comparison, wrongByte, fault};
+ghost use Rattle.values.specs.Truth.{Fit, Near, orStop};
 use compare::Order;
 use compare::characters::compare_characters;
 use content::fields::digit_bytes;
+use content::fields::first_wrong;
 use content::fields::valid_content;
+use tables::Outcome;
 use tables::Row;
+use tables::Stop;
 use tables::rows::is_group;
 use tables::rows::is_numeric;
 
-// Whether a side is a numeric item with invalid content.
-fn is_invalid(item: bool, row: Row, bytes: &[u8]) -> bool
+// Whether a relation with another side stops at this one. Beside a group it is not looked at.
+pub fn is_faulty(item: bool, row: Row, bytes: &[u8], other: Row) -> bool
     requires { ⌜ 1 ≤ length (now bytes) ⌝ }
-    ensures { λ r. ⌜ r ≡ invalid (side item row (now (bytes .entry))) ⌝ }
+    ensures { λ r. ⌜ r ≡ not (nowhere (fault (side item row (now (bytes .entry))) other)) ⌝ }
 {
-    if item & is_numeric(row) {
+    if item & !is_group(other) {
         return !valid_content(row.kind, bytes);
     }
     false
 }
 
-// Whether a relation with another side stops at this one. Beside a group it is not looked at.
-pub fn is_faulty(item: bool, row: Row, bytes: &[u8], other: Row) -> bool
-    requires { ⌜ 1 ≤ length (now bytes) ⌝ }
-    ensures { λ r. ⌜ r ≡ (invalid (side item row (now (bytes .entry))) && not (isGroup other)) ⌝ }
+// The stop at the first wrong byte of an item that has one, whatever would come else.
+pub fn stop_at(row: Row, bytes: &[u8]) -> Outcome
+    requires { ⌜ Near row (now bytes) × (validContent (row .kind) (now bytes) ≡ false) ⌝ }
+    ensures { λ r. ⌜ ((rest : Outcome) → r ≡ orStop (wrongByte (side true row (now (bytes .entry)))) rest) ⌝ }
 {
-    if is_group(other) {
-        return false;
-    }
-    is_invalid(item, row, bytes)
+    let byte = row.offset as usize + first_wrong(row.kind, bytes);
+    Outcome::Stopped(Stop { byte })
 }
 
 fn gives_digits(item: bool, row: Row, other: Row) -> bool

@@ -7,6 +7,7 @@ ghost use Rattle.values.specs.Comparison.{side, sideOf};
 ghost use Rattle.values.specs.Truth.{truth, turned, relationOutcome, classOutcome, signOutcome, outcome, Readable, Sided, Numeral};
 use crate::sides::compare_sides;
 use crate::sides::is_faulty;
+use crate::sides::stop_at;
 use compare::classes::class_holds;
 use compare::numbers::compare_scaled;
 use compare::numbers::compare_zero;
@@ -49,8 +50,11 @@ fn value_outcome(
 {
     let left = read_number(row1.kind, bytes1);
     let right = read_number(row2.kind, bytes2);
-    if (item1 & !left.valid) | (item2 & !right.valid) {
-        return Outcome::Fault;
+    if item1 & !left.valid {
+        return stop_at(row1, bytes1);
+    }
+    if item2 & !right.valid {
+        return stop_at(row2, bytes2);
     }
     let order = compare_scaled(
         left.minus,
@@ -86,8 +90,11 @@ fn relation_outcome<'a>(
     if is_numeric(row1) & is_numeric(row2) {
         return value_outcome(item1, row1, left, item2, row2, right, word, negated);
     }
-    if is_faulty(item1, row1, left, row2) | is_faulty(item2, row2, right, row1) {
-        return Outcome::Fault;
+    if is_faulty(item1, row1, left, row2) {
+        return stop_at(row1, left);
+    }
+    if is_faulty(item2, row2, right, row1) {
+        return stop_at(row2, right);
     }
     let order = compare_sides(item1, row1, left, item2, row2, right);
     truth_value(negated, relation_holds(word, order))
@@ -127,7 +134,7 @@ fn sign_outcome<'a>(
     let part = operand_bytes(subject, items, literals, bytes, record);
     let number = read_number(row.kind, part);
     if is_item(subject) & !number.valid {
-        return Outcome::Fault;
+        return stop_at(row, part);
     }
     let order = compare_zero(number.minus, number.digits);
     truth_value(negated, sign_holds(word, order))
@@ -168,6 +175,6 @@ pub fn truth_of<'a>(
         Test::Sign { word, negated } => {
             sign_outcome(items, literals, bytes, record, subject, word, negated)
         }
-        Test::Unknown => Outcome::Fault,
+        Test::Unknown => Outcome::False,
     }
 }

@@ -3,13 +3,15 @@ use tables::Judged;
 use tables::Refusal;
 use tables::Verdict;
 use tables::Written;
+use tables::refusals::byte_of;
 use tables::refusals::number_of;
 use tables::refusals::place_of;
 
-// A refusal's number and place, or 0 and the value; how many simple conditions were judged.
+// A refusal's number, place and byte, or 0, the value and 0; how many simple conditions were judged.
 pub struct Answer {
     pub number: usize,
     pub value: usize,
+    pub byte: usize,
     pub judged: usize,
 }
 
@@ -17,6 +19,7 @@ fn of_refusal(refusal: Refusal, judged: usize) -> Answer {
     Answer {
         number: number_of(refusal) as usize,
         value: place_of(refusal),
+        byte: byte_of(refusal),
         judged,
     }
 }
@@ -26,6 +29,7 @@ pub fn of_written(given: Written) -> Answer {
         Written::Count(n) => Answer {
             number: 0,
             value: n,
+            byte: 0,
             judged: 0,
         },
         Written::Refused(refusal) => of_refusal(refusal, 0),
@@ -39,11 +43,13 @@ pub fn of_judged(given: Judged) -> Answer {
         Verdict::True => Answer {
             number: 0,
             value: 1,
+            byte: 0,
             judged,
         },
         Verdict::False => Answer {
             number: 0,
             value: 0,
+            byte: 0,
             judged,
         },
         Verdict::Refused(refusal) => of_refusal(refusal, judged),
@@ -51,5 +57,8 @@ pub fn of_judged(given: Judged) -> Answer {
 }
 
 pub fn same(one: Answer, other: Answer) -> bool {
-    (one.number == other.number) & (one.value == other.value) & (one.judged == other.judged)
+    (one.number == other.number)
+        & (one.value == other.value)
+        & (one.byte == other.byte)
+        & (one.judged == other.judged)
 }

@@ -30,10 +30,12 @@ fn answer(call: &[u8], given: Answer) {
     number(given.value);
 }
 
-// With the byte of a stop, which no refusal names yet, and the count of simple conditions judged.
+// With the byte of a stop and the count of simple conditions judged.
 fn judged(call: &[u8], given: Answer) {
     answer(call, given);
-    text(b" 0 ");
+    text(b" ");
+    number(given.byte);
+    text(b" ");
     number(given.judged);
 }
 

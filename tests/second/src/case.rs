@@ -37,9 +37,14 @@ impl Case {
         }
     }
 
-    pub fn write(&self, output: &mut impl Write) -> io::Result<()> {
+    /// The count of words that follow in the case's binary form.
+    pub fn words(&self) -> usize {
         let numbers = self.items.len() + self.literals.len() + self.tokens.len() + self.plan.len();
-        let words = numbers + self.bytes.len() + self.record.len() + 9;
+        numbers + self.bytes.len() + self.record.len() + 9
+    }
+
+    pub fn write(&self, output: &mut impl Write) -> io::Result<()> {
+        let words = self.words();
         let mut raw = Vec::with_capacity(4 * words + 4);
         put_word(&mut raw, words);
         put_words(&mut raw, &self.items);

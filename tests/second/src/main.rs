@@ -1,4 +1,4 @@
-//! Commands: generate SEED COUNT, answers, texts, stats SEED COUNT, show SEED INDEX,
+//! Commands: generate SEED COUNT [WORDS], answers, texts, stats SEED COUNT, show SEED INDEX,
 //! and with the feature `library` compare SEED COUNT.
 
 use second::answers;
@@ -8,12 +8,13 @@ use std::env;
 use std::io::{self, BufReader, BufWriter, Write};
 use std::process::ExitCode;
 
-const USAGE: &str = "usage: second generate SEED COUNT   cases to standard output
-       second answers               cases from standard input, lines to standard output
-       second texts                 the cases of a text from standard input, with their answers
-       second stats SEED COUNT      what occurs in so many cases
-       second show SEED INDEX       one case in readable form
-       second compare SEED COUNT    the library against the rules (feature library)";
+const USAGE: &str = "usage:
+second generate SEED COUNT [WORDS]   cases to standard output, longer ones than WORDS left out
+second answers                       cases from standard input, lines to standard output
+second texts                         the cases of a text from standard input, with their answers
+second stats SEED COUNT              what occurs in so many cases
+second show SEED INDEX               one case in readable form
+second compare SEED COUNT            the library against the rules (feature library)";
 
 fn main() -> ExitCode {
     let arguments: Vec<String> = env::args().skip(1).collect();
@@ -30,7 +31,10 @@ fn main() -> ExitCode {
 
 fn dispatch(words: &[&str]) -> io::Result<ExitCode> {
     match *words {
-        ["generate", seed, count] => write_cases(number(seed)?, number(count)?)?,
+        ["generate", seed, count] => write_cases(number(seed)?, number(count)?, u64::MAX)?,
+        ["generate", seed, count, words] => {
+            write_cases(number(seed)?, number(count)?, number(words)?)?
+        }
         ["answers"] => write_answers()?,
         ["texts"] => print!("{}", texts::answers(&io::read_to_string(io::stdin())?)),
         ["stats", seed, count] => write_stats(number(seed)?, number(count)?)?,
@@ -51,12 +55,14 @@ fn number(text: &str) -> io::Result<u64> {
         .map_err(|_| invalid(&format!("not a number: {text}\n{USAGE}")))
 }
 
-fn write_cases(seed: u64, count: u64) -> io::Result<()> {
+fn write_cases(seed: u64, count: u64, words: u64) -> io::Result<()> {
     let count = u32::try_from(count).map_err(|_| invalid("more cases than a word can count"))?;
     let mut output = BufWriter::with_capacity(1 << 18, io::stdout().lock());
     output.write_all(&count.to_le_bytes())?;
-    for index in 0..u64::from(count) {
-        generate::case(seed, index).write(&mut output)?;
+    let cases = (0..).map(|index| generate::case(seed, index));
+    let short = cases.filter(|case| case.words() as u64 <= words);
+    for case in short.take(count as usize) {
+        case.write(&mut output)?;
     }
     output.flush()
 }

@@ -6,7 +6,7 @@
 //! each token; a reader that turns recognised tokens into parts; one pass over
 //! the parts for each call. Nothing calls itself and nothing is kept on the heap.
 
-mod content;
+pub(crate) mod content;
 mod expand;
 mod grammar;
 mod judge;

@@ -149,6 +149,9 @@ fn token(word: &str) -> u32 {
 
 fn refusal(refused: Refusal, out: &mut String) {
     let _ = write!(out, "refused {} at {}", refused.number, refused.place);
+    if refused.number == 13 {
+        let _ = write!(out, " byte {}", refused.byte);
+    }
 }
 
 fn written(call: &str, given: Result<u32, Refusal>, output: &[u32], out: &mut String) {

@@ -147,12 +147,18 @@ fn put_digit_text(random: &mut Random, theme: &Theme, bytes: &mut [u8]) {
 /// Makes numeric content invalid, nearly always.
 pub fn spoil(random: &mut Random, bytes: &mut [u8]) {
     let last = bytes.len() - 1;
-    match random.below(6) {
+    match random.below(13) {
         0 => bytes.fill(b' '),
         1 => bytes[0] = b' ',
         2 => bytes[random.index(last + 1)] = random.pick(EDGES),
         3 => bytes[last] = random.pick(&[0x2F, 0x3A, 0x3F, 0x4A, 0x4F, 0x50, 0x59, 0x23, b'-']),
         4 => bytes[0] = random.pick(&[0x2A, 0x2B, 0x2C, 0x2D, 0x2E, 0x40, 0x41, 0x30]),
+        5..=9 => bytes[random.index(last + 1)] = random.any() as u8,
+        10..=11 => {
+            for _ in 0..random.between(2, 3) {
+                bytes[random.index(last + 1)] = random.pick(EDGES);
+            }
+        }
         _ => bytes.swap(0, last),
     }
 }

@@ -23,7 +23,7 @@ fn fill_items(random: &mut Random, case: &mut Case) {
         0 => &[0, 1, 2, 3, 4, 5, 6],
         1 => &[3, 3, 4, 4, 5, 6, 2],
         2 => &[0, 1, 2, 2, 2, 3, 4],
-        _ => &[0, 2, 3, 4, 5],
+        _ => &[0, 2, 3, 4, 5, 6],
     };
     let mut end = 0;
     for _ in 0..rows {
@@ -45,7 +45,7 @@ fn measures(random: &mut Random, kind: u32) -> (u32, u32) {
         1 | 2 if wide => (random.between(250, 256), 0),
         1 | 2 => (random.between(1, 6), 0),
         _ => {
-            let digits = if wide || random.chance(60) {
+            let digits = if wide || random.chance(90) {
                 random.between(16, 18)
             } else {
                 random.between(1, 5)

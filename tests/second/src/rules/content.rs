@@ -1,4 +1,5 @@
-//! Numeric content: whether it is valid, its digits and its sign.
+//! Numeric content: whether it is valid, its first wrong byte, its digits and
+//! its sign.
 
 /// "Valid content: kind 3, every byte hex 30 to 39. Kind 4, all but the last
 /// byte so; the last has left half 3 (plus) or 4 (minus) and right half 0 to 9.
@@ -13,6 +14,19 @@ pub fn valid_content(kind: u32, bytes: &[u8]) -> bool {
         }
         _ => true,
     }
+}
+
+/// The place in invalid content of "the item's first wrong byte" (02, c).
+pub fn first_wrong(kind: u32, bytes: &[u8]) -> Option<usize> {
+    let last = bytes.len() - 1;
+    let fits = |place: usize, byte: u8| match kind {
+        4 if place == last => matches!(byte, 0x30..=0x39 | 0x40..=0x49),
+        5 if place == 0 => matches!(byte, 0x2B | 0x2D),
+        6 if place == last => matches!(byte, 0x2B | 0x2D),
+        3..=6 => byte.is_ascii_digit(),
+        _ => true,
+    };
+    (0..=last).find(|&place| !fits(place, bytes[place]))
 }
 
 pub fn all_digits(bytes: &[u8]) -> bool {
@@ -54,5 +68,50 @@ pub fn is_minus(kind: u32, bytes: &[u8]) -> bool {
         5 => first == b'-',
         6 => last == b'-',
         _ => false,
+    }
+}
+
+#[cfg(test)]
+mod tests {
+    use super::*;
+
+    /// Every byte at every place of otherwise valid content, before and behind
+    /// another wrong byte.
+    #[test]
+    fn first_wrong_byte_at_every_place() {
+        let samples: [(u32, &[u8]); 5] = [
+            (3, b"12345"),
+            (4, b"1234E"),
+            (4, b"7"),
+            (5, b"+1234"),
+            (6, b"1234-"),
+        ];
+        for (kind, valid) in samples {
+            assert_eq!(first_wrong(kind, valid), None);
+            for place in 0..valid.len() {
+                for byte in 0..=255 {
+                    let mut changed = valid.to_vec();
+                    changed[place] = byte;
+                    let wrong = (!valid_content(kind, &changed)).then_some(place);
+                    assert_eq!(first_wrong(kind, &changed), wrong, "{kind} {changed:?}");
+                    changed[valid.len() - 1] = b' ';
+                    let wrong = wrong.unwrap_or(valid.len() - 1);
+                    assert_eq!(first_wrong(kind, &changed), Some(wrong));
+                }
+            }
+        }
+    }
+
+    #[test]
+    fn signs_by_their_own_rule() {
+        assert_eq!(first_wrong(5, b"1234"), Some(0));
+        assert_eq!(first_wrong(5, b"++12"), Some(1));
+        assert_eq!(first_wrong(6, b"+12+"), Some(0));
+        assert_eq!(first_wrong(6, b"1234"), Some(3));
+        assert_eq!(first_wrong(6, b"   "), Some(0));
+        assert_eq!(first_wrong(4, b"1E"), None);
+        assert_eq!(first_wrong(4, b"1J"), Some(1));
+        assert_eq!(first_wrong(4, b"E1"), Some(0));
+        assert_eq!(first_wrong(3, b"1E"), Some(1));
     }
 }

@@ -5,7 +5,7 @@ use super::parts::{parts, Part};
 use super::plan::{plan_row, VERDICT_FALSE, VERDICT_TRUE};
 use super::tables::Tables;
 use super::values::test;
-use super::{refuse, Judged};
+use super::Judged;
 
 /// A condition on its way: whether judging reached it, whether one of its
 /// chains was true, and whether the current chain is true so far.
@@ -60,9 +60,9 @@ pub fn answer_of_tree(tables: &Tables, tokens: &[u32], record: &[u8], switches: 
                 if level.goes_on() {
                     count += 1;
                     match test(tables, &simple, record, switches) {
-                        Some(value) => level.chain = value != not,
-                        None => {
-                            let answer = refuse(13, number);
+                        Ok(value) => level.chain = value != not,
+                        Err(stop) => {
+                            let answer = Err(stop.at(number));
                             return Judged { answer, count };
                         }
                     }
@@ -99,9 +99,9 @@ pub fn answer_of_plan(tables: &Tables, plan: &[u32], record: &[u8], switches: u8
         count += 1;
         let (simple, on_true, on_false) = plan_row(&plan[5 * row..5 * row + 5]);
         let target = match test(tables, &simple, record, switches) {
-            Some(true) => on_true,
-            Some(false) => on_false,
-            None => break refuse(13, row),
+            Ok(true) => on_true,
+            Ok(false) => on_false,
+            Err(stop) => break Err(stop.at(row)),
         };
         match target {
             VERDICT_TRUE => break Ok(true),

@@ -104,6 +104,14 @@ fn judged(tables: &Tables, text: &str, record: &[u8], switches: u8) -> Result<bo
     counted(tables, text, record, switches).answer
 }
 
+fn stopped(number: u32, place: u32, byte: u32) -> Refusal {
+    Refusal {
+        number,
+        place,
+        byte,
+    }
+}
+
 fn check_judged(items: &[u32], record: &[u8], text: &str, answer: bool) {
     assert_eq!(
         judged(&items_only(items), text, record, 0),
@@ -214,7 +222,7 @@ fn case_15_an_item_not_reached_is_not_read() {
     let tables = items_only(&ABCD);
     let record = b"1212  12";
     assert_eq!(judged(&tables, "a = b OR c = d", record, 0), Ok(true));
-    let stop = Refusal::at(13, 0);
+    let stop = stopped(13, 0, 4);
     assert_eq!(judged(&tables, "c = d OR a = b", record, 0), Err(stop));
 }
 
@@ -255,6 +263,39 @@ fn simple_conditions_judged() {
         counted(&tables, "a = b OR ALPHABETIC", b"01010101", 0).count,
         0
     );
+}
+
+/// "Refusal 13 gives, after the condition's number, the item's first wrong byte
+/// as an offset in the record, the subject's fault before the object's" (02, c).
+#[test]
+fn which_byte() {
+    // a kind 3, b kind 4, c kind 5, d kind 6, e alphanumeric, f a group.
+    let items = [
+        3, 1, 3, 0, 4, 4, 2, 0, 5, 6, 3, 0, 6, 9, 3, 0, 2, 12, 2, 0, 0, 12, 2, 0,
+    ];
+    let tables = items_only(&items);
+    let check = |text: &str, record: &[u8], place, byte| {
+        let stop = stopped(13, place, byte);
+        assert_eq!(judged(&tables, text, record, 0), Err(stop), "{text}");
+    };
+    let record = b"*12 4E12-6 7AB";
+    check("a = b", record, 0, 3);
+    check("b = a", record, 0, 3);
+    check("a = c", record, 0, 3);
+    check("c = a", record, 0, 6);
+    check("d ZERO", record, 0, 10);
+    check("e NUMERIC OR b = a", record, 1, 3);
+    check("c NEGATIVE", record, 0, 6);
+    check("d = e", record, 0, 10);
+    check("e = d", record, 0, 10);
+    check("b = b AND NOT d", record, 1, 10);
+    // Two wrong bytes in one item, and both sides wrong: the first and the left.
+    let record = b"*1   4+1+12*12";
+    check("a > b", record, 0, 2);
+    check("b > a", record, 0, 4);
+    check("c > d", record, 0, 8);
+    check("d > c", record, 0, 11);
+    assert_eq!(judged(&tables, "a < f AND c > f", record, 0), Ok(false));
 }
 
 /// "Run's is the rows it reaches, at most the plan's" (02, i).
@@ -383,7 +424,7 @@ fn numeric_beside_text_and_group() {
     let items = [5, 0, 3, 0, 2, 3, 2, 0, 0, 5, 3, 0, 6, 8, 3, 0];
     let record = b"*1212*1212-";
     let tables = items_only(&items);
-    let stop = Refusal::at(13, 0);
+    let stop = stopped(13, 0, 0);
     assert_eq!(judged(&tables, "a = b", record, 0), Err(stop));
     assert_eq!(judged(&tables, "a = c", record, 0), Ok(true));
     assert_eq!(judged(&tables, "d = b", record, 0), Ok(true));

@@ -1,10 +1,10 @@
 //! Truth of one simple condition on a record and a switch byte.
 
-use super::content::{all_digits, digits, is_minus, valid_content, Digits};
+use super::content::{all_digits, digits, first_wrong, is_minus, valid_content, Digits};
 use super::parts::Simple;
 use super::tables::{Row, Tables};
 use super::tokens::{is_item, kind_of, row_of, v_of};
-use super::WITH_NOT;
+use super::{Refusal, WITH_NOT};
 use std::cmp::Ordering;
 use std::iter;
 
@@ -25,11 +25,30 @@ fn operand<'a>(tables: &Tables<'a>, token: u32, record: &'a [u8]) -> Operand<'a>
     Operand { row, item, bytes }
 }
 
-/// "A simple condition gives true, false or its stop": None is the stop. "A
-/// reached relation or sign condition that uses a numeric item's value or
-/// digits with invalid content stops all with refusal 13. Class conditions
-/// never stop."
-pub fn test(tables: &Tables, simple: &Simple, record: &[u8], switches: u8) -> Option<bool> {
+/// What stops all judging: a refusal's number, and "the item's first wrong byte
+/// as an offset in the record" (02, c).
+#[derive(Clone, Copy, Debug, PartialEq, Eq)]
+pub struct Stop {
+    pub number: u32,
+    pub byte: u32,
+}
+
+impl Stop {
+    /// "Refusal 13 gives, after the condition's number, the item's first wrong
+    /// byte" (02, c); for run the row's number.
+    pub fn at(self, place: usize) -> Refusal {
+        Refusal {
+            number: self.number,
+            place: place as u32,
+            byte: self.byte,
+        }
+    }
+}
+
+/// "A simple condition gives true, false or its stop." "A reached relation or
+/// sign condition that uses a numeric item's value or digits with invalid
+/// content stops all with refusal 13. Class conditions never stop."
+pub fn test(tables: &Tables, simple: &Simple, record: &[u8], switches: u8) -> Result<bool, Stop> {
     let subject = || operand(tables, simple.subject, record);
     let object = || operand(tables, simple.object, record);
     let word = simple.relation % WITH_NOT;
@@ -40,7 +59,7 @@ pub fn test(tables: &Tables, simple: &Simple, record: &[u8], switches: u8) -> Op
         11..=13 => alphabetic_holds(word, subject().bytes),
         _ => sign_holds(word, number_of(&subject())?),
     };
-    Some(holds != (simple.relation >= WITH_NOT))
+    Ok(holds != (simple.relation >= WITH_NOT))
 }
 
 /// "The switch byte numbers its bits from the left: switch 0 is hex 80, switch
@@ -91,16 +110,17 @@ fn sign_holds(word: u32, value: i128) -> bool {
 /// "Two numeric sides: with digit values D1, D2 (signed) and scales s1, s2,
 /// compare D1 × 10^s2 with D2 × 10^s1 as whole numbers." Both products stay
 /// below 10^36. "Other pairs: compare bytes from the left as unsigned numbers,
-/// the shorter side filled on the right with hex 20."
-fn compare(left: &Operand, right: &Operand) -> Option<Ordering> {
+/// the shorter side filled on the right with hex 20." "The subject's fault
+/// before the object's" (02, c): the left side is asked first.
+fn compare(left: &Operand, right: &Operand) -> Result<Ordering, Stop> {
     if left.row.numeric() && right.row.numeric() {
-        let scaled = |side: &Operand, scale| Some(number_of(side)? * 10_i128.pow(scale));
+        let scaled = |side: &Operand, scale| Ok(number_of(side)? * 10_i128.pow(scale));
         let left_product = scaled(left, right.row.scale)?;
-        return Some(left_product.cmp(&scaled(right, left.row.scale)?));
+        return Ok(left_product.cmp(&scaled(right, left.row.scale)?));
     }
     let left_text = characters(left, right)?;
     let right_text = characters(right, left)?;
-    Some(compare_filled(left_text.bytes(), right_text.bytes()))
+    Ok(compare_filled(left_text.bytes(), right_text.bytes()))
 }
 
 fn compare_filled(left: &[u8], right: &[u8]) -> Ordering {
@@ -130,25 +150,31 @@ impl Characters<'_> {
 /// "A numeric side beside a kind 1 or 2 operand gives its digits as characters,
 /// without sign. A numeric item beside a group gives its bytes as they lie,
 /// unchecked. A numeric literal gives its digits in both cases."
-fn characters<'a>(side: &Operand<'a>, beside: &Operand) -> Option<Characters<'a>> {
+fn characters<'a>(side: &Operand<'a>, beside: &Operand) -> Result<Characters<'a>, Stop> {
     let as_they_lie = !side.row.numeric() || (side.item && beside.row.kind == 0);
     if as_they_lie {
-        return Some(Characters::Lent(side.bytes));
+        return Ok(Characters::Lent(side.bytes));
     }
-    Some(Characters::Picked(digits_of(side)?))
+    Ok(Characters::Picked(digits_of(side)?))
 }
 
-/// None where the content is invalid.
-fn digits_of(operand: &Operand) -> Option<Digits> {
+/// Stops at invalid content.
+fn digits_of(operand: &Operand) -> Result<Digits, Stop> {
     let (kind, bytes) = (operand.row.kind, operand.bytes);
-    valid_content(kind, bytes).then(|| digits(kind, bytes))
+    match first_wrong(kind, bytes) {
+        None => Ok(digits(kind, bytes)),
+        Some(place) => Err(Stop {
+            number: 13,
+            byte: operand.row.offset + place as u32,
+        }),
+    }
 }
 
 /// The signed digit value. "Zero has one value whatever its sign."
-fn number_of(operand: &Operand) -> Option<i128> {
+fn number_of(operand: &Operand) -> Result<i128, Stop> {
     let digits = digits_of(operand)?;
     let add_digit = |value: i64, &character: &u8| 10 * value + i64::from(character - b'0');
     let value = i128::from(digits.bytes().iter().fold(0, add_digit));
     let minus = is_minus(operand.row.kind, operand.bytes);
-    Some(if minus { -value } else { value })
+    Ok(if minus { -value } else { value })
 }

@@ -1,6 +1,7 @@
 -- Rests on the word and the kind, which pick their case of `classHolds`, on kind 3 having all digits, and on what each test of the bytes returns.
 use borrow.Author.Tests.{ne-eqb}
 use borrow.Author.Needs.{needs}
+use Rattle.content.proofs.WrongByte.{valid-digits}
 use Rattle.compare.specs.Classes.{classHolds}
 use Rattle.compare.proofs.classes.class_holds.Statement.{statement}
 use Rattle.compare.proofs.classes.class_holds.Tie as tie
@@ -10,7 +11,7 @@ valid-content-requires c κs = search needs
 
 returns : tie.Need-returns
 unfolding classHolds
-returns c = rw (c .before .before .if1 .taken, c .before .if2 .taken) (c .valid-content .ensures)
+returns c = rw (c .before .before .if1 .taken, c .before .if2 .taken) (rw valid-digits at (c .valid-content .ensures))
 
 valid-content-requires-2 : tie.Need-valid-content-requires-2
 valid-content-requires-2 c κs = search needs

@@ -8,6 +8,7 @@ use lib.Seq.{take-all}
 use borrow.Author.Needs.{needs}
 use Rattle.content.specs.Content.{all, isDigit, numberFrom}
 use Rattle.content.proofs.Bytes.{all-one-more}
+use Rattle.content.proofs.WrongByte.{valid-digits}
 use Rattle.compare.proofs.NumberLaws.{number-one-more, number-room}
 use Rattle.compare.proofs.numbers.read_digits.Statement.{statement}
 use Rattle.compare.proofs.numbers.read_digits.Tie as tie
@@ -61,7 +62,7 @@ returns : tie.Need-returns Inv-loop μ-loop
 returns c =
     let l = c .before .loop in
     let bytes = now (c .before .before .before .args .bytes) in
-    rw (l .inv .1, l .inv .2, take-all (l .i) bytes (c .loop-test .left))
+    rw (valid-digits bytes, l .inv .1, l .inv .2, take-all (l .i) bytes (c .loop-test .left))
 
 pub read-digits-spec : {M : Type 1} → statement M
 read-digits-spec =

@@ -10,6 +10,7 @@ use borrow.Author.Needs.{needs}
 use borrow.Author.Tests.{ne-eqb}
 use Rattle.content.specs.Content.{digitBytes, butLast}
 use Rattle.content.proofs.Bytes.{but-first, but-last-length}
+use Rattle.content.proofs.WrongByte.{valid-digits, valid-signed, valid-leading, valid-trailing}
 use Rattle.compare.specs.declared.Number.{Number}
 use Rattle.compare.proofs.NumberLaws.{number-last, number-room}
 use Rattle.compare.proofs.numbers.read_number.Statement.{statement}
@@ -62,6 +63,8 @@ returns-2 c =
       digits .read-digits2 .ensures,
       but-first (now (start .args .bytes)),
       digits .before .before .if2 .taken,
+      valid-digits,
+      valid-leading (now (start .args .bytes)) (start .pre .1 .0),
     )
 
 sub-last : tie.Need-sub-last
@@ -114,6 +117,8 @@ returns-3 c =
       digits .read-digits3 .ensures,
       c .before .before .before .before .before .if3 .taken,
       number-last (now (start .args .bytes)) (start .pre .1 .0),
+      valid-digits,
+      valid-signed (now (start .args .bytes)) (start .pre .1 .0),
     )
 
 is-sign-requires-2 : tie.Need-is-sign-requires-2
@@ -127,7 +132,7 @@ returns-4 c =
     let digits = c .before .before .before .before .before in
     let start = digits .before .before .before .before .before in
     let six : start .args .kind ≡ 6 = omega arith in
-    rw (c .is-minus3 .ensures, c .before .before .is-sign2 .ensures, digits .read-digits3 .ensures, six)
+    rw (c .is-minus3 .ensures, c .before .before .is-sign2 .ensures, digits .read-digits3 .ensures, six, valid-digits, valid-trailing (now (start .args .bytes)) (start .pre .1 .0))
 
 pub read-number-spec : {M : Type 1} → statement M
 read-number-spec =

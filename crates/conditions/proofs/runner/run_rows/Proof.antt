@@ -75,16 +75,19 @@ loop-again-2 c =
     rw (c .wide3 .ensures, r .plan-row .ensures) (goes-false _ _ _ p _ (k .loop .at) (k .loop .count) (k .loop .inv) (omega arith)
     (sym (rw (r .plan-row .ensures) at (c .before .before .before .truth-of .ensures)) ∙ c .before .enum-told2 .given .1))
 
-enum-told-3 : tie.Need-enum-told-3 Inv-loop μ-loop
-enum-told-3 c = search needs
+enum-known-found : tie.Need-enum-known-found Inv-loop μ-loop
+enum-known-found c = search needs
+
+refusal-of-requires : tie.Need-refusal-of-requires Inv-loop μ-loop
+refusal-of-requires c κs = search needs
 
 returns : tie.Need-returns Inv-loop μ-loop
 returns c =
-    let r = c .before .before .before in
+    let r = c .before .before .before .before .before in
     let k = r .before .before .before in
     let p = k .before .before .before .before .before .before .pre in
-    stops _ _ _ p _ (k .loop .at) (k .loop .count) (k .loop .inv) (omega arith)
-    (sym (rw (r .plan-row .ensures) at (c .before .before .truth-of .ensures)) ∙ c .enum-told3 .given .1)
+    rw (c .refusal-of .ensures) (stops _ _ _ p _ (k .loop .at) (k .loop .count) (k .loop .inv) (omega arith)
+    (sym (rw (r .plan-row .ensures) at (c .before .before .before .before .truth-of .ensures)) ∙ c .before .before .found .given .1))
 
 wide-requires-4 : tie.Need-wide-requires-4 Inv-loop μ-loop
 wide-requires-4 c κs = search needs
@@ -118,7 +121,8 @@ run-rows-spec =
     wide-requires-3
     loop-less-2
     loop-again-2
-    enum-told-3
+    enum-known-found
+    refusal-of-requires
     returns
     wide-requires-4
     returns-2

@@ -1,10 +1,13 @@
 -- Rests on the side that `row_of` and `operand_bytes` read, which holds a number, and on what the other callees return.
 use mathlib.Core.Path.{refl, sym, ap, _∙_}
 use denote.Ref.{now}
+use mathlib.Core.Bool.{false}
 use borrow.Author.Needs.{needs}
 use Rattle.tables.specs.Rows.{isNumeric}
-use Rattle.values.specs.Comparison.{side, invalid}
-use Rattle.values.proofs.Reading.{numeral, read-fits, number-invalid, read-side, read-fit}
+use Rattle.values.specs.Comparison.{side, wrongByte}
+use Rattle.values.specs.Truth.{signOutcome}
+use Rattle.values.proofs.Reading.{numeral, fit-near, read-fits, read-side, read-fit}
+use Rattle.values.proofs.Faults.{number-invalid, invalid-there, stops-there, goes-on}
 use Rattle.values.proofs.truth.sign_outcome.Statement.{statement}
 use Rattle.values.proofs.truth.sign_outcome.Tie as tie
 
@@ -23,16 +26,24 @@ read-number-requires c κs =
 is-item-requires : tie.Need-is-item-requires
 is-item-requires c κs = search needs
 
-returns : tie.Need-returns
-returns c =
+stop-at-requires : tie.Need-stop-at-requires
+stop-at-requires c κs =
     let i = c .before .before in
     let part = i .before .before in
-    let row = part .before .row-of .ensures in
     let start = part .before .before .before .before .before .before in
-    let same = read-side (start .pre .0) row (part .operand-bytes .ensures) (i .is-item .ensures) in
     let s = side (i .is-item .result) (part .before .row-of .result) (now (part .operand-bytes .result)) in
-    let flag = number-invalid s (ap isNumeric row ∙ start .pre .1) (i .before .read-number .ensures) in
-    rw (sym (flag ∙ ap invalid same) ∙ c .if1 .taken)
+    let fit = read-fit (start .pre .0) (part .before .row-of .ensures) (part .operand-bytes .ensures) (i .is-item .ensures) in
+    (fit-near fit, invalid-there false s (sym (number-invalid s (i .before .read-number .ensures)) ∙ c .if1 .taken))
+
+returns : tie.Need-returns
+returns c =
+    let i = c .before .before .before in
+    let part = i .before .before in
+    let start = part .before .before .before .before .before .before in
+    let same = read-side (start .pre .0) (part .before .row-of .ensures) (part .operand-bytes .ensures) (i .is-item .ensures) in
+    let s = side (i .is-item .result) (part .before .row-of .result) (now (part .operand-bytes .result)) in
+    let flag = sym (number-invalid s (i .before .read-number .ensures)) ∙ c .before .if1 .taken in
+    stops-there false s flag (c .stop-at .ensures) _ ∙ ap (signOutcome (start .args .word) (start .args .negated)) same
 
 compare-zero-requires : tie.Need-compare-zero-requires
 compare-zero-requires c κs = search needs
@@ -47,16 +58,13 @@ returns-2 : tie.Need-returns-2
 returns-2 c =
     let i = c .before .before .before .before .before in
     let part = i .before .before in
-    let row = part .before .row-of .ensures in
-    let bytes = part .operand-bytes .ensures in
-    let number = i .before .read-number .ensures in
     let start = part .before .before .before .before .before .before in
-    let same = read-side (start .pre .0) row bytes (i .is-item .ensures) in
+    let same = read-side (start .pre .0) (part .before .row-of .ensures) (part .operand-bytes .ensures) (i .is-item .ensures) in
     let s = side (i .is-item .result) (part .before .row-of .result) (now (part .operand-bytes .result)) in
-    let flag = number-invalid s (ap isNumeric row ∙ start .pre .1) number in
-    let order = rw (number, row, bytes) at (c .before .before .compare-zero .ensures) in
-    rw (sym (flag ∙ ap invalid same) ∙ c .before .before .before .if1 .left)
-    (rw (c .before .sign-holds .ensures, order) at (c .truth-value .ensures))
+    let flag = sym (number-invalid s (i .before .read-number .ensures)) ∙ c .before .before .before .if1 .left in
+    let order = rw (i .before .read-number .ensures) at (c .before .before .compare-zero .ensures) in
+    rw (c .before .sign-holds .ensures, order) at (c .truth-value .ensures)
+    ∙ sym (goes-on (wrongByte s) _ flag) ∙ ap (signOutcome (start .args .word) (start .args .negated)) same
 
 pub sign-outcome-spec : {M : Type 1} → statement M
 sign-outcome-spec =
@@ -66,6 +74,7 @@ sign-outcome-spec =
     operand-bytes-requires
     read-number-requires
     is-item-requires
+    stop-at-requires
     returns
     compare-zero-requires
     sign-holds-requires

@@ -1,0 +1,25 @@
+-- Rests on what `first_wrong` returns, which stands inside the field.
+use native.Mathlib.Omega.{arith}
+use denote.Ref.{now}
+use borrow.Author.Needs.{needs}
+use Rattle.content.proofs.WrongByte.{wrong-within}
+use Rattle.values.proofs.sides.stop_at.Statement.{statement}
+use Rattle.values.proofs.sides.stop_at.Tie as tie
+
+cast-byte : tie.Need-cast-byte
+cast-byte c = search needs
+
+first-wrong-requires : tie.Need-first-wrong-requires
+first-wrong-requires c κs = c .before .before .pre .1
+
+add-byte : tie.Need-add-byte
+add-byte c =
+    let start = c .before .before .before in
+    let inside = wrong-within (start .args .row .kind) (now (start .args .bytes)) (c .first-wrong .ensures) in
+    record { fits = omega (arith, inside, start .pre .0 .offset, start .pre .0 .most) }
+
+returns : tie.Need-returns
+returns c rest = rw (c .first-wrong .ensures)
+
+pub stop-at-spec : {M : Type 1} → statement M
+stop-at-spec = tie.close (tie.spec cast-byte first-wrong-requires add-byte returns)
