@@ -30,9 +30,10 @@ use Rattle.rules.specs.Calls.{conditionLines, Gives, Leaves, writing, expandGiv
 use Rattle.rules.specs.Demands.{Refuses}
 use Rattle.rules.proofs.Passing.{Passes, passed, read-as, tables-pass}
 use Rattle.rules.proofs.Answers.{writes-over, lacks-room, judges-as, few-leaves, plan-passes, run-judges, refuses, after-tables, after-plan}
-use Rattle.conditions.specs.declared.Prepared.{Prepared}
-use Rattle.conditions.specs.declared.Prepared.the-variants.{Rows, Refused as Unprepared}
-use Rattle.conditions.specs.Prepared.{Stands, Prepares, Runnable}
+use Rattle.preparer.specs.declared.Prepared.{Prepared}
+use Rattle.preparer.specs.declared.Prepared.the-variants.{Rows, Refused as Unprepared}
+use Rattle.preparer.specs.Prepared.{Stands, Prepares}
+use Rattle.runner.specs.Runs.{Runnable}
 
 -- nothing was judged
 abbrev none : Refusal → Judged

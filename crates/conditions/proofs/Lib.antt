@@ -1,4 +1,1 @@
-pub mod Preparing
-pub mod Running
 pub mod Calling
-pub mod Showing

@@ -7,12 +7,12 @@ ghost use Rattle.tables.specs.declared.Verdict.the-variants.{Refused as Unjudge
 ghost use Rattle.tables.specs.Operands.{lend};
 ghost use Rattle.grammar.specs.Judging.{walk};
 ghost use Rattle.rules.specs.Calls.{expandGives, planGives, told, judgeGives, runGives, Leaves};
-use crate::Prepared;
-use crate::prepare::prepare;
-use crate::runner::run_rows;
 use expander::expand::expanded_length;
 use expander::expand::write_expanded;
 use plans::checks::check_plan;
+use preparer::Prepared;
+use preparer::prepare::prepare;
+use runner::run_rows;
 use tables::Check;
 use tables::Judged;
 use tables::Refusal;

@@ -8,3 +8,4 @@ pub mod Demands
 pub mod Footprint
 pub mod Converting
 pub mod Samples
+pub mod Seven

@@ -44,9 +44,13 @@ typingCheck lent (refused at) = Sound
 abbrev pub tokenLines : Lent → List ℕ → List Check
 tokenLines lent tokens = tableLines lent ++ tokenCountCheck tokens ∷ tokenCheck lent tokens ∷ []
 
+-- 7 and 8
+abbrev pub grammarLine : List ℕ → Check
+grammarLine tokens = earlier (grammarCheck (read tokens)) (depthCheck tokens)
+
 -- 7 to 9
 abbrev pub grammarLines : Lent → List ℕ → List Check
-grammarLines lent tokens = earlier (grammarCheck (read tokens)) (depthCheck tokens) ∷ typingCheck lent (read tokens) ∷ []
+grammarLines lent tokens = grammarLine tokens ∷ typingCheck lent (read tokens) ∷ []
 
 -- 1 to 9
 abbrev pub conditionLines : Lent → List ℕ → List Check

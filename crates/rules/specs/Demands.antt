@@ -14,7 +14,7 @@ use Rattle.tables.specs.declared.Verdict.{Verdict}
 use Rattle.tables.specs.declared.Judged.{Judged}
 use Rattle.tables.specs.declared.Verdict.the-variants.{True, False, Refused}
 use Rattle.tables.specs.Operands.{Lent}
-use Rattle.tables.specs.Refusals.{number, firstOf}
+use Rattle.tables.specs.Refusals.{number, place, firstOf}
 use Rattle.tables.specs.Tables.{recordCheck}
 use Rattle.typing.specs.Typing.{typed}
 use Rattle.values.specs.Truth.{outcome}
@@ -24,7 +24,7 @@ use Rattle.grammar.specs.Typed.{typingFrom}
 use Rattle.grammar.specs.Expanded.{expanded}
 use Rattle.grammar.specs.Judging.{Walk, judging}
 use Rattle.grammar.specs.Plan.{planned, planRows}
-use Rattle.rules.specs.Calls.{Gives, tokenLines, answers, told, expandGives, planGives, judgeGives, runWalk, runGives}
+use Rattle.rules.specs.Calls.{Gives, tokenLines, grammarLine, answers, told, expandGives, planGives, judgeGives, runWalk, runGives}
 
 -- every part of the tree is well typed
 abbrev pub WellTyped : Lent → Tree → Type 0
@@ -66,6 +66,22 @@ pub record Refuses (lent : Lent) (tokens : List ℕ) (refusal : Refusal) : Type 
   pub expand : (output : List ℕ) → expandGives lent tokens output ≡ record { answer = Unwritten refusal; output = output }
   pub plan : (output : List ℕ) → planGives lent tokens output ≡ record { answer = Unwritten refusal; output = output }
   pub judge : (content : List ℕ) (switches : ℕ) → judgeGives lent tokens content switches ≡ record { verdict = Refused refusal; count = 0 }
+
+-- Refusals 7 and 8 by what is derived, of every sequence of tokens, however deep: 7 where "the grammar derives no such sequence", at the
+-- "length of the longest beginning that some derived sequence shares"; "of 7 and 8 the smaller place wins, and 7 on a tie".
+pub record SevenAndEight (lent : Lent) (tokens : List ℕ) : Type 0 where
+  pub derived : (t : Tree) → Derives tokens t → grammarLine tokens ≡ depthCheck tokens
+  pub seven-first : ((t : Tree) → ¬ Derives tokens t) → (at : ℕ) → Place tokens at →
+      ((eight : Refusal) → depthCheck tokens ≡ Unsound eight → at ≤ place eight) → grammarLine tokens ≡ Unsound (Grammar at)
+  pub eight-first : ((t : Tree) → ¬ Derives tokens t) → (at : ℕ) → Place tokens at →
+      (eight : Refusal) → depthCheck tokens ≡ Unsound eight → place eight < at → grammarLine tokens ≡ Unsound eight
+  -- 7, where it is given, is so placed
+  pub placed : (at : ℕ) → grammarLine tokens ≡ Unsound (Grammar at) → ((t : Tree) → ¬ Derives tokens t) × Place tokens at
+  -- and where 1 to 6 do not refuse, every call gives the one or the other
+  pub given : firstOf (tokenLines lent tokens) ≡ Sound → (refusal : Refusal) → grammarLine tokens ≡ Unsound refusal → Refuses lent tokens refusal
+
+abbrev pub SevenAndEightGiven : Type 0
+SevenAndEightGiven = (lent : Lent) (tokens : List ℕ) → SevenAndEight lent tokens
 
 -- Demand 2. For tables and tokens that refusals 1 to 6 and 8 do not refuse: a condition is accepted exactly when the rules derive
 -- a tree whose parts are well typed; and its expanded form, its plan, its truth and its stop are those of that tree.

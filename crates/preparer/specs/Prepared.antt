@@ -1,0 +1,50 @@
+-- What the functions below the calls promise: the lines 1 to 9 have been tried, and the rows of the condition's tree stand in a
+-- buffer.
+use mathlib.Core.Path.{_≡_}
+use mathlib.Core.List.{List, [], _∷_}
+use Prim.Native.Nat.{ℕ, suc, _*_}
+use lib.ListN.{length, take}
+use Rattle.tables.specs.declared.Refusal.the-variants.{Grammar}
+use Rattle.tables.specs.declared.Check.{Check}
+use Rattle.tables.specs.declared.Check.the-variants.{Sound, Refused}
+use Rattle.tables.specs.Operands.{Lent}
+use Rattle.tables.specs.Refusals.{place, firstOf}
+use Rattle.parser.specs.declared.Parse.{Parse}
+use Rattle.parser.specs.declared.Parse.the-variants.{Accepted, Refused as Unparsed}
+use Rattle.grammar.specs.Grammar.{Tree}
+use Rattle.grammar.specs.Parser.{Reading, accepted, read}
+use Rattle.grammar.specs.Judging.{leaves}
+use Rattle.grammar.specs.Plan.{planned}
+use Rattle.preparer.specs.declared.Prepared.{Prepared}
+use Rattle.preparer.specs.declared.Prepared.the-variants.{Rows, Refused as Unprepared}
+use Rattle.rules.specs.Calls.{grammarLines, conditionLines}
+
+-- 7, of what was parsed
+abbrev pub parseCheck : Parse → Check
+parseCheck (Accepted n) = Sound
+parseCheck (Unparsed at) = Refused (Grammar at)
+
+-- how many tokens 7 is looked for in: up to the "(" at which 8 refuses
+abbrev pub parsedTokens : List ℕ → Check → ℕ
+parsedTokens tokens Sound = length tokens
+parsedTokens tokens (Refused eight) = suc (place eight)
+
+-- so many rows of a tree stand at the start of the buffer
+pub record Stands (reading : Reading) (count : ℕ) (after : List ℕ) : Type 0 where
+  pub tree : Tree
+  pub read-as : reading ≡ accepted tree
+  pub counted : count ≡ leaves tree
+  pub rows : take (count * 5) after ≡ planned tree
+
+-- what is prepared: the refusal of the lines, or the rows
+abbrev pub Readies : Check → Reading → Prepared → List ℕ → Type 0
+Readies check reading (Unprepared refusal) after = check ≡ Refused refusal
+Readies check reading (Rows count) after = (check ≡ Sound) × Stands reading count after
+
+-- 7 to 9
+pub record Resolves (lent : Lent) (tokens : List ℕ) (r : Prepared) (after : List ℕ) : Type 0 where
+  pub readied : Readies (firstOf (grammarLines lent tokens)) (read tokens) r after
+
+-- 1 to 9
+pub record Prepares (lent : Lent) (tokens : List ℕ) (r : Prepared) (after : List ℕ) : Type 0 where
+  pub readied : Readies (firstOf (conditionLines lent tokens)) (read tokens) r after

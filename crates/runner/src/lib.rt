@@ -1,0 +1,86 @@
+// Running the rows of a plan on a record and a switch byte.
+ghost use mathlib.Core.Path.{_≡_};
+ghost use Rattle.tables.specs.Operands.{lend};
+ghost use Rattle.values.specs.Truth.{outcome};
+ghost use Rattle.grammar.specs.Judging.{stopped};
+ghost use Rattle.grammar.specs.Plan.{running};
+ghost use Rattle.rules.specs.Calls.{told};
+ghost use Rattle.runner.specs.Runs.{Runnable};
+use plans::Target;
+use plans::checks::plan_row;
+use tables::Judged;
+use tables::Outcome;
+use tables::Refusal;
+use tables::Stop;
+use tables::Verdict;
+use values::truth::truth_of;
+
+fn wide(x: u32) -> usize
+    ensures { λ r. ⌜ r ≡ x ⌝ }
+{
+    x as usize
+}
+
+// The refusal of a row that stops.
+fn refusal_of(row: usize, stop: Stop) -> Refusal
+    ensures { λ r. ⌜ r ≡ stopped row stop ⌝ }
+{
+    Refusal::Data {
+        condition: row,
+        byte: stop.byte,
+    }
+}
+
+// From row 0 on, each row's target is followed: the rows left fall.
+pub fn run_rows<'a>(
+    items: &[u32],
+    literals: &[u32],
+    bytes: &'a [u8],
+    plan: &[u32],
+    record: &'a [u8],
+    switches: u8,
+) -> Judged
+    requires { ⌜ Runnable (lend (now items) (now literals) (now bytes)) (now plan) (now «record») ⌝ }
+    ensures { λ r. ⌜ r ≡ told (running (outcome (lend (now (items .entry)) (now (literals .entry)) (now (bytes .entry))) (now («record» .entry)) switches) (now (plan .entry))) ⌝ }
+{
+    let mut at: usize = 0;
+    let mut count: usize = 0;
+    while at < wide(Target::FALSE) {
+        let row = plan_row(plan, at);
+        let found = truth_of(
+            items,
+            literals,
+            bytes,
+            record,
+            switches,
+            row.subject,
+            row.relation,
+            row.object,
+        );
+        count = count + 1;
+        match found {
+            Outcome::True => {
+                at = wide(row.holds);
+            }
+            Outcome::False => {
+                at = wide(row.fails);
+            }
+            Outcome::Stopped(stop) => {
+                return Judged {
+                    verdict: Verdict::Refused(refusal_of(at, stop)),
+                    count,
+                };
+            }
+        }
+    }
+    if at == wide(Target::TRUE) {
+        return Judged {
+            verdict: Verdict::True,
+            count,
+        };
+    }
+    Judged {
+        verdict: Verdict::False,
+        count,
+    }
+}
