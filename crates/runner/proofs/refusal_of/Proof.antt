@@ -1,7 +1,7 @@
 -- Rests on the variant of the stop, which picks its case of the definition.
 use borrow.Author.Needs.{needs}
-use Rattle.conditions.proofs.runner.refusal_of.Statement.{statement}
-use Rattle.conditions.proofs.runner.refusal_of.Tie as tie
+use Rattle.runner.proofs.refusal_of.Statement.{statement}
+use Rattle.runner.proofs.refusal_of.Tie as tie
 
 enum-known-stop : tie.Need-enum-known-stop
 enum-known-stop c = search needs
