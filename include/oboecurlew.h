@@ -28,7 +28,7 @@ extern "C" {
 /* What a call says besides the number that it returns. */
 typedef struct {
     uint32_t value;      /* a refusal's place, counted from 0; else 1 or 0 for true or false (judge, run); else 0 */
-    uint32_t byte;       /* refusal 13: the item's first wrong byte, as an offset in the record; else 0 */
+    uint32_t byte;       /* refusals 13 and 17: the item's first wrong byte, as an offset in the record; else 0 */
     uint32_t judged;     /* judge, run: how many simple conditions were judged, one that stopped among them; else 0 */
     uint32_t written[6]; /* a call with outputs: the count of numbers written to each, in order; else 0 */
 } oboecurlew_answer;
@@ -48,7 +48,8 @@ enum oboecurlew_refusal {
     OBOECURLEW_ROOM = 10,         /* output shorter than needed: the numbers needed in it */
     OBOECURLEW_PLAN = 11,         /* no sound plan: 0, or the first unsound row */
     OBOECURLEW_RECORD = 12,       /* the record ends before an item does: the first such item row */
-    OBOECURLEW_DATA = 13          /* invalid numeric data reached: its simple condition; for run, its row; with the byte */
+    OBOECURLEW_DATA = 13,         /* invalid numeric data reached: its simple condition; for run, its row; with the byte */
+    OBOECURLEW_LETTERS = 17       /* invalid alphabetic data reached: as 13 */
 };
 
 /* Row kinds: group, alphabetic, alphanumeric, unsigned numeric, sign in the last byte, sign leading or trailing separate. */
@@ -105,12 +106,12 @@ uint32_t oboecurlew_plan(const uint32_t *items, size_t item_numbers, const uint3
                          const uint8_t *bytes, size_t byte_count, const uint32_t *tokens, size_t token_count,
                          uint32_t *output, size_t output_numbers, oboecurlew_answer *answer);
 
-/* Judges a condition on a record and a switch byte. Refusals 1 to 9, 12, 13. */
+/* Judges a condition on a record and a switch byte. Refusals 1 to 9, 12, 13, 17. */
 uint32_t oboecurlew_judge(const uint32_t *items, size_t item_numbers, const uint32_t *literals, size_t literal_numbers,
                           const uint8_t *bytes, size_t byte_count, const uint32_t *tokens, size_t token_count,
                           const uint8_t *record, size_t record_size, uint8_t switches, oboecurlew_answer *answer);
 
-/* Runs a plan on a record and a switch byte. Refusals 1 to 4, 11, 12, 13. */
+/* Runs a plan on a record and a switch byte. Refusals 1 to 4, 11, 12, 13, 17. */
 uint32_t oboecurlew_run(const uint32_t *items, size_t item_numbers, const uint32_t *literals, size_t literal_numbers,
                         const uint8_t *bytes, size_t byte_count, const uint32_t *plan, size_t plan_numbers,
                         const uint8_t *record, size_t record_size, uint8_t switches, oboecurlew_answer *answer);

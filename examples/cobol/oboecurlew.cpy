@@ -31,9 +31,10 @@
            88  PLAN-UNSOUND         VALUE 11.
            88  RECORD-TOO-SHORT     VALUE 12.
            88  NUMERIC-DATA-INVALID VALUE 13.
+           88  LETTERS-INVALID      VALUE 17.
       *> The refusal's place, or 1 for true and 0 for false (judge,
-      *> run); for refusal 13 the item's first wrong byte, counted from
-      *> 0 in the record; how many simple conditions were judged; the
+      *> run); for refusals 13 and 17 the item's first wrong byte,
+      *> counted from 0 in the record; how many simple conditions were judged; the
       *> numbers written to each output. What a call has nothing to say of is 0.
        01  OBOECURLEW-ANSWER.
            05  ANSWER-VALUE         BINARY-LONG UNSIGNED.

@@ -40,7 +40,7 @@ fn refusal(refused: Refusal) {
 // Of a stop, the byte that it names.
 fn byte(refused: Refusal) {
     match refused {
-        Refusal::Data { byte, .. } => {
+        Refusal::Data { byte, .. } | Refusal::Letters { byte, .. } => {
             text(b" byte ");
             number(byte);
         }

@@ -12,6 +12,7 @@ use lib.Seq.{take-suc, drop-cons, take-all}
 use lib.Dec.{eqb, leb}
 use borrow.Author.Tests.{ne-eqb, eq-eqb, lt-leb}
 use Rattle.content.specs.Content.{all, isDigit, isSign, isSignedDigit, firstByte, butFirst, butLast, lastByte}
+use Rattle.content.specs.Letters.{inAlphabet}
 use Rattle.content.specs.WrongByte.{Wrong, Nowhere, At, rightByte, rightAt, firstFrom, firstWrong, nowhere, validContent}
 use Rattle.content.proofs.Bytes.{but-last-length}
 
@@ -143,11 +144,15 @@ valid-trailing bytes h =
     (λ i l b. rw (ne-eqb (i + 1) (length bytes) (omega arith)))
     (λ b. rw (eq-eqb (length bytes - 1 + 1) (length bytes) (omega arith)))
 
-pub valid-other : (kind : ℕ) (bytes : List ℕ) → ¬ (kind ≡ 3) → ¬ (kind ≡ 4) → ¬ (kind ≡ 5) → ¬ (kind ≡ 6) → validContent kind bytes ≡ true
+pub valid-letters : (bytes : List ℕ) → validContent 1 bytes ≡ all (inAlphabet 11) bytes
 unfolding validContent
-valid-other kind bytes p q r s =
+valid-letters bytes = clean-all (rightAt 1 (length bytes)) (inAlphabet 11) 0 bytes (λ i l m b. refl)
+
+pub valid-other : (kind : ℕ) (bytes : List ℕ) → ¬ (kind ≡ 3) → ¬ (kind ≡ 4) → ¬ (kind ≡ 5) → ¬ (kind ≡ 6) → ¬ (kind ≡ 1) → validContent kind bytes ≡ true
+unfolding validContent
+valid-other kind bytes p q r s t =
     clean-all (rightAt kind (length bytes)) (λ _. true) 0 bytes
-    (λ i l m b. rw (ne-eqb kind 4 q, ne-eqb kind 5 r, ne-eqb kind 6 s, outside kind p q r s))
+    (λ i l m b. rw (ne-eqb kind 1 t, ne-eqb kind 4 q, ne-eqb kind 5 r, ne-eqb kind 6 s, outside kind p q r s))
     ∙ any bytes
 
 -- content that is not valid has a first wrong byte, which stands inside the field

@@ -1,19 +1,21 @@
--- Document 01, "Valid content", and document 02, c), "the item's first wrong byte": one rule for each byte by its position.
+-- Document 01, "Valid content", and document 02, c), g), "the item's first wrong byte": one rule for each byte by its position.
 use mathlib.Core.Bool.{Bool, true, false, cond, _&&_, _||_}
 use mathlib.Core.List.{List, [], _∷_}
 use Prim.Native.Nat.{ℕ, suc, _+_}
 use lib.ListN.{length}
 use lib.Dec.{eqb, leb}
 use Rattle.content.specs.Content.{isDigit, isSign, isSignedDigit}
+use Rattle.content.specs.Letters.{isAlphabetic}
 
 -- "kind 3, every byte hex 30 to 39. Kind 4, all but the last byte so; the last has [a sign and a digit]. Kinds 5, 6: one + or −, else
--- digits". The sign of kind 5 leads, that of kind 6 trails. Other kinds hold any bytes. A byte is the first of its field or not, and the
--- last or not.
+-- digits". The sign of kind 5 leads, that of kind 6 trails. Document 02, g): in kind 1 no "byte other than a letter or space". Other kinds
+-- hold any bytes. A byte is the first of its field or not, and the last or not.
 abbrev pub rightByte : ℕ → Bool → Bool → ℕ → Bool
 rightByte kind first last b =
-    cond (eqb kind 4 && last) (isSignedDigit b)
+    cond (eqb kind 1) (isAlphabetic b)
+    (cond (eqb kind 4 && last) (isSignedDigit b)
     (cond (eqb kind 5 && first || eqb kind 6 && last) (isSign b)
-    (cond (leb 3 kind && leb kind 6) (isDigit b) true))
+    (cond (leb 3 kind && leb kind 6) (isDigit b) true)))
 
 -- byte i of a field of n bytes
 abbrev pub rightAt : ℕ → ℕ → ℕ → ℕ → Bool

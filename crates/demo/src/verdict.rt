@@ -40,16 +40,26 @@ fn cells(record: &[u8]) -> usize {
     cell(line::to(column, 29), 3, record)
 }
 
+// Where a stop is.
+fn place(condition: usize, byte: usize) {
+    line::write(b" in condition ");
+    line::number(0, condition);
+    line::write(b": ");
+    word(0, logbook::field_of(byte));
+    line::write(b", byte ");
+    line::number(0, byte);
+    line::end();
+}
+
 fn refusal(refused: Refusal) {
     match refused {
         Refusal::Data { condition, byte } => {
-            line::write(b"stopped: invalid numeric data in condition ");
-            line::number(0, condition);
-            line::write(b": ");
-            word(0, logbook::field_of(byte));
-            line::write(b", byte ");
-            line::number(0, byte);
-            line::end();
+            line::write(b"stopped: invalid numeric data");
+            place(condition, byte);
+        }
+        Refusal::Letters { condition, byte } => {
+            line::write(b"stopped: invalid alphabetic data");
+            place(condition, byte);
         }
         _ => line::write(b"refused\n"),
     }

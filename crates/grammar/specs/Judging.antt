@@ -4,10 +4,11 @@ use mathlib.Core.List.{List, [], _∷_, _++_}
 use Rattle.tables.specs.declared.Outcome.{Outcome}
 use Rattle.tables.specs.declared.Outcome.the-variants.{True as Holds, False as Fails, Stopped}
 use Rattle.tables.specs.declared.Stop.{Stop}
+use Rattle.tables.specs.declared.Stop.the-variants.{Digits, Letters as Unlettered}
 use Rattle.tables.specs.declared.Verdict.{Verdict}
 use Rattle.tables.specs.declared.Verdict.the-variants.{True, False, Refused}
 use Rattle.tables.specs.declared.Refusal.{Refusal}
-use Rattle.tables.specs.declared.Refusal.the-variants.{Data}
+use Rattle.tables.specs.declared.Refusal.the-variants.{Data, Letters}
 use Rattle.grammar.specs.Grammar.{Tree, simple, negated, bracketed, both, either}
 
 -- what each simple condition comes to, by its subject, relation and object
@@ -28,9 +29,10 @@ when True a b s = a
 when False a b s = b
 when (Refused refusal) a b s = s refusal
 
--- the refusal of a stop: 13 at "its simple condition", with its byte
+-- the refusal of a stop: 13 or 17 at "its simple condition", with its byte
 abbrev pub stopped : ℕ → Stop → Refusal
-stopped n stop = Data n (stop .byte)
+stopped n (Digits byte) = Data n byte
+stopped n (Unlettered byte) = Letters n byte
 
 -- "A simple condition gives true, false or its stop"
 unfoldable pub at : ℕ → Outcome → Verdict

@@ -16,6 +16,7 @@ use Rattle.tables.specs.declared.Written.{Written}
 use Rattle.tables.specs.declared.Written.the-variants.{Count, Refused as Unwritten}
 use Rattle.tables.specs.declared.Outcome.{Outcome}
 use Rattle.tables.specs.declared.Outcome.the-variants.{True as Holds, False as Fails, Stopped}
+use Rattle.tables.specs.declared.Stop.the-variants.{Digits, Letters}
 use Rattle.tables.specs.declared.Verdict.{Verdict}
 use Rattle.tables.specs.declared.Verdict.the-variants.{True, False, Refused as Unjudged}
 use Rattle.tables.specs.Rows.{rowCount}
@@ -187,12 +188,13 @@ modest-answers : (line : Check) (w : Walk) → Low line → (line ≡ Sound → 
 modest-answers Sound w h g = g refl
 modest-answers (Refused refusal) w h g = (h .0, omega (arith, h .1))
 
--- 13
+-- 13, 17
 modest-at : (n : ℕ) (o : Outcome) → n ≤ 640 → Stops 131072 o → Modest (at n o)
 unfolding at
 modest-at n Holds l h = tt
 modest-at n Fails l h = tt
-modest-at n (Stopped stop) l h = (l, h)
+modest-at n (Stopped (Digits byte)) l h = (l, h)
+modest-at n (Stopped (Letters byte)) l h = (l, h)
 
 modest-when : (v a b : Verdict) → Modest v → Modest a → Modest b → Modest (when v a b Unjudged)
 unfolding when

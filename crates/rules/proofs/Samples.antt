@@ -1,9 +1,9 @@
--- Worked examples of document 02, c), i), l), n), by computation.
+-- Worked examples of document 02, c), g), i), l), n), by computation.
 use mathlib.Core.Path.{_≡_, refl}
 use mathlib.Core.List.{List, [], _∷_}
 use Prim.Native.Nat.{ℕ}
 use mathlib.Core.Bool.{true, false}
-use Rattle.tables.specs.declared.Refusal.the-variants.{Record, Token, PlanRow as PlanFault, Data}
+use Rattle.tables.specs.declared.Refusal.the-variants.{Record, Token, PlanRow as PlanFault, Data, Letters}
 use Rattle.tables.specs.declared.Verdict.the-variants.{True, False, Refused}
 use Rattle.tables.specs.Operands.{Lent, under}
 use Rattle.content.specs.Content.{all, numberFrom}
@@ -107,3 +107,30 @@ which-byte : (judgeGives counters (0 ∷ 262158 ∷ []) spoiled 0 ≡ record { v
     × (judgeGives counters (4 ∷ 262154 ∷ 262148 ∷ 4 ∷ 262150 ∷ 0 ∷ []) spoiled 0 ≡ record { verdict = Refused (Data 1 2); count = 2 })
 unfolding all numberFrom firstFrom validContent firstFailing firstOf typed byteOrder comparison classHolds switchHolds outcome class on parse-condition read depthFrom typingFrom leaves when at judged visited judgeWalk
 which-byte = (refl, refl, refl, refl, refl, refl, refl, refl, refl)
+
+-- g): an owner of kind 1 in bytes 0 to 2, a text of kind 2 in 3 to 5, a group over both, a counter of kind 4 in 6 to 8, a second owner in 9
+-- and 10. Of the record the owner is A 7 7, the counter 1 and two blanks, the second owner a small z and a space.
+abbrev fields : Lent
+fields =
+    record {
+      off = false;
+      items = 1 ∷ 0 ∷ 3 ∷ 0 ∷ 2 ∷ 3 ∷ 3 ∷ 0 ∷ 0 ∷ 0 ∷ 6 ∷ 0 ∷ 4 ∷ 6 ∷ 3 ∷ 0 ∷ 1 ∷ 9 ∷ 2 ∷ 0 ∷ [];
+      literals = [];
+      bytes = [];
+    }
+
+abbrev typed-in : List ℕ
+typed-in = 0x41 ∷ 0x37 ∷ 0x37 ∷ 0x41 ∷ 0x42 ∷ 0x43 ∷ 0x31 ∷ 0x20 ∷ 0x20 ∷ 0x7a ∷ 0x20 ∷ []
+
+-- owner = text: 17 at 0, byte 1; text = owner: the same, the object's fault; owner < group: nothing is looked at; counter = owner: 13, byte
+-- 7, the subject's fault before the object's; owner = counter: 17; ALPHABETIC on the owner never stops, counter POSITIVE then does;
+-- second owner > text: letters and spaces only
+letters-and-digits : (judgeGives fields (0 ∷ 262151 ∷ 1 ∷ []) typed-in 0 ≡ record { verdict = Refused (Letters 0 1); count = 1 })
+    × (judgeGives fields (1 ∷ 262151 ∷ 0 ∷ []) typed-in 0 ≡ record { verdict = Refused (Letters 0 1); count = 1 })
+    × (judgeGives fields (0 ∷ 262150 ∷ 2 ∷ []) typed-in 0 ≡ record { verdict = True; count = 1 })
+    × (judgeGives fields (3 ∷ 262151 ∷ 0 ∷ []) typed-in 0 ≡ record { verdict = Refused (Data 0 7); count = 1 })
+    × (judgeGives fields (0 ∷ 262151 ∷ 3 ∷ []) typed-in 0 ≡ record { verdict = Refused (Letters 0 1); count = 1 })
+    × (judgeGives fields (0 ∷ 262155 ∷ 262148 ∷ 3 ∷ 262158 ∷ []) typed-in 0 ≡ record { verdict = Refused (Data 1 7); count = 2 })
+    × (judgeGives fields (4 ∷ 262149 ∷ 1 ∷ []) typed-in 0 ≡ record { verdict = True; count = 1 })
+unfolding all numberFrom firstFrom validContent firstFailing firstOf typed byteOrder comparison classHolds switchHolds outcome class on parse-condition read depthFrom typingFrom leaves when at judged visited judgeWalk
+letters-and-digits = (refl, refl, refl, refl, refl, refl, refl)

@@ -1,4 +1,4 @@
--- Document 02, c): the byte of a stop is a byte of the record, whatever the tables hold; and in a record that holds the items of sound
+-- Document 02, c), g): the byte of a stop is a byte of the record, whatever the tables hold; and in a record that holds the items of sound
 -- tables it is below 131,072.
 use mathlib.Core.Path.{_≡_, refl, sym, _∙_}
 use mathlib.Core.Bool.{Bool, true, false, cond}
@@ -12,6 +12,8 @@ use Rattle.content.specs.WrongByte.{Wrong, Nowhere, At, firstWrong}
 use Rattle.content.proofs.WrongByte.{wrong-within}
 use Rattle.tables.specs.declared.Outcome.{Outcome}
 use Rattle.tables.specs.declared.Outcome.the-variants.{True as Holds, False as Fails, Stopped}
+use Rattle.tables.specs.declared.Stop.{Stop}
+use Rattle.tables.specs.declared.Stop.the-variants.{Digits, Letters}
 use Rattle.tables.specs.declared.Verdict.{Verdict}
 use Rattle.tables.specs.declared.Verdict.the-variants.{True, False, Refused}
 use Rattle.tables.specs.declared.Row.{Row}
@@ -25,7 +27,7 @@ use Rattle.compare.specs.Switches.{switchHolds}
 use Rattle.compare.specs.Classes.{classHolds}
 use Rattle.compare.specs.Order.{orderℤ, relationHolds, signHolds}
 use Rattle.values.specs.Comparison.{Side, side, sideOf, valueOf, comparison, moved, wrongByte, fault}
-use Rattle.values.specs.Truth.{truth, turned, orStop, relationOutcome, signOutcome, testOutcome, outcome, Readable, Fit, Sided}
+use Rattle.values.specs.Truth.{truth, turned, stopOf, orStop, relationOutcome, signOutcome, testOutcome, outcome, Readable, Fit, Sided}
 use Rattle.values.proofs.Reading.{fit-near, read-relation, read-sign}
 use Rattle.grammar.specs.Grammar.{Tree, simple, negated, bracketed, both, either}
 use Rattle.grammar.specs.Judging.{Outcomes, leaves, when, at, judged}
@@ -39,18 +41,29 @@ module _ (bound : ℕ) where
   Near Nowhere = Unit {0}
   Near (At byte) = byte < bound
 
+  abbrev pub NearStop : Stop → Type 0
+  NearStop (Digits byte) = byte < bound
+  NearStop (Letters byte) = byte < bound
+
   abbrev pub Stops : Outcome → Type 0
   Stops Holds = Unit {0}
   Stops Fails = Unit {0}
-  Stops (Stopped stop) = stop .byte < bound
+  Stops (Stopped stop) = NearStop stop
 
   near-beside : (b : Bool) (w : Wrong) → Near w → Near (cond b Nowhere w)
   near-beside true w h = tt
   near-beside false w h = h
 
-  stops-or : (w : Wrong) (out : Outcome) → Near w → Stops out → Stops (orStop w out)
-  stops-or Nowhere out h g = g
-  stops-or (At byte) out h g = h
+  near-stop : (kind byte : ℕ) → byte < bound → NearStop (stopOf kind byte)
+  near-stop kind byte h = by (eqb kind 1)
+    where
+      by : (b : Bool) → NearStop (cond b (Letters byte) (Digits byte))
+      by true = h
+      by false = h
+
+  stops-or : (kind : ℕ) (w : Wrong) (out : Outcome) → Near w → Stops out → Stops (orStop kind w out)
+  stops-or kind Nowhere out h g = g
+  stops-or kind (At byte) out h g = near-stop kind byte h
 
   stops-truth : (b : Bool) → Stops (truth b)
   stops-truth true = tt
@@ -59,12 +72,12 @@ module _ (bound : ℕ) where
   stops-relation : (word : ℕ) (flag : Bool) (s o : Side) → Near (wrongByte s) → Near (wrongByte o) → Stops (relationOutcome word flag s o)
   stops-relation word flag s o h g =
       let holds = turned flag (relationHolds word (comparison s o)) in
-      stops-or (fault s (o .row)) (orStop (fault o (s .row)) (truth holds)) (near-beside (isGroup (o .row)) (wrongByte s) h)
-      (stops-or (fault o (s .row)) (truth holds) (near-beside (isGroup (s .row)) (wrongByte o) g) (stops-truth holds))
+      stops-or (s .row .kind) (fault s (o .row)) (orStop (o .row .kind) (fault o (s .row)) (truth holds)) (near-beside (isGroup (o .row)) (wrongByte s) h)
+      (stops-or (o .row .kind) (fault o (s .row)) (truth holds) (near-beside (isGroup (s .row)) (wrongByte o) g) (stops-truth holds))
 
   stops-sign : (word : ℕ) (flag : Bool) (s : Side) → Near (wrongByte s) → Stops (signOutcome word flag s)
   stops-sign word flag s h =
-      let holds = turned flag (signHolds word (orderℤ (valueOf s) (pos 0))) in stops-or (wrongByte s) (truth holds) h (stops-truth holds)
+      let holds = turned flag (signHolds word (orderℤ (valueOf s) (pos 0))) in stops-or (s .row .kind) (wrongByte s) (truth holds) h (stops-truth holds)
 
   module _ (lent : Lent) (content : List ℕ) (switches : ℕ) where
     -- the sides whose content a test uses
@@ -140,7 +153,8 @@ module _ (content : List ℕ) where
   unfolding at
   in-at n Holds h = tt
   in-at n Fails h = tt
-  in-at n (Stopped stop) h = h
+  in-at n (Stopped (Digits byte)) h = h
+  in-at n (Stopped (Letters byte)) h = h
 
   in-when : (v a b : Verdict) → InRecord content v → InRecord content a → InRecord content b → InRecord content (when v a b Refused)
   unfolding when

@@ -107,7 +107,7 @@ abbrev pub treeAnswer : Lent → List ℕ → ℕ → Reading → Walk
 treeAnswer lent content switches (accepted t) = judging (outcome lent content switches) t
 treeAnswer lent content switches (refused at) = walk (Unjudged (Grammar at)) []
 
--- "judge 1 to 9, 12, 13". "The rules' answer, for tokens and tables that none of 1 to 9 refuses, is refusal 12 where the table
+-- "judge 1 to 9, 12, 13", and 17 (02, g). "The rules' answer, for tokens and tables that none of 1 to 9 refuses, is refusal 12 where the table
 -- below gives it, else the answer of the derived tree."
 unfoldable pub judgeWalk : Lent → List ℕ → List ℕ → ℕ → Walk
 judgeWalk lent tokens content switches =
@@ -116,7 +116,7 @@ judgeWalk lent tokens content switches =
 abbrev pub judgeGives : Lent → List ℕ → List ℕ → ℕ → Judged
 judgeGives lent tokens content switches = told (judgeWalk lent tokens content switches)
 
--- "run 1 to 4, 11, 12, 13"
+-- "run 1 to 4, 11, 12, 13", and 17 (02, g)
 unfoldable pub runWalk : Lent → List ℕ → List ℕ → ℕ → Walk
 runWalk lent plan content switches =
     answers (firstOf (tableLines lent ++ planCheck lent plan ∷ recordCheck lent content ∷ [])) (running (outcome lent content switches) plan)

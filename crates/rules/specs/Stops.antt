@@ -1,4 +1,4 @@
--- Document 02, c): the byte of a stop is "an offset in the record".
+-- Document 02, c), g): the byte of a stop is "an offset in the record".
 use mathlib.Core.List.{List}
 use Prim.Native.Nat.{ℕ, _<_}
 use lib.ListN.{length}

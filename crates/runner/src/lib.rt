@@ -25,9 +25,15 @@ fn wide(x: u32) -> usize
 fn refusal_of(row: usize, stop: Stop) -> Refusal
     ensures { λ r. ⌜ r ≡ stopped row stop ⌝ }
 {
-    Refusal::Data {
-        condition: row,
-        byte: stop.byte,
+    match stop {
+        Stop::Digits(byte) => Refusal::Data {
+            condition: row,
+            byte,
+        },
+        Stop::Letters(byte) => Refusal::Letters {
+            condition: row,
+            byte,
+        },
     }
 }
 

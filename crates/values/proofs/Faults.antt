@@ -59,7 +59,7 @@ fault-flag s o = go (s .item) (isGroup o)
 
 -- The stop of a side, as the code makes it: whatever would come else.
 abbrev pub StopAt : Row → List ℕ → Outcome → Type 0
-StopAt row bytes out = (rest : Outcome) → out ≡ orStop (wrongByte (side true row bytes)) rest
+StopAt row bytes out = (rest : Outcome) → out ≡ orStop (row .kind) (wrongByte (side true row bytes)) rest
 
 -- a side with a fault, where it is unseen or not: it is an item of invalid content, and its stop is the answer
 module _ (unseen : Bool) (s : Side) (t : not (nowhere (cond unseen Nowhere (wrongByte s))) ≡ true) where
@@ -80,13 +80,14 @@ module _ (unseen : Bool) (s : Side) (t : not (nowhere (cond unseen Nowhere (wron
   pub invalid-there : validContent (s .row .kind) (s .bytes) ≡ false
   invalid-there = fault-is .0
 
-  pub stops-there : {out : Outcome} → StopAt (s .row) (s .bytes) out → (rest : Outcome) → out ≡ orStop (cond unseen Nowhere (wrongByte s)) rest
-  stops-there stop rest = stop rest ∙ ap (λ w. orStop w rest) (sym (fault-is .1))
+  pub stops-there : {out : Outcome} → StopAt (s .row) (s .bytes) out → (rest : Outcome)
+      → out ≡ orStop (s .row .kind) (cond unseen Nowhere (wrongByte s)) rest
+  stops-there stop rest = stop rest ∙ ap (λ w. orStop (s .row .kind) w rest) (sym (fault-is .1))
 
 -- without a fault what comes else is the answer
-pub goes-on : (w : Wrong) (rest : Outcome) → not (nowhere w) ≡ false → orStop w rest ≡ rest
-goes-on Nowhere rest t = refl
-goes-on (At i) rest t = absurd (true≢false t)
+pub goes-on : (kind : ℕ) (w : Wrong) (rest : Outcome) → not (nowhere w) ≡ false → orStop kind w rest ≡ rest
+goes-on kind Nowhere rest t = refl
+goes-on kind (At i) rest t = absurd (true≢false t)
 
 -- what a relation comes to: the subject's stop, else the object's, else its truth
 module _ (word : ℕ) (negated : Bool) {s s' o o' : Side} (left : s ≡ s') (right : o ≡ o') where
@@ -97,11 +98,11 @@ module _ (word : ℕ) (negated : Bool) {s s' o o' : Side} (left : s ≡ s') (rig
   pub object-stops : not (nowhere (fault s (o .row))) ≡ false → not (nowhere (fault o (s .row))) ≡ true → {out : Outcome}
       → StopAt (o .row) (o .bytes) out → out ≡ relationOutcome word negated s' o'
   object-stops f g stop =
-      stops-there (isGroup (s .row)) o g stop _ ∙ sym (goes-on (fault s (o .row)) _ f) ∙ ap₂ (relationOutcome word negated) left right
+      stops-there (isGroup (s .row)) o g stop _ ∙ sym (goes-on (s .row .kind) (fault s (o .row)) _ f) ∙ ap₂ (relationOutcome word negated) left right
 
   pub relation-goes : not (nowhere (fault s (o .row))) ≡ false → not (nowhere (fault o (s .row))) ≡ false → {order : Order} → order ≡ comparison s o
       → truth (turned negated (relationHolds word order)) ≡ relationOutcome word negated s' o'
   relation-goes f g k =
       ap (λ r. truth (turned negated (relationHolds word r))) k
-      ∙ sym (goes-on (fault s (o .row)) _ f ∙ goes-on (fault o (s .row)) _ g)
+      ∙ sym (goes-on (s .row .kind) (fault s (o .row)) _ f ∙ goes-on (o .row .kind) (fault o (s .row)) _ g)
       ∙ ap₂ (relationOutcome word negated) left right

@@ -57,6 +57,7 @@ moved offset (At i) = At (offset + i)
 abbrev pub wrongByte : Side → Wrong
 wrongByte s = cond (s .item) (moved (s .row .offset) (firstWrong (s .row .kind) (s .bytes))) Nowhere
 
--- The fault of a side of a relation, beside a row. A relation "uses a numeric item's value or digits"; beside a group it uses neither.
+-- The fault of a side of a relation, beside a row: "a numeric item's value or digits with invalid content", "a kind 1 item against
+-- anything but a group". Beside a group nothing is looked at; kinds 0 and 2 have no wrong byte.
 abbrev pub fault : Side → Row → Wrong
 fault s other = cond (isGroup other) Nowhere (wrongByte s)

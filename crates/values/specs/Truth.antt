@@ -4,9 +4,12 @@ use mathlib.Core.Bool.{Bool, true, false, not, cond}
 use mathlib.Core.List.{List}
 use Prim.Native.Nat.{ℕ, _≤_}
 use lib.ListN.{length}
+use lib.Dec.{eqb}
 use lib.IntN.{pos}
 use Rattle.tables.specs.declared.Outcome.{Outcome}
 use Rattle.tables.specs.declared.Outcome.the-variants.{True, False, Stopped}
+use Rattle.tables.specs.declared.Stop.{Stop}
+use Rattle.tables.specs.declared.Stop.the-variants.{Digits, Letters}
 use Rattle.typing.specs.declared.Test.{Test}
 use Rattle.typing.specs.declared.Test.the-variants.{Switch, Relation, Class, Sign, Unknown}
 use Rattle.tables.specs.declared.Check.the-variants.{Sound}
@@ -33,22 +36,27 @@ truth false = False
 abbrev pub turned : Bool → Bool → Bool
 turned negated b = cond negated (not b) b
 
--- the stop at a wrong byte of a side, or what comes where there is none
-abbrev pub orStop : Wrong → Outcome → Outcome
-orStop Nowhere out = out
-orStop (At byte) out = Stopped (record { byte = byte })
+-- the stop at a byte of an item of this kind: 17 for kind 1, 13 for the numeric kinds
+abbrev pub stopOf : ℕ → ℕ → Stop
+stopOf kind byte = cond (eqb kind 1) (Letters byte) (Digits byte)
+
+-- the stop at the wrong byte of an item of this kind, or what comes where there is none
+abbrev pub orStop : ℕ → Wrong → Outcome → Outcome
+orStop kind Nowhere out = out
+orStop kind (At byte) out = Stopped (stopOf kind byte)
 
 -- "A reached relation or sign condition that uses a numeric item's value or digits with invalid content stops all with refusal
--- 13. Class conditions never stop." Document 02, c): "the subject's fault before the object's"
+-- 13. Class conditions never stop." Document 02, g): 17 "when a reached relation uses a kind 1 item against anything but a group and it
+-- holds a byte other than a letter or space. In one relation the subject's fault, 13 or 17, comes before the object's."
 abbrev pub relationOutcome : ℕ → Bool → Side → Side → Outcome
 relationOutcome word negated s o =
-    orStop (fault s (o .row)) (orStop (fault o (s .row)) (truth (turned negated (relationHolds word (comparison s o)))))
+    orStop (s .row .kind) (fault s (o .row)) (orStop (o .row .kind) (fault o (s .row)) (truth (turned negated (relationHolds word (comparison s o)))))
 
 abbrev pub classOutcome : ℕ → Bool → Side → Outcome
 classOutcome word negated s = truth (turned negated (classHolds word (s .row .kind) (s .bytes)))
 
 abbrev pub signOutcome : ℕ → Bool → Side → Outcome
-signOutcome word negated s = orStop (wrongByte s) (truth (turned negated (signHolds word (orderℤ (valueOf s) (pos 0)))))
+signOutcome word negated s = orStop (s .row .kind) (wrongByte s) (truth (turned negated (signHolds word (orderℤ (valueOf s) (pos 0)))))
 
 module _ (lent : Lent) (content : List ℕ) (switches : ℕ) where
   abbrev pub testOutcome : Test → ℕ → ℕ → Outcome

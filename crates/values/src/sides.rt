@@ -33,10 +33,13 @@ pub fn is_faulty(item: bool, row: Row, bytes: &[u8], other: Row) -> bool
 // The stop at the first wrong byte of an item that has one, whatever would come else.
 pub fn stop_at(row: Row, bytes: &[u8]) -> Outcome
     requires { ⌜ Near row (now bytes) × (validContent (row .kind) (now bytes) ≡ false) ⌝ }
-    ensures { λ r. ⌜ ((rest : Outcome) → r ≡ orStop (wrongByte (side true row (now (bytes .entry)))) rest) ⌝ }
+    ensures { λ r. ⌜ ((rest : Outcome) → r ≡ orStop (row .kind) (wrongByte (side true row (now (bytes .entry)))) rest) ⌝ }
 {
     let byte = row.offset as usize + first_wrong(row.kind, bytes);
-    Outcome::Stopped(Stop { byte })
+    if row.kind == 1 {
+        return Outcome::Stopped(Stop::Letters(byte));
+    }
+    Outcome::Stopped(Stop::Digits(byte))
 }
 
 fn gives_digits(item: bool, row: Row, other: Row) -> bool

@@ -7,6 +7,8 @@ mod content;
 mod damage;
 mod plans;
 mod tables;
+#[cfg(test)]
+mod tests;
 
 use crate::answers::ENOUGH;
 use crate::case::Case;
@@ -154,76 +156,4 @@ fn relation_of(random: &mut Random, case: &Case) -> Option<[u32; 3]> {
     let object = find_operand(random, case, |other| facts.fits(other))?;
     let relation = random.pick(&[5, 6, 7, 7, 8, 9, 37, 38, 39]);
     Some([subject, relation, object])
-}
-
-#[cfg(test)]
-mod tests {
-    use super::*;
-    use crate::answers;
-    use crate::rules::content::first_wrong;
-    use std::collections::HashSet;
-
-    /// The content of the item that a token names, if it is one, with its row.
-    fn item(case: &Case, token: u32) -> Option<(&[u32], &[u8])> {
-        let row = case.items.get(4 * token as usize..4 * token as usize + 4)?;
-        let start = row[1] as usize;
-        Some((row, &case.record[start..start + row[2] as usize]))
-    }
-
-    /// Runs that stop with 13: every place of every size of kinds 3 to 6 is the
-    /// first wrong byte, in subjects and in objects (in one of them where there
-    /// are many digits), some with both wrong.
-    #[test]
-    fn wrong_bytes_at_every_place() {
-        let mut seen = HashSet::new();
-        let mut both = 0;
-        for index in 0..300_000 {
-            let case = case(23, index);
-            let Err(refusal) = answers::answer(&case).run.answer else {
-                continue;
-            };
-            if refusal.number != 13 {
-                continue;
-            }
-            let row = &case.plan[5 * refusal.place as usize..][..5];
-            let mut wrong = 0;
-            for (side, token) in [(0, row[0]), (1, row[2])] {
-                let is_test = row[1] % 32 >= 10;
-                let Some((item, content)) = item(&case, token).filter(|_| side == 0 || !is_test)
-                else {
-                    continue;
-                };
-                if let Some(place) = first_wrong(item[0], content) {
-                    if wrong == 0 {
-                        assert_eq!(refusal.byte, item[1] + place as u32, "case {index}");
-                        seen.insert((side, item[0], item[2], place));
-                    }
-                    wrong += 1;
-                }
-            }
-            assert!(wrong > 0, "case {index}");
-            both += u32::from(wrong == 2);
-        }
-        for kind in 3..=6_u32 {
-            for digits in (1..=5).chain(16..=18) {
-                let size = digits + u32::from(kind >= 5);
-                for place in 0..size as usize {
-                    let seen_in = |side| seen.contains(&(side, kind, size, place));
-                    let often = digits <= 5;
-                    let enough = seen_in(0) && seen_in(1) || !often && (seen_in(0) || seen_in(1));
-                    assert!(enough, "kind {kind}, size {size}, place {place}");
-                }
-            }
-        }
-        assert!(both > 1_000, "{both}");
-    }
-
-    #[test]
-    fn same_seed_same_case() {
-        for index in 0..500 {
-            assert_eq!(case(3, index), case(3, index));
-        }
-        assert_ne!(case(3, 0), case(4, 0));
-        assert_ne!(case(3, 0), case(3, 1));
-    }
 }

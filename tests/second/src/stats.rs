@@ -6,8 +6,11 @@ use crate::generate;
 use crate::rules::{self, Refusal, VERDICT_FALSE, VERDICT_TRUE};
 use std::fmt;
 
+/// One more than the greatest refusal number.
+const NUMBERS: usize = 18;
+
 /// Counts of answers by refusal number; 0 is success.
-type Histogram = [u64; 14];
+type Histogram = [u64; NUMBERS];
 
 #[derive(Default)]
 pub struct Stats {
@@ -114,7 +117,7 @@ impl fmt::Display for Stats {
     fn fmt(&self, f: &mut fmt::Formatter) -> fmt::Result {
         writeln!(f, "{} cases", self.cases)?;
         writeln!(f, "refusal   expand     plan    judge      run")?;
-        for number in 0..14 {
+        for number in 0..NUMBERS {
             writeln!(
                 f,
                 "{number:7} {:8} {:8} {:8} {:8}",

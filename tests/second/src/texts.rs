@@ -149,7 +149,7 @@ fn token(word: &str) -> u32 {
 
 fn refusal(refused: Refusal, out: &mut String) {
     let _ = write!(out, "refused {} at {}", refused.number, refused.place);
-    if refused.number == 13 {
+    if refused.number == 13 || refused.number == 17 {
         let _ = write!(out, " byte {}", refused.byte);
     }
 }

@@ -63,10 +63,10 @@ impl Theme {
 
 /// Valid content for a row of that kind and scale.
 pub fn put(random: &mut Random, theme: &Theme, kind: u32, scale: u32, bytes: &mut [u8]) {
-    if kind >= 3 {
-        put_number(random, theme, kind, scale, bytes);
-    } else {
-        put_text(random, theme, bytes);
+    match kind {
+        1 => put_letters(random, theme, bytes),
+        0 | 2 => put_text(random, theme, bytes),
+        _ => put_number(random, theme, kind, scale, bytes),
     }
 }
 
@@ -107,14 +107,42 @@ fn put_text(random: &mut Random, theme: &Theme, bytes: &mut [u8]) {
         }
         4..=6 => put_digit_text(random, theme, bytes),
         7..=9 => {
-            let letters = random.pick(&[b"AZBM ", b"azbm ", b"AbzZ "]);
-            bytes.fill_with(|| random.pick(letters));
+            put_any_letters(random, bytes);
             if random.chance(400) {
                 put_edge(random, bytes);
             }
         }
         10 => bytes.fill_with(|| random.pick(b"0123456789")),
         _ => bytes.fill_with(|| random.pick(EDGES)),
+    }
+}
+
+fn put_any_letters(random: &mut Random, bytes: &mut [u8]) {
+    let letters = random.pick(&[b"AZBM ", b"azbm ", b"AbzZ "]);
+    bytes.fill_with(|| random.pick(letters));
+}
+
+/// Letters and spaces, often the common ones or nearly.
+fn put_letters(random: &mut Random, theme: &Theme, bytes: &mut [u8]) {
+    if random.chance(300) {
+        return put_any_letters(random, bytes);
+    }
+    put_common(theme, bytes);
+    if random.chance(400) {
+        bytes[random.index(bytes.len().min(9))] = random.pick(b"AZaz M");
+    }
+}
+
+/// Bytes that are no letter and no space, near and far from them.
+const NO_LETTERS: &[u8] = &[
+    0x00, 0x1F, 0x21, 0x2D, 0x2D, 0x2F, 0x30, 0x31, 0x37, 0x39, 0x3A, 0x40, 0x5B, 0x60, 0x7B, 0x7F,
+    0x80, 0xA0, 0xC1, 0xE1, 0xFF,
+];
+
+/// Puts one to three bytes that no alphabetic item may hold.
+pub fn spoil_letters(random: &mut Random, bytes: &mut [u8]) {
+    for _ in 0..random.pick(&[1, 1, 2, 3]) {
+        bytes[random.index(bytes.len())] = random.pick(NO_LETTERS);
     }
 }
 

@@ -23,7 +23,7 @@ fn fill_items(random: &mut Random, case: &mut Case) {
         0 => &[0, 1, 2, 3, 4, 5, 6],
         1 => &[3, 3, 4, 4, 5, 6, 2],
         2 => &[0, 1, 2, 2, 2, 3, 4],
-        _ => &[0, 2, 3, 4, 5, 6],
+        _ => &[1, 1, 0, 2, 3, 4, 5, 6],
     };
     let mut end = 0;
     for _ in 0..rows {
@@ -90,9 +90,12 @@ fn fill_record(random: &mut Random, theme: &Theme, case: &mut Case) {
         }
         filled = filled.max(span(row).end);
     }
-    for row in case.items.chunks(4).filter(|row| row[0] >= 3) {
-        if random.chance(theme.rot) {
-            content::spoil(random, &mut case.record[span(row)]);
+    for row in case.items.chunks(4) {
+        let bytes = &mut case.record[span(row)];
+        match row[0] {
+            1 if random.chance(theme.rot / 2) => content::spoil_letters(random, bytes),
+            3.. if random.chance(theme.rot) => content::spoil(random, bytes),
+            _ => {}
         }
     }
 }

@@ -1,5 +1,5 @@
-//! Numeric content: whether it is valid, its first wrong byte, its digits and
-//! its sign.
+//! Content: whether it is valid, its first wrong byte, the digits and the sign
+//! of numeric content.
 
 /// "Valid content: kind 3, every byte hex 30 to 39. Kind 4, all but the last
 /// byte so; the last has left half 3 (plus) or 4 (minus) and right half 0 to 9.
@@ -27,6 +27,12 @@ pub fn first_wrong(kind: u32, bytes: &[u8]) -> Option<usize> {
         _ => true,
     };
     (0..=last).find(|&place| !fits(place, bytes[place]))
+}
+
+/// The place of the first "byte other than a letter or space" (02, g).
+pub fn first_no_letter(bytes: &[u8]) -> Option<usize> {
+    let fits = |byte: &u8| matches!(byte, b'A'..=b'Z' | b'a'..=b'z' | b' ');
+    bytes.iter().position(|byte| !fits(byte))
 }
 
 pub fn all_digits(bytes: &[u8]) -> bool {
@@ -100,6 +106,17 @@ mod tests {
                 }
             }
         }
+    }
+
+    #[test]
+    fn letters_and_spaces() {
+        let fine = |byte: u8| byte.is_ascii_alphabetic() || byte == 0x20;
+        assert_eq!((0..=255).filter(|&byte| fine(byte)).count(), 53);
+        for byte in 0..=255 {
+            let wrong = (!fine(byte)).then_some(2);
+            assert_eq!(first_no_letter(&[b'A', b' ', byte, b'z']), wrong);
+        }
+        assert_eq!(first_no_letter(b"7-"), Some(0));
     }
 
     #[test]

@@ -298,6 +298,55 @@ fn which_byte() {
     assert_eq!(judged(&tables, "a < f AND c > f", record, 0), Ok(false));
 }
 
+/// "Refuse it with 17, the condition's number and the first wrong byte, when a
+/// reached relation uses a kind 1 item against anything but a group and it holds
+/// a byte other than a letter or space" (02, g).
+#[test]
+fn digits_in_a_name_field() {
+    // a and b alphabetic, c a group, d alphanumeric, e kind 3, f kind 5.
+    let items = [
+        1, 1, 3, 0, 1, 4, 2, 0, 0, 6, 2, 0, 2, 8, 2, 0, 3, 10, 2, 0, 5, 12, 2, 0,
+    ];
+    let literals = [2, 0, 1, 0, 3, 1, 1, 0, 5, 2, 2, 0];
+    let tables = Tables {
+        literals: &literals,
+        bytes: b"B7+7",
+        ..items_only(&items)
+    };
+    let record = b"*Ab7 -12xy12+3";
+    let stops = |text: &str, record: &[u8], number, place, byte| {
+        let stop = stopped(number, place, byte);
+        assert_eq!(judged(&tables, text, record, 0), Err(stop), "{text}");
+    };
+    for beside in ["d", "e", "f", "L0", "L1", "L2"] {
+        stops(&format!("a = {beside}"), record, 17, 0, 3);
+        stops(&format!("{beside} NOT > a"), record, 17, 0, 3);
+    }
+    stops("a = b", record, 17, 0, 3);
+    stops("b = a", record, 17, 0, 5);
+    stops("c = d OR e = L1 OR b < d", record, 17, 2, 5);
+    stops("b = c OR b = a", record, 17, 1, 5);
+    // Groups and class words ask for no letters.
+    let fine = "a NOT = c AND c > b AND a NOT ALPHABETIC";
+    assert_eq!(judged(&tables, fine, record, 0), Ok(true));
+    assert_eq!(
+        judged(&tables, "NOT a ALPHABETIC-UPPER", record, 0),
+        Ok(true)
+    );
+    // The subject's fault, 13 or 17, before the object's.
+    let record = b"*Ab7  12xy 2+3";
+    stops("a = e", record, 17, 0, 3);
+    stops("e = a", record, 13, 0, 10);
+    stops("b = e", record, 13, 0, 10);
+    stops("f = a", record, 17, 0, 3);
+    // Only letters and spaces.
+    let record = b"*Az  Z12xy12+3";
+    assert_eq!(
+        judged(&tables, "a > b AND > e AND > L2", record, 0),
+        Ok(true)
+    );
+}
+
 /// "Run's is the rows it reaches, at most the plan's" (02, i).
 #[test]
 fn rows_reached() {

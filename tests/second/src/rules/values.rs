@@ -1,6 +1,8 @@
 //! Truth of one simple condition on a record and a switch byte.
 
-use super::content::{all_digits, digits, first_wrong, is_minus, valid_content, Digits};
+use super::content::{
+    all_digits, digits, first_no_letter, first_wrong, is_minus, valid_content, Digits,
+};
 use super::parts::Simple;
 use super::tables::{Row, Tables};
 use super::tokens::{is_item, kind_of, row_of, v_of};
@@ -14,6 +16,14 @@ struct Operand<'a> {
     row: Row,
     item: bool,
     bytes: &'a [u8],
+}
+
+impl Operand<'_> {
+    /// The stop with a wrong byte at a place of this item.
+    fn stop(&self, number: u32, place: usize) -> Stop {
+        let byte = self.row.offset + place as u32;
+        Stop { number, byte }
+    }
 }
 
 fn operand<'a>(tables: &Tables<'a>, token: u32, record: &'a [u8]) -> Operand<'a> {
@@ -47,7 +57,9 @@ impl Stop {
 
 /// "A simple condition gives true, false or its stop." "A reached relation or
 /// sign condition that uses a numeric item's value or digits with invalid
-/// content stops all with refusal 13. Class conditions never stop."
+/// content stops all with refusal 13. Class conditions never stop." 17: "a
+/// reached relation uses a kind 1 item against anything but a group and it
+/// holds a byte other than a letter or space" (02, g).
 pub fn test(tables: &Tables, simple: &Simple, record: &[u8], switches: u8) -> Result<bool, Stop> {
     let subject = || operand(tables, simple.subject, record);
     let object = || operand(tables, simple.object, record);
@@ -110,8 +122,9 @@ fn sign_holds(word: u32, value: i128) -> bool {
 /// "Two numeric sides: with digit values D1, D2 (signed) and scales s1, s2,
 /// compare D1 × 10^s2 with D2 × 10^s1 as whole numbers." Both products stay
 /// below 10^36. "Other pairs: compare bytes from the left as unsigned numbers,
-/// the shorter side filled on the right with hex 20." "The subject's fault
-/// before the object's" (02, c): the left side is asked first.
+/// the shorter side filled on the right with hex 20." "In one relation the
+/// subject's fault, 13 or 17, comes before the object's" (02, g): the left side
+/// is asked first.
 fn compare(left: &Operand, right: &Operand) -> Result<Ordering, Stop> {
     if left.row.numeric() && right.row.numeric() {
         let scaled = |side: &Operand, scale| Ok(number_of(side)? * 10_i128.pow(scale));
@@ -153,9 +166,21 @@ impl Characters<'_> {
 fn characters<'a>(side: &Operand<'a>, beside: &Operand) -> Result<Characters<'a>, Stop> {
     let as_they_lie = !side.row.numeric() || (side.item && beside.row.kind == 0);
     if as_they_lie {
+        check_letters(side, beside)?;
         return Ok(Characters::Lent(side.bytes));
     }
     Ok(Characters::Picked(digits_of(side)?))
+}
+
+/// 17, which literals cannot give: none is of kind 1.
+fn check_letters(side: &Operand, beside: &Operand) -> Result<(), Stop> {
+    if side.row.kind != 1 || beside.row.kind == 0 {
+        return Ok(());
+    }
+    match first_no_letter(side.bytes) {
+        None => Ok(()),
+        Some(place) => Err(side.stop(17, place)),
+    }
 }
 
 /// Stops at invalid content.
@@ -163,10 +188,7 @@ fn digits_of(operand: &Operand) -> Result<Digits, Stop> {
     let (kind, bytes) = (operand.row.kind, operand.bytes);
     match first_wrong(kind, bytes) {
         None => Ok(digits(kind, bytes)),
-        Some(place) => Err(Stop {
-            number: 13,
-            byte: operand.row.offset + place as u32,
-        }),
+        Some(place) => Err(operand.stop(13, place)),
     }
 }
 

@@ -64,7 +64,7 @@ returns-2 c =
     let flag = sym (number-invalid s (i .before .read-number .ensures)) ∙ c .before .before .before .if1 .left in
     let order = rw (i .before .read-number .ensures) at (c .before .before .compare-zero .ensures) in
     rw (c .before .sign-holds .ensures, order) at (c .truth-value .ensures)
-    ∙ sym (goes-on (wrongByte s) _ flag) ∙ ap (signOutcome (start .args .word) (start .args .negated)) same
+    ∙ sym (goes-on (s .row .kind) (wrongByte s) _ flag) ∙ ap (signOutcome (start .args .word) (start .args .negated)) same
 
 pub sign-outcome-spec : {M : Type 1} → statement M
 sign-outcome-spec =

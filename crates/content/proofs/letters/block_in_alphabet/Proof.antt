@@ -5,11 +5,11 @@ use native.Mathlib.Omega.{arith}
 use denote.Ref.{now}
 use lib.ListN.{take}
 use borrow.Author.Needs.{needs}
 use Rattle.content.specs.Content.{all}
-use Rattle.compare.specs.Classes.{inAlphabet}
+use Rattle.content.specs.Letters.{inAlphabet}
 use Rattle.content.proofs.Bytes.{all-one-more}
-use Rattle.compare.proofs.classes.block_in_alphabet.Statement.{statement}
-use Rattle.compare.proofs.classes.block_in_alphabet.Tie as tie
+use Rattle.content.proofs.letters.block_in_alphabet.Statement.{statement}
+use Rattle.content.proofs.letters.block_in_alphabet.Tie as tie
 
 abbrev Inv-loop : tie.InvT-loop
 Inv-loop word bytes fine₀ k₀ fine k = (k ≤ 16) × (fine ≡ all (inAlphabet word) (take k bytes))

@@ -8,11 +8,11 @@ use lib.ListN.{length, take, drop, length-take, length-drop}
 use lib.Seq.{take-take}
 use borrow.Author.Needs.{needs}
 use borrow.Author.Tests.{not-false}
 use Rattle.content.specs.Content.{all}
-use Rattle.compare.specs.Classes.{inAlphabet}
+use Rattle.content.specs.Letters.{inAlphabet}
 use Rattle.content.proofs.Bytes.{all-block-more}
-use Rattle.compare.proofs.classes.alphabet_blocks.Statement.{statement}
-use Rattle.compare.proofs.classes.alphabet_blocks.Tie as tie
+use Rattle.content.proofs.letters.alphabet_blocks.Statement.{statement}
+use Rattle.content.proofs.letters.alphabet_blocks.Tie as tie
 
 abbrev Inv-loop : tie.InvT-loop
 Inv-loop word bytes i₀ i = (i ≤ length bytes) × (all (inAlphabet word) (take i bytes) ≡ true)

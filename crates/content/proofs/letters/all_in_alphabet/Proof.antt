@@ -6,11 +6,11 @@ use denote.Ref.{now}
 use lib.ListN.{length, drop}
 use borrow.Author.Needs.{needs}
 use borrow.Author.Tests.{not-true, not-false}
 use Rattle.content.specs.Content.{all}
-use Rattle.compare.specs.Classes.{inAlphabet}
+use Rattle.content.specs.Letters.{inAlphabet}
 use Rattle.content.proofs.Bytes.{all-then, all-end, all-past}
-use Rattle.compare.proofs.classes.all_in_alphabet.Statement.{statement}
-use Rattle.compare.proofs.classes.all_in_alphabet.Tie as tie
+use Rattle.content.proofs.letters.all_in_alphabet.Statement.{statement}
+use Rattle.content.proofs.letters.all_in_alphabet.Tie as tie
 
 abbrev Inv-loop : tie.InvT-loop
 Inv-loop word bytes i₀ i = (i ≤ length bytes) × (all (inAlphabet word) bytes ≡ all (inAlphabet word) (drop i bytes))

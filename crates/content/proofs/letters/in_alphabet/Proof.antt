@@ -3,8 +3,8 @@ use mathlib.Core.Path.{ap₂}
 use mathlib.Core.Bool.{_||_}
 use borrow.Author.Tests.{ne-eqb}
 use borrow.Author.Needs.{needs}
-use Rattle.compare.proofs.classes.in_alphabet.Statement.{statement}
-use Rattle.compare.proofs.classes.in_alphabet.Tie as tie
+use Rattle.content.proofs.letters.in_alphabet.Statement.{statement}
+use Rattle.content.proofs.letters.in_alphabet.Tie as tie
 
 is-upper-requires : tie.Need-is-upper-requires
 is-upper-requires c κs = search needs

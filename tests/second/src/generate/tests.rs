@@ -1,0 +1,170 @@
+//! What the generated cases are sure to hold.
+
+use super::*;
+use crate::answers;
+use crate::rules::content::{first_no_letter, first_wrong};
+use std::collections::HashSet;
+
+/// The content of the item that a token names, if it is one, with its row.
+fn item(case: &Case, token: u32) -> Option<(&[u32], &[u8])> {
+    let row = case.items.get(4 * token as usize..4 * token as usize + 4)?;
+    let start = row[1] as usize;
+    Some((row, &case.record[start..start + row[2] as usize]))
+}
+
+/// A stop of a run: its number, and of the row's sides those that are wrong.
+struct Stopped<'a> {
+    number: u32,
+    wrong: Vec<Side<'a>>,
+}
+
+/// Side 0 is the subject, side 1 the object.
+struct Side<'a> {
+    side: u32,
+    row: &'a [u32],
+    place: usize,
+    byte: u8,
+    beside: u32,
+}
+
+fn first_fault(kind: u32, content: &[u8]) -> Option<usize> {
+    match kind {
+        1 => first_no_letter(content),
+        _ => first_wrong(kind, content),
+    }
+}
+
+fn stopped(case: &Case, refusal: Refusal) -> Stopped<'_> {
+    let row = &case.plan[5 * refusal.place as usize..][..5];
+    let tokens = if row[1] % 32 < 10 {
+        vec![row[0], row[2]]
+    } else {
+        vec![row[0]]
+    };
+    let mut wrong = Vec::new();
+    for (side, &token) in tokens.iter().enumerate() {
+        let Some((row, content)) = item(case, token) else {
+            continue;
+        };
+        if let Some(place) = first_fault(row[0], content) {
+            let other = tokens.get(1 - side);
+            wrong.push(Side {
+                side: side as u32,
+                row,
+                place,
+                byte: content[place],
+                beside: other.map_or(99, |&token| {
+                    let facts = Facts::of(case, token);
+                    facts.kind + if facts.literal { 10 } else { 0 }
+                }),
+            });
+        }
+    }
+    let number = refusal.number;
+    assert_eq!(refusal.byte, wrong[0].row[1] + wrong[0].place as u32);
+    Stopped { number, wrong }
+}
+
+/// The runs of so many cases that stop.
+fn each_stop(seed: u64, count: u64, mut look: impl FnMut(&Stopped)) {
+    for index in 0..count {
+        let case = case(seed, index);
+        match answers::answer(&case).run.answer {
+            Err(refusal) if matches!(refusal.number, 13 | 17) => look(&stopped(&case, refusal)),
+            _ => {}
+        }
+    }
+}
+
+/// Runs that stop with 13: every place of every size of kinds 3 to 6 is the
+/// first wrong byte, in subjects and in objects (in one of them where there
+/// are many digits), some with both wrong.
+#[test]
+fn wrong_bytes_at_every_place() {
+    let mut seen = HashSet::new();
+    let mut both = 0;
+    each_stop(23, 300_000, |stop| {
+        if stop.number == 13 {
+            let Side {
+                side, row, place, ..
+            } = stop.wrong[0];
+            seen.insert((side, row[0], row[2], place));
+            both += u32::from(stop.wrong.len() == 2);
+        }
+    });
+    for kind in 3..=6_u32 {
+        for digits in (1..=5).chain(16..=18) {
+            let size = digits + u32::from(kind >= 5);
+            for place in 0..size as usize {
+                let seen_in = |side| seen.contains(&(side, kind, size, place));
+                let often = digits <= 5;
+                let enough = seen_in(0) && seen_in(1) || !often && (seen_in(0) || seen_in(1));
+                assert!(enough, "kind {kind}, size {size}, place {place}");
+            }
+        }
+    }
+    assert!(both > 1_000, "{both}");
+}
+
+/// Runs that stop with 17: every place of sizes 1 to 6, beside every kind of
+/// item but the group and every kind of literal (10 more), digits, hyphens
+/// and bytes over 127; both sides wrong with 13 and 17 either way.
+#[test]
+fn no_letters_at_every_place() {
+    let mut places = HashSet::new();
+    let mut besides = HashSet::new();
+    let mut sorts = HashSet::new();
+    let mut pairs = HashSet::new();
+    each_stop(29, 100_000, |stop| {
+        if let [first, second] = &stop.wrong[..] {
+            pairs.insert((stop.number, first.row[0] == 1, second.row[0] == 1));
+        }
+        if stop.number != 17 {
+            return;
+        }
+        let Side {
+            side,
+            row,
+            place,
+            byte,
+            beside,
+        } = stop.wrong[0];
+        assert_eq!(row[0], 1);
+        places.insert((side, row[2], place));
+        besides.insert((side, beside));
+        sorts.insert(match byte {
+            b'0'..=b'9' => "digit",
+            b'-' => "hyphen",
+            128.. => "over 127",
+            _ => "other",
+        });
+    });
+    for side in [0, 1] {
+        for size in 1..=6 {
+            for place in 0..size as usize {
+                assert!(places.contains(&(side, size, place)));
+            }
+        }
+        for beside in [1, 2, 3, 4, 5, 6, 12, 13, 15] {
+            assert!(besides.contains(&(side, beside)), "{side} {beside}");
+        }
+    }
+    assert_eq!(besides.len(), 18);
+    assert_eq!(sorts.len(), 4);
+    let both = [
+        (17, true, false),
+        (13, false, true),
+        (17, true, true),
+        (13, false, false),
+    ];
+    assert_eq!(pairs, HashSet::from(both));
+}
+
+#[test]
+fn same_seed_same_case() {
+    for index in 0..500 {
+        assert_eq!(case(3, index), case(3, index));
+    }
+    assert_ne!(case(3, 0), case(4, 0));
+    assert_ne!(case(3, 0), case(3, 1));
+}
