@@ -18,7 +18,7 @@ use Rattle.description.specs.Stages.{blanks, inked, reach, onward, parte
 use Rattle.description.proofs.Bytes.{apart}
 use Rattle.description.proofs.Fit.{not-blank}
 
-abbrev from : ℕ → State → List ℕ → Reading
+abbrev pub from : ℕ → State → List ℕ → Reading
 from n q bs = reading (run (machine descriptions) n (mid q n []) bs)
 
 -- The word goes on as far as it may.
@@ -100,10 +100,10 @@ from-blanks n q (b ∷ bs) = by (isBlank b) refl (from-blanks (suc n) q bs)
     by false e f = let z : n + 0 ≡ n = omega arith in rw z
 
 -- after a word that ends at e, or that is none
-abbrev after-word : ℕ → State → List ℕ → Reading
+abbrev pub after-word : ℕ → State → List ℕ → Reading
 after-word e q bs = cond (parted bs) (from e q bs) (faulty (entriesOf q) e)
 
-abbrev arrive : Option State → State → ℕ → List ℕ → Reading
+abbrev pub arrive : Option State → State → ℕ → List ℕ → Reading
 arrive none q e bs = faulty (entriesOf q) e
 arrive (some r) q e bs = after-word e r bs
 
