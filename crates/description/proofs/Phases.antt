@@ -54,7 +54,7 @@ reach-prefix v (a ∷ w) (b ∷ bs) = rw (prefix-snoc v b (a ∷ w)) (by (eqb b 
         ap suc (rw j more)
     by false e more = refl
 
-eqb-suc : (a b : ℕ) → eqb (suc a) (suc b) ≡ eqb a b
+pub eqb-suc : (a b : ℕ) → eqb (suc a) (suc b) ≡ eqb a b
 eqb-suc a b = by (eqb a b) refl
   where
     by : (t : Bool) → eqb a b ≡ t → eqb (suc a) (suc b) ≡ t

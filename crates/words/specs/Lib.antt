@@ -1,1 +1,2 @@
 pub mod Initials
+pub mod Runs
