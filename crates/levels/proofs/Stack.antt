@@ -8,7 +8,7 @@ use native.Mathlib.Omega.{arith}
 use native.Mathlib.Numerals.{add-one}
 use borrow.Author.Tests.{eqb-true, leb-true}
 use lib.Dec.{eqb, leb, ltb}
-use lib.ListN.{length, getD, set, List·getD-eq-default}
+use lib.ListN.{length, getD, set}
 use lib.Seq.{getD-set-same, getD-set-other}
 use Rattle.description.specs.Machine.{bind}
 use Rattle.description.specs.Grammar.{isDigit}
@@ -144,9 +144,6 @@ module _ (g : Groups) (text : List ℕ) (p : ℕ) {a b : ℕ} (e : a ≡ getD te
 
   pub level-first : enters g (a ∷ b ∷ []) ≡ false → beginsLevel g (a ∷ []) ≡ false → Leveled.Fault p ≡ levelAt g text p
   level-first h k = rw (← e, ← f, h, k)
-
-pub no-byte : (text : List ℕ) (k : ℕ) → length text ≤ k → 0 ≡ getD text k 0
-no-byte text k l = sym (List·getD-eq-default text 0 l)
 
 -- A level number that is stored leaves those below it.
 opened-set : (stack : List ℕ) (i v d : ℕ) → d ≤ i → opened (set stack i v) d ≡ opened stack d

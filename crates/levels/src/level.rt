@@ -3,7 +3,7 @@ ghost use mathlib.Core.Path.{_≡_};
 ghost use mathlib.Core.Bool.{true};
 ghost use mathlib.Core.List.{[], _∷_};
 ghost use Prim.Native.Nat.{_≤_, _<_, _+_, _*_, _-_};
-ghost use lib.ListN.{length, getD};
+ghost use lib.ListN.{length};
 ghost use Rattle.description.specs.Grammar.{isDigit};
 ghost use Rattle.description.specs.Reader.{enters, beginsLevel};
 ghost use Rattle.description.specs.Stages.{levelAt};
@@ -11,17 +11,7 @@ ghost use Rattle.levels.specs.Stack.{groupsOf};
 use crate::open::enter;
 use crate::Entered;
 use description::Leveled;
-use words::bytes::is_digit;
-
-// The byte at a place, and 0 past the end.
-fn byte_at(text: &[u8], k: usize) -> u8
-    ensures { λ r. ⌜ r ≡ getD (now (text .entry)) k 0 ⌝ }
-{
-    if text.len() <= k {
-        return 0;
-    }
-    text[k]
-}
+use words::bytes::{byte_at, is_digit};
 
 fn wide(b: u8) -> u32
     ensures { λ r. ⌜ r ≡ b ⌝ }

@@ -7,7 +7,7 @@ use native.Mathlib.Omega.{arith}
 use native.Mathlib.Numerals.{add-one}
 use borrow.Author.Tests.{eqb-true}
 use lib.Dec.{eqb}
-use lib.ListN.{length, getD, take, drop, length-drop, drop-of-length-le}
+use lib.ListN.{length, getD, take, drop, length-drop, drop-of-length-le, List·getD-eq-default}
 use lib.Seq.{drop-cons, take-all}
 use Rattle.description.specs.Grammar.{isBlank, same}
 use Rattle.description.specs.Stages.{blanks, inked, common, met, literalAt}
@@ -112,3 +112,7 @@ same-other u v k l m h e = sym (e ∙ rw (drop-cons u k 0 l, drop-cons v k 0 m, 
 pub same-end : (u v : List ℕ) (k : ℕ) → length u ≤ k → length v ≤ k → same u v ≡ same (drop k u) (drop k v) → true ≡ same u v
 unfolding same
 same-end u v k l m e = sym (e ∙ rw (drop-of-length-le u l, drop-of-length-le v m))
+
+-- Past the end.
+pub no-byte : (text : List ℕ) (k : ℕ) → length text ≤ k → 0 ≡ getD text k 0
+no-byte text k l = sym (List·getD-eq-default text 0 l)

@@ -8,9 +8,6 @@ use Rattle.levels.specs.Stack.{groupsOf}
 use Rattle.levels.proofs.Stack.{secondBelow, second-yes, second-no, second-none}
 use Rattle.levels.proofs.level.begins_with.Statement.{statement}
 use Rattle.levels.proofs.level.begins_with.Tie as tie
-use Rattle.levels.proofs.level.begins_with.Reads as reads
-use Rattle.levels.proofs.level.begins_with.Lts as lts
-use Rattle.levels.proofs.level.enters_with.Reads as enters-with-reads
 
 abbrev Inv-loop : tie.InvT-loop
 Inv-loop stack depth waiting a n₀ n = (n ≤ 10) × (beginsLevel (groupsOf stack depth waiting) (a ∷ []) ≡ secondBelow (groupsOf stack depth waiting) a n)
@@ -18,35 +15,27 @@ Inv-loop stack depth waiting a n₀ n = (n ≤ 10) × (beginsLevel (groupsOf sta
 abbrev μ-loop : tie.MeasureT-loop
 μ-loop stack depth waiting a n₀ n = n
 
--- src/level.rt:62:5
 loop-holds : tie.Need-loop-holds Inv-loop μ-loop
 loop-holds c = (omega arith, refl)
 
--- src/level.rt:63:9
 sub-n : tie.Need-sub-n Inv-loop μ-loop
 sub-n c = omega arith
 
--- src/level.rt:64:50
 add-enters-with : tie.Need-add-enters-with Inv-loop μ-loop
 add-enters-with c = omega arith
 
--- src/level.rt:64:12
 enters-with-requires : tie.Need-enters-with-requires Inv-loop μ-loop
 enters-with-requires c κs = c .before .before .before .pre
 
--- src/level.rt:65:13
 returns : tie.Need-returns Inv-loop μ-loop
 returns c = second-yes (groupsOf (now (c .before .before .before .before .before .args .stack)) (c .before .before .before .before .before .args .depth) (c .before .before .before .before .before .args .waiting)) (c .before .before .before .before .before .args .a) (c .before .before .before .loop .n) (c .before .before .loop-test .taken) (c .before .before .before .loop .inv .1) (sym (c .before .enters-with .ensures) ∙ c .if1 .taken)
 
--- src/level.rt:62:5
 loop-less : tie.Need-loop-less Inv-loop μ-loop
 loop-less c = omega arith
 
--- src/level.rt:62:5
 loop-again : tie.Need-loop-again Inv-loop μ-loop
 loop-again c = (omega arith, second-no (groupsOf (now (c .before .before .before .before .before .args .stack)) (c .before .before .before .before .before .args .depth) (c .before .before .before .before .before .args .waiting)) (c .before .before .before .before .before .args .a) (c .before .before .before .loop .n) (c .before .before .loop-test .taken) (c .before .before .before .loop .inv .1) (sym (c .before .enters-with .ensures) ∙ c .if1 .left))
 
--- src/level.rt:57:1
 returns-2 : tie.Need-returns-2 Inv-loop μ-loop
 returns-2 c = second-none (groupsOf (now (c .before .before .before .args .stack)) (c .before .before .before .args .depth) (c .before .before .before .args .waiting)) (c .before .before .before .args .a) (c .before .loop .n) (c .loop-test .left) (c .before .loop .inv .1)
 

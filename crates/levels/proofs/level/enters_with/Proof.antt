@@ -6,49 +6,34 @@ use Rattle.levels.proofs.Stack.{enters-none, enters-no-second, enters-y
 use borrow.Author.Needs.{needs}
 use Rattle.levels.proofs.level.enters_with.Statement.{statement}
 use Rattle.levels.proofs.level.enters_with.Tie as tie
-use Rattle.levels.proofs.level.enters_with.Reads as reads
-use Rattle.levels.proofs.level.enters_with.Lts as lts
-use Rattle.levels.proofs.level.two_digits.Reads as two-digits-reads
-use Rattle.levels.proofs.open.enter.Reads as enter-reads
-use Rattle.words.proofs.bytes.is_digit.Reads as is-digit-reads
 
--- src/level.rt:44:9
 is-digit-requires : tie.Need-is-digit-requires
 is-digit-requires c κs = search needs
 
--- src/level.rt:45:9
 returns : tie.Need-returns
 returns c = enters-none (groupsOf (now (c .before .before .before .args .stack)) (c .before .before .before .args .depth) (c .before .before .before .args .waiting)) (c .before .before .before .args .a) (c .before .before .before .args .b) (sym (c .before .is-digit .ensures) ∙ not-true _ (c .if1 .taken))
 
--- src/level.rt:47:9
 is-digit-requires-2 : tie.Need-is-digit-requires-2
 is-digit-requires-2 c κs = search needs
 
--- src/level.rt:48:9
 returns-2 : tie.Need-returns-2
 returns-2 c = enters-no-second (groupsOf (now (c .before .before .before .before .before .args .stack)) (c .before .before .before .before .before .args .depth) (c .before .before .before .before .before .args .waiting)) (c .before .before .before .before .before .args .a) (c .before .before .before .before .before .args .b) (sym (c .before .before .before .is-digit .ensures) ∙ not-false _ (c .before .before .if1 .left)) (sym (c .before .is-digit2 .ensures) ∙ not-true _ (c .if2 .taken))
 
--- src/level.rt:50:40
 two-digits-requires : tie.Need-two-digits-requires
 two-digits-requires c κs = ((sym (c .before .before .before .is-digit .ensures) ∙ not-false _ (c .before .before .if1 .left)) , (sym (c .before .is-digit2 .ensures) ∙ not-false _ (c .if2 .left)) )
 
--- src/level.rt:50:11
 enter-requires : tie.Need-enter-requires
 enter-requires c κs = search needs
 
--- src/level.rt:51:30
 enum-told : tie.Need-enum-told
 enum-told c = search needs
 
--- src/level.rt:52:25
 enum-told-2 : tie.Need-enum-told-2
 enum-told-2 c = search needs
 
--- src/level.rt:40:1
 returns-3 : tie.Need-returns-3
 returns-3 c = enters-yes (now (c .before .before .before .before .before .before .before .before .before .args .stack)) (c .before .before .before .before .before .before .before .before .before .args .depth) (c .before .before .before .before .before .before .before .before .before .args .waiting) (c .before .before .before .before .before .before .before .before .before .args .a) (c .before .before .before .before .before .before .before .before .before .args .b) (c .before .before .before .two-digits .result) (sym (c .before .before .before .before .before .before .before .is-digit .ensures) ∙ not-false _ (c .before .before .before .before .before .before .if1 .left)) (sym (c .before .before .before .before .before .is-digit2 .ensures) ∙ not-false _ (c .before .before .before .before .if2 .left)) (c .before .before .before .two-digits .ensures) (c .before .before .enter .ensures) (c .enum-told .given .1)
 
--- src/level.rt:40:1
 returns-4 : tie.Need-returns-4
 returns-4 c = enters-no (now (c .before .before .before .before .before .before .before .before .before .args .stack)) (c .before .before .before .before .before .before .before .before .before .args .depth) (c .before .before .before .before .before .before .before .before .before .args .waiting) (c .before .before .before .before .before .before .before .before .before .args .a) (c .before .before .before .before .before .before .before .before .before .args .b) (c .before .before .before .two-digits .result) (sym (c .before .before .before .before .before .before .before .is-digit .ensures) ∙ not-false _ (c .before .before .before .before .before .before .if1 .left)) (sym (c .before .before .before .before .before .is-digit2 .ensures) ∙ not-false _ (c .before .before .before .before .if2 .left)) (c .before .before .before .two-digits .ensures) (c .before .before .enter .ensures) (c .enum-told2 .given .1)
 

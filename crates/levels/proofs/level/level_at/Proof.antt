@@ -5,50 +5,34 @@ use Rattle.levels.proofs.Stack.{digits-of, level-yes, level-second, lev
 use borrow.Author.Needs.{needs}
 use Rattle.levels.proofs.level.level_at.Statement.{statement}
 use Rattle.levels.proofs.level.level_at.Tie as tie
-use Rattle.levels.proofs.level.level_at.Reads as reads
-use Rattle.levels.proofs.level.level_at.Lts as lts
-use Rattle.levels.proofs.level.begins_with.Reads as begins-with-reads
-use Rattle.levels.proofs.level.byte_at.Reads as byte-at-reads
-use Rattle.levels.proofs.level.enters_with.Reads as enters-with-reads
-use Rattle.levels.proofs.level.two_digits.Reads as two-digits-reads
 
--- src/level.rt:76:9
 byte-at-requires : tie.Need-byte-at-requires
 byte-at-requires c κs = search needs
 
--- src/level.rt:77:27
 add-byte-at : tie.Need-add-byte-at
 add-byte-at c = search needs
 
--- src/level.rt:77:9
 byte-at-requires-2 : tie.Need-byte-at-requires-2
 byte-at-requires-2 c κs = search needs
 
--- src/level.rt:78:8
 enters-with-requires : tie.Need-enters-with-requires
 enters-with-requires c κs = search needs
 
--- src/level.rt:79:31
 two-digits-requires : tie.Need-two-digits-requires
 two-digits-requires c κs = digits-of (groupsOf (now (c .before .before .before .before .before .before .args .stack)) (c .before .before .before .before .before .before .args .depth) (c .before .before .before .before .before .before .args .waiting)) (c .before .before .before .byte-at .result) (c .before .before .byte-at2 .result) (sym (c .before .enters-with .ensures) ∙ c .if1 .taken)
 
--- src/level.rt:79:9
 returns : tie.Need-returns
 returns c = level-yes (groupsOf (now (c .before .before .before .before .before .before .before .args .stack)) (c .before .before .before .before .before .before .before .args .depth) (c .before .before .before .before .before .before .before .args .waiting)) (now (c .before .before .before .before .before .before .before .args .text)) (c .before .before .before .before .before .before .before .args .p) (c .before .before .before .before .byte-at .ensures) (c .before .before .before .byte-at2 .ensures) (sym (c .before .before .enters-with .ensures) ∙ c .before .if1 .taken) (c .two-digits .ensures)
 
--- src/level.rt:81:8
 begins-with-requires : tie.Need-begins-with-requires
 begins-with-requires c κs = search needs
 
--- src/level.rt:82:31
 add-t12 : tie.Need-add-t12
 add-t12 c = search needs
 
--- src/level.rt:82:9
 returns-2 : tie.Need-returns-2
 returns-2 c = level-second (groupsOf (now (c .before .before .before .before .before .before .before .before .args .stack)) (c .before .before .before .before .before .before .before .before .args .depth) (c .before .before .before .before .before .before .before .before .args .waiting)) (now (c .before .before .before .before .before .before .before .before .args .text)) (c .before .before .before .before .before .before .before .before .args .p) (c .before .before .before .before .before .byte-at .ensures) (c .before .before .before .before .byte-at2 .ensures) (sym (c .before .before .before .enters-with .ensures) ∙ c .before .before .if1 .left) (sym (c .before .begins-with .ensures) ∙ c .if2 .taken)
 
--- src/level.rt:72:1
 returns-3 : tie.Need-returns-3
 returns-3 c = level-first (groupsOf (now (c .before .before .before .before .before .before .before .before .args .stack)) (c .before .before .before .before .before .before .before .before .args .depth) (c .before .before .before .before .before .before .before .before .args .waiting)) (now (c .before .before .before .before .before .before .before .before .args .text)) (c .before .before .before .before .before .before .before .before .args .p) (c .before .before .before .before .before .byte-at .ensures) (c .before .before .before .before .byte-at2 .ensures) (sym (c .before .before .before .enters-with .ensures) ∙ c .before .before .if1 .left) (sym (c .before .begins-with .ensures) ∙ c .if2 .left)
 

@@ -3,35 +3,25 @@ use Rattle.levels.proofs.Stack.{digit-range}
 use borrow.Author.Needs.{needs}
 use Rattle.levels.proofs.level.two_digits.Statement.{statement}
 use Rattle.levels.proofs.level.two_digits.Tie as tie
-use Rattle.levels.proofs.level.two_digits.Reads as reads
-use Rattle.levels.proofs.level.two_digits.Lts as lts
-use Rattle.levels.proofs.level.wide.Reads as wide-reads
 
--- src/level.rt:36:11
 wide-requires : tie.Need-wide-requires
 wide-requires c κs = search needs
 
--- src/level.rt:36:11
 sub-result : tie.Need-sub-result
 sub-result c = omega (arith, digit-range (c .before .args .a) (c .before .pre .0), digit-range (c .before .args .b) (c .before .pre .1))
 
--- src/level.rt:36:5
 mul-result : tie.Need-mul-result
 mul-result c = search needs
 
--- src/level.rt:36:30
 wide-requires-2 : tie.Need-wide-requires-2
 wide-requires-2 c κs = search needs
 
--- src/level.rt:36:30
 sub-result-2 : tie.Need-sub-result-2
 sub-result-2 c = omega (arith, digit-range (c .before .before .args .a) (c .before .before .pre .0), digit-range (c .before .before .args .b) (c .before .before .pre .1))
 
--- src/level.rt:36:5
 add-result : tie.Need-add-result
 add-result c = search needs
 
--- src/level.rt:32:1
 returns : tie.Need-returns
 returns c = search needs
 

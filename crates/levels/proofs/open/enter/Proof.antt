@@ -4,35 +4,25 @@ use Rattle.levels.proofs.Stack.{enter-member, enter-no-member, enter-ou
 use borrow.Author.Needs.{needs}
 use Rattle.levels.proofs.open.enter.Statement.{statement}
 use Rattle.levels.proofs.open.enter.Tie as tie
-use Rattle.levels.proofs.open.enter.Reads as reads
-use Rattle.levels.proofs.open.enter.Lts as lts
-use Rattle.levels.proofs.open.back.Reads as back-reads
 
--- src/open.rt:30:35
 add-t10 : tie.Need-add-t10
 add-t10 c = search needs
 
--- src/open.rt:30:13
 returns : tie.Need-returns
 returns c = enter-member (now (c .before .before .before .args .stack)) (c .before .before .before .args .depth) (c .before .before .before .args .waiting) (c .before .before .before .args .level) (c .before .if1 .taken) (c .if2 .taken)
 
--- src/open.rt:32:9
 returns-2 : tie.Need-returns-2
 returns-2 c = enter-no-member (now (c .before .before .before .args .stack)) (c .before .before .before .args .depth) (c .before .before .before .args .waiting) (c .before .before .before .args .level) (c .before .if1 .taken) (c .if2 .left)
 
--- src/open.rt:35:9
 returns-3 : tie.Need-returns-3
 returns-3 c = enter-outside (now (c .before .before .before .args .stack)) (c .before .before .before .args .depth) (c .before .before .before .args .waiting) (c .before .before .before .args .level) (c .before .if1 .left) (c .if3 .taken)
 
--- src/open.rt:37:9
 back-requires : tie.Need-back-requires
 back-requires c κs = search needs
 
--- src/open.rt:39:9
 returns-4 : tie.Need-returns-4
 returns-4 c = enter-none (now (c .before .before .before .before .before .args .stack)) (c .before .before .before .before .before .args .depth) (c .before .before .before .before .before .args .waiting) (c .before .before .before .before .before .args .level) (c .before .before .before .if1 .left) (c .before .before .if3 .left) (c .before .back .ensures) (c .if4 .taken)
 
--- src/open.rt:24:1
 returns-5 : tie.Need-returns-5
 returns-5 c = enter-back (now (c .before .before .before .before .before .args .stack)) (c .before .before .before .before .before .args .depth) (c .before .before .before .before .before .args .waiting) (c .before .before .before .before .before .args .level) (c .before .before .before .if1 .left) (c .before .before .if3 .left) (c .before .back .ensures) (c .if4 .left)
 

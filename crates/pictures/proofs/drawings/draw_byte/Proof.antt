@@ -2,58 +2,40 @@ use Rattle.pictures.proofs.Sketches.{step-is, small-is}
 use borrow.Author.Needs.{needs}
 use Rattle.pictures.proofs.drawings.draw_byte.Statement.{statement}
 use Rattle.pictures.proofs.drawings.draw_byte.Tie as tie
-use Rattle.pictures.proofs.drawings.draw_byte.Reads as reads
-use Rattle.pictures.proofs.drawings.draw_byte.Lts as lts
-use Rattle.pictures.proofs.drawings.first.Reads as first-reads
-use Rattle.pictures.proofs.drawings.letters.Reads as letters-reads
-use Rattle.pictures.proofs.drawings.number.Reads as number-reads
-use Rattle.pictures.proofs.drawings.pointed.Reads as pointed-reads
 
--- src/drawings.rt:105:27
 enum-told : tie.Need-enum-told
 enum-told c = search needs
 
--- src/drawings.rt:105:27
 first-requires : tie.Need-first-requires
 first-requires c κs = search needs
 
--- src/drawings.rt:106:24
 enum-known-d : tie.Need-enum-known-d
 enum-known-d c = search needs
 
--- src/drawings.rt:106:33
 letters-requires : tie.Need-letters-requires
 letters-requires c κs = small-is (c .before .d .given .1) (c .before .before .before .pre)
 
--- src/drawings.rt:107:22
 enum-known-d-2 : tie.Need-enum-known-d-2
 enum-known-d-2 c = search needs
 
--- src/drawings.rt:107:31
 number-requires : tie.Need-number-requires
 number-requires c κs = small-is (c .before .d2 .given .1) (c .before .before .before .pre)
 
--- src/drawings.rt:108:24
 enum-known-d-3 : tie.Need-enum-known-d-3
 enum-known-d-3 c = search needs
 
--- src/drawings.rt:108:36
 pointed-requires : tie.Need-pointed-requires
 pointed-requires c κs = small-is (c .before .d3 .given .1) (c .before .before .before .pre) .1
 
--- src/drawings.rt:100:1
 returns : tie.Need-returns
 returns c = step-is (c .before .before .before .args .b) (c .before .enum-told .given .1) (c .first .ensures)
 
--- src/drawings.rt:100:1
 returns-2 : tie.Need-returns-2
 returns-2 c = step-is (c .before .before .before .before .args .b) (c .before .before .d .given .1) (c .letters .ensures)
 
--- src/drawings.rt:100:1
 returns-3 : tie.Need-returns-3
 returns-3 c = step-is (c .before .before .before .before .args .b) (c .before .before .d2 .given .1) (c .number .ensures)
 
--- src/drawings.rt:100:1
 returns-4 : tie.Need-returns-4
 returns-4 c = step-is (c .before .before .before .before .args .b) (c .before .before .d3 .given .1) (c .pointed .ensures)
 

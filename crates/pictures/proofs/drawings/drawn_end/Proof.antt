@@ -4,101 +4,73 @@ use Rattle.pictures.proofs.Sketches.{end-is, end-times, end-open, small
 use borrow.Author.Needs.{needs}
 use Rattle.pictures.proofs.drawings.drawn_end.Statement.{statement}
 use Rattle.pictures.proofs.drawings.drawn_end.Tie as tie
-use Rattle.pictures.proofs.drawings.drawn_end.Reads as reads
-use Rattle.pictures.proofs.drawings.drawn_end.Lts as lts
-use Rattle.pictures.proofs.drawings.letters_end.Reads as letters-end-reads
-use Rattle.pictures.proofs.drawings.number_end.Reads as number-end-reads
-use Rattle.pictures.proofs.drawings.total.Reads as total-reads
 
--- src/drawings.rt:154:27
 enum-told : tie.Need-enum-told
 enum-told c = search needs
 
--- src/drawings.rt:155:24
 enum-known-d : tie.Need-enum-known-d
 enum-known-d c = search needs
 
--- src/drawings.rt:155:39
 total-requires : tie.Need-total-requires
 total-requires c κs = small-is (c .before .d .given .1) (c .before .before .before .pre .0)
 
--- src/drawings.rt:156:28
 enum-known-n : tie.Need-enum-known-n
 enum-known-n c = search needs
 
--- src/drawings.rt:156:34
 letters-end-requires : tie.Need-letters-end-requires
 letters-end-requires c κs = search needs
 
--- src/drawings.rt:157:30
 enum-told-2 : tie.Need-enum-told-2
 enum-told-2 c = search needs
 
--- src/drawings.rt:159:22
 enum-known-d-2 : tie.Need-enum-known-d-2
 enum-known-d-2 c = search needs
 
--- src/drawings.rt:159:37
 total-requires-2 : tie.Need-total-requires-2
 total-requires-2 c κs = small-is (c .before .d2 .given .1) (c .before .before .before .pre .0)
 
--- src/drawings.rt:160:28
 enum-known-m : tie.Need-enum-known-m
 enum-known-m c = search needs
 
--- src/drawings.rt:160:34
 number-end-requires : tie.Need-number-end-requires
 number-end-requires c κs = (total-small _ (small-is (c .before .before .before .before .before .d2 .given .1) (c .before .before .before .before .before .before .before .pre .0)) (c .before .before .before .total2 .ensures) (c .before .m .given .1), (omega arith, c .before .before .before .before .before .before .before .pre .1))
 
--- src/drawings.rt:161:30
 enum-told-3 : tie.Need-enum-told-3
 enum-told-3 c = search needs
 
--- src/drawings.rt:163:24
 enum-known-d-3 : tie.Need-enum-known-d-3
 enum-known-d-3 c = search needs
 
--- src/drawings.rt:163:42
 total-requires-3 : tie.Need-total-requires-3
 total-requires-3 c κs = small-is (c .before .d3 .given .1) (c .before .before .before .pre .0) .1
 
--- src/drawings.rt:164:28
 enum-known-n-2 : tie.Need-enum-known-n-2
 enum-known-n-2 c = search needs
 
--- src/drawings.rt:164:34
 number-end-requires-2 : tie.Need-number-end-requires-2
 number-end-requires-2 c κs = (small-is (c .before .before .before .before .before .d3 .given .1) (c .before .before .before .before .before .before .before .pre .0) .0, (total-small _ (small-is (c .before .before .before .before .before .d3 .given .1) (c .before .before .before .before .before .before .before .pre .0) .1) (c .before .before .before .total3 .ensures) (c .before .n2 .given .1), c .before .before .before .before .before .before .before .pre .1))
 
--- src/drawings.rt:165:30
 enum-told-4 : tie.Need-enum-told-4
 enum-told-4 c = search needs
 
--- src/drawings.rt:149:1
 returns : tie.Need-returns
 returns c = end-is (c .before .before .args .k) (c .before .before .args .period) (c .enum-told .given .1) refl
 
--- src/drawings.rt:149:1
 returns-2 : tie.Need-returns-2
 returns-2 c = end-is (c .before .before .before .before .before .before .before .before .args .k) (c .before .before .before .before .before .before .before .before .args .period) (c .before .before .before .before .before .before .d .given .1) (end-times _ (c .before .before .before .before .before .before .before .before .args .k) (c .before .before .before .before .total .ensures) (c .before .before .n .given .1) (c .letters-end .ensures))
 
--- src/drawings.rt:149:1
 returns-3 : tie.Need-returns-3
 returns-3 c = end-is (c .before .before .before .before .before .before .args .k) (c .before .before .before .before .before .before .args .period) (c .before .before .before .before .d .given .1) (end-open _ (c .before .before .before .before .before .before .args .k) (c .before .before .total .ensures) (c .enum-told2 .given .1))
 
--- src/drawings.rt:149:1
 returns-4 : tie.Need-returns-4
 returns-4 c = end-is (c .before .before .before .before .before .before .before .before .args .k) (c .before .before .before .before .before .before .before .before .args .period) (c .before .before .before .before .before .before .d2 .given .1) (end-times _ (c .before .before .before .before .before .before .before .before .args .k) (c .before .before .before .before .total2 .ensures) (c .before .before .m .given .1) (c .number-end .ensures))
 
--- src/drawings.rt:149:1
 returns-5 : tie.Need-returns-5
 returns-5 c = end-is (c .before .before .before .before .before .before .args .k) (c .before .before .before .before .before .before .args .period) (c .before .before .before .before .d2 .given .1) (end-open _ (c .before .before .before .before .before .before .args .k) (c .before .before .total2 .ensures) (c .enum-told3 .given .1))
 
--- src/drawings.rt:149:1
 returns-6 : tie.Need-returns-6
 returns-6 c = end-is (c .before .before .before .before .before .before .before .before .args .k) (c .before .before .before .before .before .before .before .before .args .period) (c .before .before .before .before .before .before .d3 .given .1) (end-times _ (c .before .before .before .before .before .before .before .before .args .k) (c .before .before .before .before .total3 .ensures) (c .before .before .n2 .given .1) (c .number-end2 .ensures))
 
--- src/drawings.rt:149:1
 returns-7 : tie.Need-returns-7
 returns-7 c = end-is (c .before .before .before .before .before .before .args .k) (c .before .before .before .before .before .before .args .period) (c .before .before .before .before .d3 .given .1) (end-open _ (c .before .before .before .before .before .before .args .k) (c .before .before .total3 .ensures) (c .enum-told4 .given .1))
 

@@ -2,27 +2,19 @@ use Rattle.pictures.proofs.Sketches.{first-a, first-s, first-number}
 use borrow.Author.Needs.{needs}
 use Rattle.pictures.proofs.drawings.first.Statement.{statement}
 use Rattle.pictures.proofs.drawings.first.Tie as tie
-use Rattle.pictures.proofs.drawings.first.Reads as reads
-use Rattle.pictures.proofs.drawings.first.Lts as lts
-use Rattle.pictures.proofs.drawings.number.Reads as number-reads
 
--- src/drawings.rt:84:9
 returns : tie.Need-returns
 returns c = rw (c .if1 .taken)
 
--- src/drawings.rt:87:9
 returns-2 : tie.Need-returns-2
 returns-2 c = first-a (c .before .before .args .b) (c .before .if1 .left) (c .if2 .taken)
 
--- src/drawings.rt:94:9
 returns-3 : tie.Need-returns-3
 returns-3 c = first-s (c .before .before .before .args .b) (c .if3 .taken)
 
--- src/drawings.rt:96:5
 number-requires : tie.Need-number-requires
 number-requires c κs = search needs
 
--- src/drawings.rt:76:1
 returns-4 : tie.Need-returns-4
 returns-4 c = first-number (c .before .before .before .before .args .b) (c .before .before .before .if1 .left) (c .before .before .if2 .left) (c .before .if3 .left) (c .number .ensures)
 

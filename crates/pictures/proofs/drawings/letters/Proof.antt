@@ -3,27 +3,19 @@ use Rattle.pictures.proofs.Sketches.{drew-on, drew-stuck}
 use borrow.Author.Needs.{needs}
 use Rattle.pictures.proofs.drawings.letters.Statement.{statement}
 use Rattle.pictures.proofs.drawings.letters.Tie as tie
-use Rattle.pictures.proofs.drawings.letters.Reads as reads
-use Rattle.pictures.proofs.drawings.letters.Lts as lts
-use Rattle.pictures.proofs.tallies.read_byte.Reads as read-byte-reads
 
--- src/drawings.rt:30:11
 read-byte-requires : tie.Need-read-byte-requires
 read-byte-requires c κs = search needs
 
--- src/drawings.rt:31:21
 enum-known-u : tie.Need-enum-known-u
 enum-known-u c = search needs
 
--- src/drawings.rt:32:27
 enum-told : tie.Need-enum-told
 enum-told c = search needs
 
--- src/drawings.rt:26:1
 returns : tie.Need-returns
 returns c = drew-on (Letters (c .before .before .before .before .args .c)) (c .before .before .before .read-byte .ensures) (c .before .u .given .1)
 
--- src/drawings.rt:26:1
 returns-2 : tie.Need-returns-2
 returns-2 c = drew-stuck (Letters (c .before .before .before .args .c)) (c .before .before .read-byte .ensures) (c .enum-told .given .1)
 

@@ -3,30 +3,22 @@ use Rattle.pictures.proofs.Sketches.{letters-zero, letters-open, letter
 use borrow.Author.Needs.{needs}
 use Rattle.pictures.proofs.drawings.letters_end.Statement.{statement}
 use Rattle.pictures.proofs.drawings.letters_end.Tie as tie
-use Rattle.pictures.proofs.drawings.letters_end.Reads as reads
-use Rattle.pictures.proofs.drawings.letters_end.Lts as lts
 
--- src/drawings.rt:137:9
 returns : tie.Need-returns
 returns c = letters-zero (c .before .args .c) (c .before .args .n) (c .before .args .k) (c .before .args .period) (c .if1 .taken)
 
--- src/drawings.rt:140:9
 returns-2 : tie.Need-returns-2
 returns-2 c = letters-open (c .before .before .args .c) (c .before .before .args .n) (c .before .before .args .k) (c .before .before .args .period) (c .before .if1 .left) (not-true _ (c .if2 .taken))
 
--- src/drawings.rt:143:41
 add-t6 : tie.Need-add-t6
 add-t6 c = search needs
 
--- src/drawings.rt:143:9
 returns-3 : tie.Need-returns-3
 returns-3 c = letters-x (c .before .before .before .args .c) (c .before .before .before .args .n) (c .before .before .before .args .k) (c .before .before .before .args .period) (c .before .before .if1 .left) (not-false _ (c .before .if2 .left)) (c .if3 .taken)
 
--- src/drawings.rt:145:30
 add-t7 : tie.Need-add-t7
 add-t7 c = search needs
 
--- src/drawings.rt:132:1
 returns-4 : tie.Need-returns-4
 returns-4 c = letters-a (c .before .before .before .args .c) (c .before .before .before .args .n) (c .before .before .before .args .k) (c .before .before .before .args .period) (c .before .before .if1 .left) (not-false _ (c .before .if2 .left)) (c .if3 .left)
 

@@ -2,27 +2,19 @@ use Rattle.pictures.proofs.Sketches.{point-on, point-stuck}
 use borrow.Author.Needs.{needs}
 use Rattle.pictures.proofs.drawings.point.Statement.{statement}
 use Rattle.pictures.proofs.drawings.point.Tie as tie
-use Rattle.pictures.proofs.drawings.point.Reads as reads
-use Rattle.pictures.proofs.drawings.point.Lts as lts
-use Rattle.pictures.proofs.drawings.total.Reads as total-reads
 
--- src/drawings.rt:51:11
 total-requires : tie.Need-total-requires
 total-requires c κs = search needs
 
--- src/drawings.rt:52:24
 enum-known-m : tie.Need-enum-known-m
 enum-known-m c = search needs
 
--- src/drawings.rt:59:26
 enum-told : tie.Need-enum-told
 enum-told c = search needs
 
--- src/drawings.rt:47:1
 returns : tie.Need-returns
 returns c = point-on (c .before .before .before .before .args .signed) (c .before .before .before .total .ensures) (c .before .m .given .1)
 
--- src/drawings.rt:47:1
 returns-2 : tie.Need-returns-2
 returns-2 c = point-stuck (c .before .before .before .args .signed) (c .before .before .total .ensures) (c .enum-told .given .1)
 

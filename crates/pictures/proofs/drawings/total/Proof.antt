@@ -2,39 +2,28 @@ use Rattle.pictures.proofs.Sketches.{total-settled, total-last, total-o
 use borrow.Author.Needs.{needs}
 use Rattle.pictures.proofs.drawings.total.Statement.{statement}
 use Rattle.pictures.proofs.drawings.total.Tie as tie
-use Rattle.pictures.proofs.drawings.total.Reads as reads
-use Rattle.pictures.proofs.drawings.total.Lts as lts
-use Rattle.pictures.proofs.tallies.capped.Reads as capped-reads
 
--- src/drawings.rt:17:29
 enum-told : tie.Need-enum-told
 enum-told c = search needs
 
--- src/drawings.rt:19:28
 enum-told-2 : tie.Need-enum-told-2
 enum-told-2 c = search needs
 
--- src/drawings.rt:19:28
 add-capped : tie.Need-add-capped
 add-capped c = search needs
 
--- src/drawings.rt:19:17
 capped-requires : tie.Need-capped-requires
 capped-requires c κs = search needs
 
--- src/drawings.rt:22:33
 enum-told-3 : tie.Need-enum-told-3
 enum-told-3 c = search needs
 
--- src/drawings.rt:10:1
 returns : tie.Need-returns
 returns c = total-settled (c .before .before .args .t) (c .enum-told .given .1)
 
--- src/drawings.rt:10:1
 returns-2 : tie.Need-returns-2
 returns-2 c = total-last (c .before .before .before .args .t) (c .capped .result) (c .before .enum-told2 .given .1) (c .capped .ensures)
 
--- src/drawings.rt:10:1
 returns-3 : tie.Need-returns-3
 returns-3 c = search needs
 

@@ -7,50 +7,34 @@ use Rattle.pictures.proofs.Caps.{picture-none, picture-some, sketch-sma
 use borrow.Author.Needs.{needs}
 use Rattle.pictures.proofs.scan.picture_at.Statement.{statement}
 use Rattle.pictures.proofs.scan.picture_at.Tie as tie
-use Rattle.pictures.proofs.scan.picture_at.Reads as reads
-use Rattle.pictures.proofs.scan.picture_at.Lts as lts
-use Rattle.pictures.proofs.drawings.drawn_end.Reads as drawn-end-reads
-use Rattle.pictures.proofs.scan.sketched.Reads as sketched-reads
-use Rattle.words.proofs.blanks.next_ink.Reads as next-ink-reads
-use Rattle.words.proofs.names.period_at.Reads as period-at-reads
 
--- src/scan.rt:38:9
 next-ink-requires : tie.Need-next-ink-requires
 next-ink-requires c κs = search needs
 
--- src/scan.rt:40:9
 returns : tie.Need-returns
 returns c = picture-none (now (c .before .before .before .args .text)) (c .before .before .before .args .n) (c .before .next-ink .result) (c .before .next-ink .ensures) (c .if1 .taken)
 
--- src/scan.rt:42:22
 sub-sketched : tie.Need-sub-sketched
 sub-sketched c = omega (arith, inked-le (now (c .before .before .before .args .text)) (c .before .before .before .args .n) (c .before .before .before .pre .0), c .before .next-ink .ensures)
 
--- src/scan.rt:42:22
 part-sketched-start : tie.Need-part-sketched-start
 part-sketched-start c = omega (arith, inked-le (now (c .before .before .before .args .text)) (c .before .before .before .args .n) (c .before .before .before .pre .0), c .before .next-ink .ensures)
 
--- src/scan.rt:42:22
 part-sketched-end : tie.Need-part-sketched-end
 part-sketched-end c = search needs
 
--- src/scan.rt:42:9
 sketched-requires : tie.Need-sketched-requires
 sketched-requires c κs = search needs
 
--- src/scan.rt:44:13
 add-k : tie.Need-add-k
 add-k c = omega (arith, sketch-le (now (c .before .before .before .before .before .before .args .text)) (c .before .before .before .before .next-ink .result) (omega (arith, inked-le (now (c .before .before .before .before .before .before .args .text)) (c .before .before .before .before .before .before .args .n) (c .before .before .before .before .before .before .pre .0), c .before .before .before .before .next-ink .ensures)) (c .before .sketched .ensures))
 
--- src/scan.rt:45:21
 period-at-requires : tie.Need-period-at-requires
 period-at-requires c κs = search needs
 
--- src/scan.rt:45:5
 drawn-end-requires : tie.Need-drawn-end-requires
 drawn-end-requires c κs = (sketch-small (take (length (now (c .before .before .before .before .before .before .before .args .text)) - c .before .before .before .before .before .next-ink .result) (drop (c .before .before .before .before .before .next-ink .result) (now (c .before .before .before .before .before .before .before .args .text)))) (c .before .before .sketched .ensures), omega (arith, sketch-le (now (c .before .before .before .before .before .before .before .args .text)) (c .before .before .before .before .before .next-ink .result) (omega (arith, inked-le (now (c .before .before .before .before .before .before .before .args .text)) (c .before .before .before .before .before .before .before .args .n) (c .before .before .before .before .before .before .before .pre .0), c .before .before .before .before .before .next-ink .ensures)) (c .before .before .sketched .ensures), c .before .before .before .before .before .before .before .pre .1))
 
--- src/scan.rt:34:1
 returns-2 : tie.Need-returns-2
 returns-2 c = picture-some (now (c .before .before .before .before .before .before .before .before .args .text)) (c .before .before .before .before .before .before .before .before .args .n) (c .before .before .before .before .before .before .next-ink .result) (c .before .before .before .sketched .result) (c .before .period-at .result) (c .before .before .before .before .before .before .next-ink .ensures) (c .before .before .before .before .before .if1 .left) (c .before .before .before .sketched .ensures) (c .before .period-at .ensures) (c .drawn-end .ensures)
 

@@ -13,9 +13,6 @@ use Rattle.pictures.specs.declared.Drew.the-variants.{On}
 use Rattle.pictures.proofs.Caps.{capO, on-small, goes-on, gets-stuck, all-read}
 use Rattle.pictures.proofs.scan.sketched.Statement.{statement}
 use Rattle.pictures.proofs.scan.sketched.Tie as tie
-use Rattle.pictures.proofs.scan.sketched.Reads as reads
-use Rattle.pictures.proofs.scan.sketched.Lts as lts
-use Rattle.pictures.proofs.drawings.draw_byte.Reads as draw-byte-reads
 
 abbrev Inv-loop : tie.InvT-loop
 Inv-loop rest d₀ k₀ d k = (reach draws [] rest ≡ k + reach draws (take k rest) (drop k rest)) × (On d ≡ capO (after pictures nothing (take k rest)))
@@ -23,44 +20,34 @@ Inv-loop rest d₀ k₀ d k = (reach draws [] rest ≡ k + reach draws (take k r
 abbrev μ-loop : tie.MeasureT-loop
 μ-loop rest d₀ k₀ d k = length rest - k
 
--- src/scan.rt:19:5
 loop-holds : tie.Need-loop-holds Inv-loop μ-loop
 unfolding after
 loop-holds c = (omega arith, refl)
 
--- src/scan.rt:20:28
 shared-slice-read-draw-byte : tie.Need-shared-slice-read-draw-byte Inv-loop μ-loop
 shared-slice-read-draw-byte c = omega arith
 
--- src/scan.rt:20:15
 draw-byte-requires : tie.Need-draw-byte-requires Inv-loop μ-loop
 draw-byte-requires c κs = on-small (after pictures nothing (take (c .before .before .loop .k) (now (c .before .before .before .before .args .rest)))) (c .before .before .loop .inv .1)
 
--- src/scan.rt:21:22
 enum-known-e : tie.Need-enum-known-e Inv-loop μ-loop
 enum-known-e c = search needs
 
--- src/scan.rt:23:17
 add-k : tie.Need-add-k Inv-loop μ-loop
 add-k c = omega arith
 
--- src/scan.rt:19:5
 loop-less : tie.Need-loop-less Inv-loop μ-loop
 loop-less c = omega arith
 
--- src/scan.rt:19:5
 loop-again : tie.Need-loop-again Inv-loop μ-loop
 loop-again c = goes-on (now (c .before .before .before .before .before .before .before .before .args .rest)) (c .before .before .before .before .before .before .loop .k) (c .before .before .before .before .before .loop-test .taken) (c .before .before .before .before .before .before .loop .inv .1) (c .before .before .before .draw-byte .ensures) (c .before .before .before .before .before .before .loop .inv .0) (c .before .e .given .1)
 
--- src/scan.rt:26:17
 enum-told : tie.Need-enum-told Inv-loop μ-loop
 enum-told c = search needs
 
--- src/scan.rt:26:17
 returns : tie.Need-returns Inv-loop μ-loop
 returns c = gets-stuck (now (c .before .before .before .before .before .before .before .args .rest)) (c .before .before .before .before .before .loop .k) (c .before .before .before .before .loop-test .taken) (c .before .before .before .before .before .loop .inv .1) (c .before .before .draw-byte .ensures) (c .before .before .before .before .before .loop .inv .0) (c .enum-told .given .1)
 
--- src/scan.rt:14:1
 returns-2 : tie.Need-returns-2 Inv-loop μ-loop
 returns-2 c = all-read (now (c .before .before .before .args .rest)) (c .before .loop .k) (c .loop-test .left) (c .before .loop .inv .1) (c .before .loop .inv .0)
 

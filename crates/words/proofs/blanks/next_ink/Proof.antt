@@ -9,9 +9,6 @@ use Rattle.description.specs.Stages.{inked}
 use Rattle.words.proofs.Laws.{blank-more, blank-stop, blank-end}
 use Rattle.words.proofs.blanks.next_ink.Statement.{statement}
 use Rattle.words.proofs.blanks.next_ink.Tie as tie
-use Rattle.words.proofs.blanks.next_ink.Reads as reads
-use Rattle.words.proofs.blanks.next_ink.Lts as lts
-use Rattle.words.proofs.bytes.is_blank.Reads as is-blank-reads
 
 abbrev Inv-loop : tie.InvT-loop
 Inv-loop text n k₀ k = inked text n ≡ inked text k
@@ -19,35 +16,27 @@ Inv-loop text n k₀ k = inked text n ≡ inked text k
 abbrev μ-loop : tie.MeasureT-loop
 μ-loop text n k₀ k = length text - k
 
--- src/blanks.rt:11:5
 loop-holds : tie.Need-loop-holds Inv-loop μ-loop
 loop-holds c = refl
 
--- src/blanks.rt:12:22
 shared-slice-read-is-blank : tie.Need-shared-slice-read-is-blank Inv-loop μ-loop
 shared-slice-read-is-blank c = omega arith
 
--- src/blanks.rt:12:13
 is-blank-requires : tie.Need-is-blank-requires Inv-loop μ-loop
 is-blank-requires c κs = search needs
 
--- src/blanks.rt:13:13
 returns : tie.Need-returns Inv-loop μ-loop
 returns c = blank-stop (now (c .before .before .before .before .before .before .args .text)) (c .before .before .before .before .before .before .args .n) (c .before .before .before .before .loop .k) (c .before .before .before .loop-test .taken) (sym (c .before .is-blank .ensures) ∙ not-true _ (c .if1 .taken)) (c .before .before .before .before .loop .inv)
 
--- src/blanks.rt:15:9
 add-k : tie.Need-add-k Inv-loop μ-loop
 add-k c = omega arith
 
--- src/blanks.rt:11:5
 loop-less : tie.Need-loop-less Inv-loop μ-loop
 loop-less c = omega arith
 
--- src/blanks.rt:11:5
 loop-again : tie.Need-loop-again Inv-loop μ-loop
 loop-again c = blank-more (now (c .before .before .before .before .before .before .args .text)) (c .before .before .before .before .before .before .args .n) (c .before .before .before .before .loop .k) (c .before .before .before .loop-test .taken) (sym (c .before .is-blank .ensures) ∙ not-false _ (c .if1 .left)) (c .before .before .before .before .loop .inv)
 
--- src/blanks.rt:7:1
 returns-2 : tie.Need-returns-2 Inv-loop μ-loop
 returns-2 c = blank-end (now (c .before .before .before .args .text)) (c .before .before .before .args .n) (c .before .loop .k) (c .loop-test .left) (c .before .loop .inv)
 

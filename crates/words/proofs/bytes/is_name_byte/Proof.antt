@@ -3,20 +3,13 @@ use mathlib.Core.Bool.{_||_}
 use borrow.Author.Needs.{needs}
 use Rattle.words.proofs.bytes.is_name_byte.Statement.{statement}
 use Rattle.words.proofs.bytes.is_name_byte.Tie as tie
-use Rattle.words.proofs.bytes.is_name_byte.Reads as reads
-use Rattle.words.proofs.bytes.is_name_byte.Lts as lts
-use Rattle.words.proofs.bytes.is_digit.Reads as is-digit-reads
-use Rattle.words.proofs.bytes.is_letter.Reads as is-letter-reads
 
--- src/bytes.rt:26:5
 is-letter-requires : tie.Need-is-letter-requires
 is-letter-requires c κs = search needs
 
--- src/bytes.rt:26:20
 is-digit-requires : tie.Need-is-digit-requires
 is-digit-requires c κs = search needs
 
--- src/bytes.rt:23:1
 returns : tie.Need-returns
 returns c = rw (c .is-digit .ensures, c .before .is-letter .ensures)
 

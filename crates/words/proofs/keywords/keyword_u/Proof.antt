@@ -3,75 +3,55 @@ use Rattle.words.proofs.Initials.{one-word, word-more}
 use borrow.Author.Needs.{needs}
 use Rattle.words.proofs.keywords.keyword_u.Statement.{statement}
 use Rattle.words.proofs.keywords.keyword_u.Tie as tie
-use Rattle.words.proofs.keywords.keyword_u.Reads as reads
-use Rattle.words.proofs.keywords.keyword_u.Lts as lts
-use Rattle.words.proofs.keywords.same_bytes.Reads as same-bytes-reads
 
--- src/keywords.rt:87:19
 slice-aggregate-same-bytes : tie.Need-slice-aggregate-same-bytes
 slice-aggregate-same-bytes c = search needs
 
--- src/keywords.rt:87:5
 same-bytes-requires : tie.Need-same-bytes-requires
 same-bytes-requires c κs = search needs
 
--- src/keywords.rt:87:47
 slice-aggregate-same-bytes-2 : tie.Need-slice-aggregate-same-bytes-2
 slice-aggregate-same-bytes-2 c = search needs
 
--- src/keywords.rt:87:33
 same-bytes-requires-2 : tie.Need-same-bytes-requires-2
 same-bytes-requires-2 c κs = search needs
 
--- src/keywords.rt:87:75
 slice-aggregate-same-bytes-3 : tie.Need-slice-aggregate-same-bytes-3
 slice-aggregate-same-bytes-3 c = search needs
 
--- src/keywords.rt:87:61
 same-bytes-requires-3 : tie.Need-same-bytes-requires-3
 same-bytes-requires-3 c κs = search needs
 
--- src/keywords.rt:87:103
 slice-aggregate-same-bytes-4 : tie.Need-slice-aggregate-same-bytes-4
 slice-aggregate-same-bytes-4 c = search needs
 
--- src/keywords.rt:87:89
 same-bytes-requires-4 : tie.Need-same-bytes-requires-4
 same-bytes-requires-4 c κs = search needs
 
--- src/keywords.rt:87:131
 slice-aggregate-same-bytes-5 : tie.Need-slice-aggregate-same-bytes-5
 slice-aggregate-same-bytes-5 c = search needs
 
--- src/keywords.rt:87:117
 same-bytes-requires-5 : tie.Need-same-bytes-requires-5
 same-bytes-requires-5 c κs = search needs
 
--- src/keywords.rt:87:159
 slice-aggregate-same-bytes-6 : tie.Need-slice-aggregate-same-bytes-6
 slice-aggregate-same-bytes-6 c = search needs
 
--- src/keywords.rt:87:145
 same-bytes-requires-6 : tie.Need-same-bytes-requires-6
 same-bytes-requires-6 c κs = search needs
 
--- src/keywords.rt:87:187
 slice-aggregate-same-bytes-7 : tie.Need-slice-aggregate-same-bytes-7
 slice-aggregate-same-bytes-7 c = search needs
 
--- src/keywords.rt:87:173
 same-bytes-requires-7 : tie.Need-same-bytes-requires-7
 same-bytes-requires-7 c κs = search needs
 
--- src/keywords.rt:87:214
 slice-aggregate-same-bytes-8 : tie.Need-slice-aggregate-same-bytes-8
 slice-aggregate-same-bytes-8 c = search needs
 
--- src/keywords.rt:87:200
 same-bytes-requires-8 : tie.Need-same-bytes-requires-8
 same-bytes-requires-8 c κs = search needs
 
--- src/keywords.rt:84:1
 returns : tie.Need-returns
 returns c = word-more (now (c .before .before .before .before .before .before .before .before .before .before .before .before .before .before .before .before .before .args .w)) _ _ (c .before .before .before .before .before .before .before .before .before .before .before .before .before .before .same-bytes .result) _ (c .before .before .before .before .before .before .before .before .before .before .before .before .before .before .same-bytes .ensures)
     (word-more (now (c .before .before .before .before .before .before .before .before .before .before .before .before .before .before .before .before .before .args .w)) _ _ (c .before .before .before .before .before .before .before .before .before .before .before .before .same-bytes2 .result) _ (c .before .before .before .before .before .before .before .before .before .before .before .before .same-bytes2 .ensures)

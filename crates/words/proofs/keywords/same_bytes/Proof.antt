@@ -8,8 +8,6 @@ use Rattle.description.specs.Grammar.{same}
 use Rattle.words.proofs.Laws.{same-lengths, same-more, same-other, same-end}
 use Rattle.words.proofs.keywords.same_bytes.Statement.{statement}
 use Rattle.words.proofs.keywords.same_bytes.Tie as tie
-use Rattle.words.proofs.keywords.same_bytes.Reads as reads
-use Rattle.words.proofs.keywords.same_bytes.Lts as lts
 
 abbrev Inv-loop : tie.InvT-loop
 Inv-loop a b k₀ k = same a b ≡ same (drop k a) (drop k b)
@@ -17,39 +15,30 @@ Inv-loop a b k₀ k = same a b ≡ same (drop k a) (drop k b)
 abbrev μ-loop : tie.MeasureT-loop
 μ-loop a b k₀ k = length a - k
 
--- src/keywords.rt:9:9
 returns : tie.Need-returns Inv-loop μ-loop
 returns c = same-lengths (now (c .before .args .a)) (now (c .before .args .b)) (c .if1 .taken)
 
--- src/keywords.rt:12:5
 loop-holds : tie.Need-loop-holds Inv-loop μ-loop
 loop-holds c = refl
 
--- src/keywords.rt:13:12
 shared-slice-read-if2 : tie.Need-shared-slice-read-if2 Inv-loop μ-loop
 shared-slice-read-if2 c = omega arith
 
--- src/keywords.rt:13:20
 shared-slice-read-if2-2 : tie.Need-shared-slice-read-if2-2 Inv-loop μ-loop
 shared-slice-read-if2-2 c = omega arith
 
--- src/keywords.rt:14:13
 returns-2 : tie.Need-returns-2 Inv-loop μ-loop
 returns-2 c = same-other (now (c .before .before .before .before .before .before .args .a)) (now (c .before .before .before .before .before .before .args .b)) (c .before .before .before .before .loop .k) (c .before .before .before .loop-test .taken) (omega arith) (c .if2 .taken) (c .before .before .before .before .loop .inv)
 
--- src/keywords.rt:16:9
 add-k : tie.Need-add-k Inv-loop μ-loop
 add-k c = omega arith
 
--- src/keywords.rt:12:5
 loop-less : tie.Need-loop-less Inv-loop μ-loop
 loop-less c = omega arith
 
--- src/keywords.rt:12:5
 loop-again : tie.Need-loop-again Inv-loop μ-loop
 loop-again c = same-more (now (c .before .before .before .before .before .before .args .a)) (now (c .before .before .before .before .before .before .args .b)) (c .before .before .before .before .loop .k) (c .before .before .before .loop-test .taken) (omega arith) (c .if2 .left) (c .before .before .before .before .loop .inv)
 
--- src/keywords.rt:5:1
 returns-3 : tie.Need-returns-3 Inv-loop μ-loop
 returns-3 c = same-end (now (c .before .before .before .args .a)) (now (c .before .before .before .args .b)) (c .before .loop .k) (c .loop-test .left) (omega arith) (c .before .loop .inv)
 

@@ -8,8 +8,6 @@ use Rattle.description.specs.Stages.{common}
 use Rattle.words.proofs.Laws.{common-short, common-more, common-other, common-end}
 use Rattle.words.proofs.literals.common_length.Statement.{statement}
 use Rattle.words.proofs.literals.common_length.Tie as tie
-use Rattle.words.proofs.literals.common_length.Reads as reads
-use Rattle.words.proofs.literals.common_length.Lts as lts
 
 abbrev Inv-loop : tie.InvT-loop
 Inv-loop word rest k₀ k = common word rest ≡ k + common (drop k word) (drop k rest)
@@ -17,39 +15,30 @@ Inv-loop word rest k₀ k = common word rest ≡ k + common (drop k word) (drop 
 abbrev μ-loop : tie.MeasureT-loop
 μ-loop word rest k₀ k = length word - k
 
--- src/literals.rt:14:5
 loop-holds : tie.Need-loop-holds Inv-loop μ-loop
 loop-holds c = omega arith
 
--- src/literals.rt:16:13
 returns : tie.Need-returns Inv-loop μ-loop
 returns c = common-short (now (c .before .before .before .args .word)) (now (c .before .before .before .args .rest)) (c .before .before .loop .k) (c .before .loop-test .taken) (c .if1 .taken) (c .before .before .loop .inv)
 
--- src/literals.rt:18:12
 shared-slice-read-if2 : tie.Need-shared-slice-read-if2 Inv-loop μ-loop
 shared-slice-read-if2 c = omega arith
 
--- src/literals.rt:18:23
 shared-slice-read-if2-2 : tie.Need-shared-slice-read-if2-2 Inv-loop μ-loop
 shared-slice-read-if2-2 c = omega arith
 
--- src/literals.rt:19:13
 returns-2 : tie.Need-returns-2 Inv-loop μ-loop
 returns-2 c = common-other (now (c .before .before .before .before .before .before .args .word)) (now (c .before .before .before .before .before .before .args .rest)) (c .before .before .before .before .before .loop .k) (c .before .before .before .before .loop-test .taken) (c .before .before .before .if1 .left) (c .if2 .taken) (c .before .before .before .before .before .loop .inv)
 
--- src/literals.rt:21:9
 add-k : tie.Need-add-k Inv-loop μ-loop
 add-k c = omega arith
 
--- src/literals.rt:14:5
 loop-less : tie.Need-loop-less Inv-loop μ-loop
 loop-less c = omega arith
 
--- src/literals.rt:14:5
 loop-again : tie.Need-loop-again Inv-loop μ-loop
 loop-again c = common-more (now (c .before .before .before .before .before .before .args .word)) (now (c .before .before .before .before .before .before .args .rest)) (c .before .before .before .before .before .loop .k) (c .before .before .before .before .loop-test .taken) (c .before .before .before .if1 .left) (c .if2 .left) (c .before .before .before .before .before .loop .inv)
 
--- src/literals.rt:10:1
 returns-3 : tie.Need-returns-3 Inv-loop μ-loop
 returns-3 c = common-end (now (c .before .before .args .word)) (now (c .before .before .args .rest)) (c .before .loop .k) (c .loop-test .left) (c .before .loop .inv)
 

@@ -8,48 +8,34 @@ use Prim.Native.Nat.{_-_}
 use borrow.Author.Needs.{needs}
 use Rattle.words.proofs.literals.literal.Statement.{statement}
 use Rattle.words.proofs.literals.literal.Tie as tie
-use Rattle.words.proofs.literals.literal.Reads as reads
-use Rattle.words.proofs.literals.literal.Lts as lts
-use Rattle.words.proofs.blanks.next_ink.Reads as next-ink-reads
-use Rattle.words.proofs.literals.common_length.Reads as common-length-reads
 
--- src/literals.rt:31:9
 next-ink-requires : tie.Need-next-ink-requires
 next-ink-requires c κs = search needs
 
--- src/literals.rt:33:9
 returns : tie.Need-returns
 returns c = literal-none (now (c .before .before .before .before .args .word)) (now (c .before .before .before .before .args .text)) (c .before .before .before .before .args .n) (c .before .next-ink .result) (c .before .next-ink .ensures) (c .if1 .taken)
 
--- src/literals.rt:35:33
 sub-common-length : tie.Need-sub-common-length
 sub-common-length c = omega (arith, inked-le (now (c .before .before .before .before .args .text)) (c .before .before .before .before .args .n) (c .before .before .before .before .pre), c .before .next-ink .ensures)
 
--- src/literals.rt:35:33
 part-common-length-start : tie.Need-part-common-length-start
 part-common-length-start c = omega (arith, inked-le (now (c .before .before .before .before .args .text)) (c .before .before .before .before .args .n) (c .before .before .before .before .pre), c .before .next-ink .ensures)
 
--- src/literals.rt:35:33
 part-common-length-end : tie.Need-part-common-length-end
 part-common-length-end c = search needs
 
--- src/literals.rt:35:9
 common-length-requires : tie.Need-common-length-requires
 common-length-requires c κs = search needs
 
--- src/literals.rt:37:23
 add-t12 : tie.Need-add-t12
 add-t12 c = omega (arith, inked-le (now (c .before .before .before .before .before .before .before .args .text)) (c .before .before .before .before .before .before .before .args .n) (c .before .before .before .before .before .before .before .pre), c .before .before .before .before .next-ink .ensures, common-le (now (c .before .before .before .before .before .before .before .args .word)) (take (length (now (c .before .before .before .before .before .before .before .args .text)) - c .before .before .before .before .next-ink .result) (drop (c .before .before .before .before .next-ink .result) (now (c .before .before .before .before .before .before .before .args .text)))), c .before .common-length .ensures, length-take (length (now (c .before .before .before .before .before .before .before .args .text)) - c .before .before .before .before .next-ink .result) (drop (c .before .before .before .before .next-ink .result) (now (c .before .before .before .before .before .before .before .args .text))))
 
--- src/literals.rt:39:24
 add-t13 : tie.Need-add-t13
 add-t13 c = omega (arith, inked-le (now (c .before .before .before .before .before .before .before .args .text)) (c .before .before .before .before .before .before .before .args .n) (c .before .before .before .before .before .before .before .pre), c .before .before .before .before .next-ink .ensures, common-le (now (c .before .before .before .before .before .before .before .args .word)) (take (length (now (c .before .before .before .before .before .before .before .args .text)) - c .before .before .before .before .next-ink .result) (drop (c .before .before .before .before .next-ink .result) (now (c .before .before .before .before .before .before .before .args .text)))), c .before .common-length .ensures, length-take (length (now (c .before .before .before .before .before .before .before .args .text)) - c .before .before .before .before .next-ink .result) (drop (c .before .before .before .before .next-ink .result) (now (c .before .before .before .before .before .before .before .args .text))))
 
--- src/literals.rt:27:1
 returns-2 : tie.Need-returns-2
 returns-2 c = literal-word (now (c .before .before .before .before .before .before .before .args .word)) (now (c .before .before .before .before .before .before .before .args .text)) (c .before .before .before .before .before .before .before .args .n) (c .before .before .before .before .next-ink .result) (c .before .common-length .result) (c .before .before .before .before .next-ink .ensures) (c .before .before .before .if1 .left) (c .before .common-length .ensures) (c .if2 .taken)
 
--- src/literals.rt:27:1
 returns-3 : tie.Need-returns-3
 returns-3 c = literal-fault (now (c .before .before .before .before .before .before .before .args .word)) (now (c .before .before .before .before .before .before .before .args .text)) (c .before .before .before .before .before .before .before .args .n) (c .before .before .before .before .next-ink .result) (c .before .common-length .result) (c .before .before .before .before .next-ink .ensures) (c .before .before .before .if1 .left) (c .before .common-length .ensures) (c .if2 .left)
 

@@ -9,9 +9,6 @@ use Rattle.description.specs.Grammar.{all, isNameByte}
 use Rattle.words.proofs.Reaches.{all-more, all-other, all-end}
 use Rattle.words.proofs.names.all_name_bytes.Statement.{statement}
 use Rattle.words.proofs.names.all_name_bytes.Tie as tie
-use Rattle.words.proofs.names.all_name_bytes.Reads as reads
-use Rattle.words.proofs.names.all_name_bytes.Lts as lts
-use Rattle.words.proofs.bytes.is_name_byte.Reads as is-name-byte-reads
 
 abbrev Inv-loop : tie.InvT-loop
 Inv-loop w k₀ k = all isNameByte w ≡ all isNameByte (drop k w)
@@ -19,35 +16,27 @@ Inv-loop w k₀ k = all isNameByte w ≡ all isNameByte (drop k w)
 abbrev μ-loop : tie.MeasureT-loop
 μ-loop w k₀ k = length w - k
 
--- src/names.rt:19:5
 loop-holds : tie.Need-loop-holds Inv-loop μ-loop
 loop-holds c = refl
 
--- src/names.rt:20:26
 shared-slice-read-is-name-byte : tie.Need-shared-slice-read-is-name-byte Inv-loop μ-loop
 shared-slice-read-is-name-byte c = omega arith
 
--- src/names.rt:20:13
 is-name-byte-requires : tie.Need-is-name-byte-requires Inv-loop μ-loop
 is-name-byte-requires c κs = search needs
 
--- src/names.rt:21:13
 returns : tie.Need-returns Inv-loop μ-loop
 returns c = all-other isNameByte (now (c .before .before .before .before .before .before .args .w)) (c .before .before .before .before .loop .k) (c .before .before .before .loop-test .taken) (sym (c .before .is-name-byte .ensures) ∙ not-true _ (c .if1 .taken)) (c .before .before .before .before .loop .inv)
 
--- src/names.rt:23:9
 add-k : tie.Need-add-k Inv-loop μ-loop
 add-k c = omega arith
 
--- src/names.rt:19:5
 loop-less : tie.Need-loop-less Inv-loop μ-loop
 loop-less c = omega arith
 
--- src/names.rt:19:5
 loop-again : tie.Need-loop-again Inv-loop μ-loop
 loop-again c = all-more isNameByte (now (c .before .before .before .before .before .before .args .w)) (c .before .before .before .before .loop .k) (c .before .before .before .loop-test .taken) (sym (c .before .is-name-byte .ensures) ∙ not-false _ (c .if1 .left)) (c .before .before .before .before .loop .inv)
 
--- src/names.rt:15:1
 returns-2 : tie.Need-returns-2 Inv-loop μ-loop
 returns-2 c = all-end isNameByte (now (c .before .before .before .args .w)) (c .before .loop .k) (c .loop-test .left) (c .before .loop .inv)
 

@@ -9,9 +9,6 @@ use Rattle.description.specs.Grammar.{any, isLetter}
 use Rattle.words.proofs.Reaches.{any-more, any-here, any-end}
 use Rattle.words.proofs.names.any_letter.Statement.{statement}
 use Rattle.words.proofs.names.any_letter.Tie as tie
-use Rattle.words.proofs.names.any_letter.Reads as reads
-use Rattle.words.proofs.names.any_letter.Lts as lts
-use Rattle.words.proofs.bytes.is_letter.Reads as is-letter-reads
 
 abbrev Inv-loop : tie.InvT-loop
 Inv-loop w k₀ k = any isLetter w ≡ any isLetter (drop k w)
@@ -19,35 +16,27 @@ Inv-loop w k₀ k = any isLetter w ≡ any isLetter (drop k w)
 abbrev μ-loop : tie.MeasureT-loop
 μ-loop w k₀ k = length w - k
 
--- src/names.rt:32:5
 loop-holds : tie.Need-loop-holds Inv-loop μ-loop
 loop-holds c = refl
 
--- src/names.rt:33:22
 shared-slice-read-is-letter : tie.Need-shared-slice-read-is-letter Inv-loop μ-loop
 shared-slice-read-is-letter c = omega arith
 
--- src/names.rt:33:12
 is-letter-requires : tie.Need-is-letter-requires Inv-loop μ-loop
 is-letter-requires c κs = search needs
 
--- src/names.rt:34:13
 returns : tie.Need-returns Inv-loop μ-loop
 returns c = any-here isLetter (now (c .before .before .before .before .before .before .args .w)) (c .before .before .before .before .loop .k) (c .before .before .before .loop-test .taken) (sym (c .before .is-letter .ensures) ∙ c .if1 .taken) (c .before .before .before .before .loop .inv)
 
--- src/names.rt:36:9
 add-k : tie.Need-add-k Inv-loop μ-loop
 add-k c = omega arith
 
--- src/names.rt:32:5
 loop-less : tie.Need-loop-less Inv-loop μ-loop
 loop-less c = omega arith
 
--- src/names.rt:32:5
 loop-again : tie.Need-loop-again Inv-loop μ-loop
 loop-again c = any-more isLetter (now (c .before .before .before .before .before .before .args .w)) (c .before .before .before .before .loop .k) (c .before .before .before .loop-test .taken) (sym (c .before .is-letter .ensures) ∙ c .if1 .left) (c .before .before .before .before .loop .inv)
 
--- src/names.rt:28:1
 returns-2 : tie.Need-returns-2 Inv-loop μ-loop
 returns-2 c = any-end isLetter (now (c .before .before .before .args .w)) (c .before .loop .k) (c .loop-test .left) (c .before .loop .inv)
 

@@ -9,41 +9,28 @@ use Rattle.words.proofs.Reaches.{not-a-name}
 use borrow.Author.Needs.{needs}
 use Rattle.words.proofs.names.is_name.Statement.{statement}
 use Rattle.words.proofs.names.is_name.Tie as tie
-use Rattle.words.proofs.names.is_name.Reads as reads
-use Rattle.words.proofs.names.is_name.Lts as lts
-use Rattle.words.proofs.keywords.is_keyword.Reads as is-keyword-reads
-use Rattle.words.proofs.names.all_name_bytes.Reads as all-name-bytes-reads
-use Rattle.words.proofs.names.any_letter.Reads as any-letter-reads
 
--- src/names.rt:45:9
 returns : tie.Need-returns
 returns c = not-a-name (now (c .before .before .args .w)) (c .if1 .taken)
 
--- src/names.rt:47:16
 sub-last : tie.Need-sub-last
 sub-last c = search needs
 
--- src/names.rt:48:5
 all-name-bytes-requires : tie.Need-all-name-bytes-requires
 all-name-bytes-requires c κs = search needs
 
--- src/names.rt:48:26
 shared-slice-read-result : tie.Need-shared-slice-read-result
 shared-slice-read-result c = search needs
 
--- src/names.rt:48:43
 shared-slice-read-result-2 : tie.Need-shared-slice-read-result-2
 shared-slice-read-result-2 c = search needs
 
--- src/names.rt:48:62
 any-letter-requires : tie.Need-any-letter-requires
 any-letter-requires c κs = search needs
 
--- src/names.rt:48:97
 is-keyword-requires : tie.Need-is-keyword-requires
 is-keyword-requires c κs = search needs
 
--- src/names.rt:41:1
 returns-2 : tie.Need-returns-2
 unfolding isName
 returns-2 c = rw (c .before .before .before .before .all-name-bytes .ensures, c .before .any-letter .ensures, c .is-keyword .ensures)

@@ -9,74 +9,52 @@ use Rattle.words.proofs.Reaches.{name-none, name-end, name-fault, name-
 use borrow.Author.Needs.{needs}
 use Rattle.words.proofs.names.name_at.Statement.{statement}
 use Rattle.words.proofs.names.name_at.Tie as tie
-use Rattle.words.proofs.names.name_at.Reads as reads
-use Rattle.words.proofs.names.name_at.Lts as lts
-use Rattle.words.proofs.blanks.next_ink.Reads as next-ink-reads
-use Rattle.words.proofs.names.is_called.Reads as is-called-reads
-use Rattle.words.proofs.names.name_reach.Reads as name-reach-reads
-use Rattle.words.proofs.names.period_at.Reads as period-at-reads
 
--- src/names.rt:112:9
 next-ink-requires : tie.Need-next-ink-requires
 next-ink-requires c κs = search needs
 
--- src/names.rt:114:9
 returns : tie.Need-returns
 returns c = name-none (c .before .before .before .args .level) (now (c .before .before .before .args .text)) (c .before .before .before .args .n) (c .before .next-ink .result) (c .before .next-ink .ensures) (c .if1 .taken)
 
--- src/names.rt:116:24
 sub-name-reach : tie.Need-sub-name-reach
 sub-name-reach c = omega (arith, inked-le (now (c .before .before .before .args .text)) (c .before .before .before .args .n) (c .before .before .before .pre), c .before .next-ink .ensures)
 
--- src/names.rt:116:24
 part-name-reach-start : tie.Need-part-name-reach-start
 part-name-reach-start c = omega (arith, inked-le (now (c .before .before .before .args .text)) (c .before .before .before .args .n) (c .before .before .before .pre), c .before .next-ink .ensures)
 
--- src/names.rt:116:24
 part-name-reach-end : tie.Need-part-name-reach-end
 part-name-reach-end c = search needs
 
--- src/names.rt:116:9
 name-reach-requires : tie.Need-name-reach-requires
 name-reach-requires c κs = search needs
 
--- src/names.rt:117:13
 add-k : tie.Need-add-k
 add-k c = omega (arith, name-end (c .before .before .before .before .before .args .level) (now (c .before .before .before .before .before .args .text)) (c .before .before .before .before .before .args .n) (c .before .before .before .next-ink .result) (c .name-reach .result) (c .before .before .before .next-ink .ensures) (c .before .before .if1 .left) (c .name-reach .ensures) (omega (arith, inked-le (now (c .before .before .before .before .before .args .text)) (c .before .before .before .before .before .args .n) (c .before .before .before .before .before .pre), c .before .before .before .next-ink .ensures)))
 
--- src/names.rt:118:19
 sub-is-called : tie.Need-sub-is-called
 sub-is-called c = search needs
 
--- src/names.rt:118:19
 part-is-called-start : tie.Need-part-is-called-start
 part-is-called-start c = search needs
 
--- src/names.rt:118:19
 part-is-called-end : tie.Need-part-is-called-end
 part-is-called-end c = omega (arith, name-end (c .before .before .before .before .before .args .level) (now (c .before .before .before .before .before .args .text)) (c .before .before .before .before .before .args .n) (c .before .before .before .next-ink .result) (c .name-reach .result) (c .before .before .before .next-ink .ensures) (c .before .before .if1 .left) (c .name-reach .ensures) (omega (arith, inked-le (now (c .before .before .before .before .before .args .text)) (c .before .before .before .before .before .args .n) (c .before .before .before .before .before .pre), c .before .before .before .next-ink .ensures)))
 
--- src/names.rt:118:9
 is-called-requires : tie.Need-is-called-requires
 is-called-requires c κs = search needs
 
--- src/names.rt:119:9
 returns-2 : tie.Need-returns-2
 returns-2 c = name-fault (c .before .before .before .before .before .before .before .before .args .level) (now (c .before .before .before .before .before .before .before .before .args .text)) (c .before .before .before .before .before .before .before .before .args .n) (c .before .before .before .before .before .before .next-ink .result) (c .before .before .before .name-reach .result) (c .before .before .before .before .before .before .next-ink .ensures) (c .before .before .before .before .before .if1 .left) (c .before .before .before .name-reach .ensures) (sym (c .before .is-called .ensures) ∙ not-true _ (c .if2 .taken))
 
--- src/names.rt:121:8
 period-at-requires : tie.Need-period-at-requires
 period-at-requires c κs = search needs
 
--- src/names.rt:122:23
 add-t18 : tie.Need-add-t18
 add-t18 c = omega (arith, name-end (c .before .before .before .before .before .before .before .before .before .before .args .level) (now (c .before .before .before .before .before .before .before .before .before .before .args .text)) (c .before .before .before .before .before .before .before .before .before .before .args .n) (c .before .before .before .before .before .before .before .before .next-ink .result) (c .before .before .before .before .before .name-reach .result) (c .before .before .before .before .before .before .before .before .next-ink .ensures) (c .before .before .before .before .before .before .before .if1 .left) (c .before .before .before .before .before .name-reach .ensures) (omega (arith, inked-le (now (c .before .before .before .before .before .before .before .before .before .before .args .text)) (c .before .before .before .before .before .before .before .before .before .before .args .n) (c .before .before .before .before .before .before .before .before .before .before .pre), c .before .before .before .before .before .before .before .before .next-ink .ensures)))
 
--- src/names.rt:108:1
 returns-3 : tie.Need-returns-3
 returns-3 c = name-group (c .before .before .before .before .before .before .before .before .before .before .args .level) (now (c .before .before .before .before .before .before .before .before .before .before .args .text)) (c .before .before .before .before .before .before .before .before .before .before .args .n) (c .before .before .before .before .before .before .before .before .next-ink .result) (c .before .before .before .before .before .name-reach .result) (c .before .before .before .before .before .before .before .before .next-ink .ensures) (c .before .before .before .before .before .before .before .if1 .left) (c .before .before .before .before .before .name-reach .ensures) (sym (c .before .before .before .is-called .ensures) ∙ not-false _ (c .before .before .if2 .left)) (rw (c .before .period-at .ensures) at (c .if3 .taken))
 
--- src/names.rt:108:1
 returns-4 : tie.Need-returns-4
 returns-4 c = name-item (c .before .before .before .before .before .before .before .before .before .before .args .level) (now (c .before .before .before .before .before .before .before .before .before .before .args .text)) (c .before .before .before .before .before .before .before .before .before .before .args .n) (c .before .before .before .before .before .before .before .before .next-ink .result) (c .before .before .before .before .before .name-reach .result) (c .before .before .before .before .before .before .before .before .next-ink .ensures) (c .before .before .before .before .before .before .before .if1 .left) (c .before .before .before .before .before .name-reach .ensures) (sym (c .before .before .before .is-called .ensures) ∙ not-false _ (c .before .before .if2 .left)) (rw (c .before .period-at .ensures) at (c .if3 .left))
 

@@ -9,48 +9,34 @@ use lib.ListN.{length-take}
 use borrow.Author.Needs.{needs}
 use Rattle.words.proofs.names.name_reach.Statement.{statement}
 use Rattle.words.proofs.names.name_reach.Tie as tie
-use Rattle.words.proofs.names.name_reach.Reads as reads
-use Rattle.words.proofs.names.name_reach.Lts as lts
-use Rattle.words.proofs.names.is_name.Reads as is-name-reads
-use Rattle.words.proofs.names.name_run.Reads as name-run-reads
 
--- src/names.rt:80:9
 returns : tie.Need-returns
 returns c = reach-none (now (c .before .before .args .rest)) (c .if1 .taken)
 
--- src/names.rt:82:8
 shared-slice-read-if2 : tie.Need-shared-slice-read-if2
 shared-slice-read-if2 c = search needs
 
--- src/names.rt:83:9
 returns-2 : tie.Need-returns-2
 returns-2 c = reach-hyphen (now (c .before .before .before .before .args .rest)) (c .if2 .taken)
 
--- src/names.rt:85:9
 name-run-requires : tie.Need-name-run-requires
 name-run-requires c κs = search needs
 
--- src/names.rt:87:9
 returns-3 : tie.Need-returns-3
 returns-3 c = reach-short (now (c .before .before .before .before .before .before .args .rest)) (c .before .name-run .result) (c .before .name-run .ensures) (c .before .before .if2 .left) (c .if3 .taken)
 
--- src/names.rt:90:9
 returns-4 : tie.Need-returns-4
 returns-4 c = reach-29 (now (c .before .before .before .before .before .before .before .args .rest)) (c .before .before .name-run .result) (c .before .before .name-run .ensures) (c .before .before .before .if2 .left) (c .before .if3 .left) (c .if4 .taken)
 
--- src/names.rt:92:16
 slice-aggregate-is-name : tie.Need-slice-aggregate-is-name
 slice-aggregate-is-name c = omega (arith, length-take 30 (now (c .before .before .before .before .before .before .before .before .args .rest)))
 
--- src/names.rt:92:8
 is-name-requires : tie.Need-is-name-requires
 is-name-requires c κs = search needs
 
--- src/names.rt:93:9
 returns-5 : tie.Need-returns-5
 returns-5 c = reach-whole (now (c .before .before .before .before .before .before .before .before .before .before .args .rest)) (c .before .before .before .before .before .name-run .result) (c .before .before .before .before .before .name-run .ensures) (c .before .before .before .before .before .before .if2 .left) (c .before .before .before .before .if3 .left) (c .before .before .before .if4 .left) (sym (c .before .is-name .ensures) ∙ c .if5 .taken)
 
--- src/names.rt:76:1
 returns-6 : tie.Need-returns-6
 returns-6 c = reach-not (now (c .before .before .before .before .before .before .before .before .before .before .args .rest)) (c .before .before .before .before .before .name-run .result) (c .before .before .before .before .before .name-run .ensures) (c .before .before .before .before .before .before .if2 .left) (c .before .before .before .before .if3 .left) (c .before .before .before .if4 .left) (sym (c .before .is-name .ensures) ∙ c .if5 .left)
 

@@ -9,9 +9,6 @@ use Rattle.words.specs.Runs.{nameRun}
 use Rattle.words.proofs.Reaches.{run-more, run-other, run-short, run-end}
 use Rattle.words.proofs.names.name_run.Statement.{statement}
 use Rattle.words.proofs.names.name_run.Tie as tie
-use Rattle.words.proofs.names.name_run.Reads as reads
-use Rattle.words.proofs.names.name_run.Lts as lts
-use Rattle.words.proofs.bytes.is_name_byte.Reads as is-name-byte-reads
 
 abbrev Inv-loop : tie.InvT-loop
 Inv-loop rest most k₀ k = nameRun most rest ≡ k + nameRun (most - k) (drop k rest)
@@ -19,39 +16,30 @@ Inv-loop rest most k₀ k = nameRun most rest ≡ k + nameRun (most - k) (drop k
 abbrev μ-loop : tie.MeasureT-loop
 μ-loop rest most k₀ k = most - k
 
--- src/names.rt:64:5
 loop-holds : tie.Need-loop-holds Inv-loop μ-loop
 loop-holds c = let z : c .before .args .most - 0 ≡ c .before .args .most = omega arith in rw z (omega arith)
 
--- src/names.rt:66:13
 returns : tie.Need-returns Inv-loop μ-loop
 returns c = run-short (now (c .before .before .before .before .args .rest)) (c .before .before .before .before .args .most) (c .before .before .loop .k) (c .before .loop-test .taken) (c .if1 .taken) (c .before .before .loop .inv)
 
--- src/names.rt:68:26
 shared-slice-read-is-name-byte : tie.Need-shared-slice-read-is-name-byte Inv-loop μ-loop
 shared-slice-read-is-name-byte c = omega arith
 
--- src/names.rt:68:13
 is-name-byte-requires : tie.Need-is-name-byte-requires Inv-loop μ-loop
 is-name-byte-requires c κs = search needs
 
--- src/names.rt:69:13
 returns-2 : tie.Need-returns-2 Inv-loop μ-loop
 returns-2 c = run-other (now (c .before .before .before .before .before .before .before .args .rest)) (c .before .before .before .before .before .before .before .args .most) (c .before .before .before .before .before .loop .k) (c .before .before .before .before .loop-test .taken) (c .before .before .before .if1 .left) (sym (c .before .is-name-byte .ensures) ∙ not-true _ (c .if2 .taken)) (c .before .before .before .before .before .loop .inv)
 
--- src/names.rt:71:9
 add-k : tie.Need-add-k Inv-loop μ-loop
 add-k c = omega arith
 
--- src/names.rt:64:5
 loop-less : tie.Need-loop-less Inv-loop μ-loop
 loop-less c = omega arith
 
--- src/names.rt:64:5
 loop-again : tie.Need-loop-again Inv-loop μ-loop
 loop-again c = run-more (now (c .before .before .before .before .before .before .before .args .rest)) (c .before .before .before .before .before .before .before .args .most) (c .before .before .before .before .before .loop .k) (c .before .before .before .before .loop-test .taken) (c .before .before .before .if1 .left) (sym (c .before .is-name-byte .ensures) ∙ not-false _ (c .if2 .left)) (c .before .before .before .before .before .loop .inv)
 
--- src/names.rt:60:1
 returns-3 : tie.Need-returns-3 Inv-loop μ-loop
 returns-3 c = run-end (now (c .before .before .before .args .rest)) (c .before .before .before .args .most) (c .before .loop .k) (c .loop-test .left) (c .before .loop .inv)
 

@@ -3,18 +3,13 @@ use Rattle.words.proofs.Reaches.{no-byte}
 use borrow.Author.Needs.{needs}
 use Rattle.words.proofs.names.period_at.Statement.{statement}
 use Rattle.words.proofs.names.period_at.Tie as tie
-use Rattle.words.proofs.names.period_at.Reads as reads
-use Rattle.words.proofs.names.period_at.Lts as lts
 
--- src/names.rt:103:9
 returns : tie.Need-returns
 returns c = no-byte (now (c .before .args .text)) (c .before .args .k) (c .if1 .taken)
 
--- src/names.rt:105:5
 shared-slice-read-result : tie.Need-shared-slice-read-result
 shared-slice-read-result c = search needs
 
--- src/names.rt:99:1
 returns-2 : tie.Need-returns-2
 returns-2 c = search needs
 
