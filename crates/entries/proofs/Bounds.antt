@@ -35,7 +35,7 @@ use Rattle.entries.specs.Entries.{itemOf, itemAt, calledOf, namedAt}
 use Rattle.entries.specs.declared.EntryRead.{EntryRead}
 use Rattle.entries.specs.declared.EntryRead.the-variants.{Whole, Fault}
 
--- A word that was looked for from n on ends within the text, and after n where it is one.
+-- A word that was looked for from n on ends within the text, and after n where it is one. A kind is not 0, and no scale is above its size.
 abbrev pub Reaches : List ℕ → ℕ → Reached → Type 0
 Reaches text n (Reached.Word k) = (n < k) × (k ≤ length text)
 Reaches text n (Reached.Fault k) = k ≤ length text
@@ -45,11 +45,11 @@ SidesAt text n (Sided.Side c k) = (0 < c) × ((n < k) × (k ≤ length text))
 SidesAt text n (Sided.Fault k) = k ≤ length text
 
 abbrev pub Ends : List ℕ → ℕ → Clauses → Type 0
-Ends text n (Clauses.Ended c s d k) = (0 < c) × ((n < k) × (k ≤ length text))
+Ends text n (Clauses.Ended c s d k) = ((0 < c) × (d ≤ s)) × ((n < k) × (k ≤ length text))
 Ends text n (Clauses.Fault k) = k ≤ length text
 
 abbrev pub Draws : List ℕ → ℕ → Pictured → Type 0
-Draws text n (Pictured.Ended c s d k) = (0 < c) × ((n < k) × (k ≤ length text))
+Draws text n (Pictured.Ended c s d k) = ((0 < c) × (d ≤ s)) × ((n < k) × (k ≤ length text))
 Draws text n (Pictured.Signed i j k) = (n < k) × (k ≤ length text)
 Draws text n (Pictured.Fault k) = k ≤ length text
 
@@ -59,7 +59,7 @@ Names text n (Called.Group k) = (n + 2 < k) × (k ≤ length text)
 Names text n (Called.Fault k) = k ≤ length text
 
 abbrev pub Wholes : List ℕ → ℕ → EntryRead → Type 0
-Wholes text p (Whole x d k) = (p + 5 ≤ k) × (k ≤ length text)
+Wholes text p (Whole x d k) = (x .scale ≤ x .size) × ((p + 5 ≤ k) × (k ≤ length text))
 Wholes text p (Fault k) = k ≤ length text
 
 -- the byte at a place in the text that is no 0
@@ -139,9 +139,9 @@ module _ (text : List ℕ) (n : ℕ) (l : n ≤ length text) where
       le = omega (arith, inked-le text n l, reach-le (λ u. isSome (after pictures nothing u)) [] (drop (inked text n) text), length-drop (inked text n) text)
 
       ends : (k : ℕ) (s : Shape) → Kind s → n < k → k ≤ length text → Draws text n (endedPicture k s)
-      ends k (characters c m) h a b = (h, (a, b))
-      ends k (number false i j) h a b = (omega arith, (a, b))
-      ends k (number true i j) h a b = (omega arith, (a, b))
+      ends k (characters c m) h a b = ((h, omega arith), (a, b))
+      ends k (number false i j) h a b = ((omega arith, omega arith), (a, b))
+      ends k (number true i j) h a b = ((omega arith, omega arith), (a, b))
 
       opens : (k : ℕ) (s : Shape) → n < k → k ≤ length text → Draws text n (openPicture k s)
       opens k (characters c m) a b = b
@@ -168,7 +168,7 @@ further text n k (Clauses.Fault e) h r = r
 
 module _ (text : List ℕ) where
   separate-ends : (c i j : ℕ) → 0 < c → (n : ℕ) (x : Reached) → Reaches text n x → Ends text n (afterSeparate c i j x)
-  separate-ends c i j h n (Reached.Word k) r = (h, r)
+  separate-ends c i j h n (Reached.Word k) r = ((h, omega arith), r)
   separate-ends c i j h n (Reached.Fault k) r = r
 
   side-ends : (i j n : ℕ) (x : Sided) → SidesAt text n x → Ends text n (afterSide text i j x)
@@ -197,12 +197,12 @@ module _ (text : List ℕ) where
   clauses-end n l = pic-ends n (literalAt (bytes "PIC") text n) (literal-reaches text n l (bytes "PIC"))
 
   item-whole : (l d p n k : ℕ) (x : Clauses) → p + 4 ≤ k → Ends text k x → Wholes text p (itemOf l d p n x)
-  item-whole l d p n k (Clauses.Ended c s t e) h r = (omega (arith, r .1 .0), r .1 .1)
+  item-whole l d p n k (Clauses.Ended c s t e) h r = (r .0 .1, (omega (arith, r .1 .0), r .1 .1))
   item-whole l d p n k (Clauses.Fault e) h r = r
 
   called-whole : (l d p : ℕ) (x : Called) → Names text (p + 2) x → Wholes text p (calledOf text l d p x)
   called-whole l d p (Called.Item k) r = item-whole l d p (inked text (p + 2)) k (clausesAt text k) (omega (arith, r .0)) (clauses-end k (r .1))
-  called-whole l d p (Called.Group k) r = (omega (arith, r .0), r .1)
+  called-whole l d p (Called.Group k) r = (omega arith, (omega (arith, r .0), r .1))
   called-whole l d p (Called.Fault k) r = r
 
   pub named-whole : (l d p : ℕ) → p + 2 ≤ length text → Wholes text p (namedAt text l d p)

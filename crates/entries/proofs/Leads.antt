@@ -23,7 +23,7 @@ use Rattle.description.proofs.Opening.{onClauses, clauses-lead, onLeveled, star
 use Rattle.levels.specs.declared.Entered.{Entered}
 use Rattle.levels.specs.declared.Entered.the-variants.{Depth, Not}
 use Rattle.levels.specs.Stack.{groupsOf, enteredBy, topped, toppedBy}
-use Rattle.levels.proofs.Stack.{enter-is}
+use Rattle.levels.proofs.Stack.{enter-is, AtMost, entered-le}
 use Rattle.entries.specs.Entries.{noted, itemOf, itemAt, calledOf, namedAt, enteredAt, leveledAt, entryAt}
 use Rattle.entries.specs.declared.Noted.{Noted}
 use Rattle.entries.specs.declared.EntryRead.{EntryRead}
@@ -47,7 +47,7 @@ onEntry stack text es (Fault k) = faulty es k
 
 module _ (stack text : List ℕ) (es : List Entry) where
   item-leads : (l d p n k : ℕ) (x : Clauses) → Ends text k x → onClauses text (started (topped stack l d) l p es) n x ≡ onEntry stack text es (itemOf l d p n x)
-  item-leads l d p n k (Clauses.Ended c s t e) r = rw (eqb-no c 0 (λ h. omega (arith, r .0)))
+  item-leads l d p n k (Clauses.Ended c s t e) r = rw (eqb-no c 0 (λ h. omega (arith, r .0 .0)))
   item-leads l d p n k (Clauses.Fault e) r = refl
 
   called-leads : (l d p : ℕ) (x : Called) → Names text (p + 2) x →
@@ -92,3 +92,28 @@ module _ (stack text : List ℕ) (es : List Entry) where
 
     pub entry-whole : (p : ℕ) → p < length text → Wholes text p (entryAt stack depth waiting text p)
     entry-whole p k = leveled-whole p k (levelAt (groupsOf stack depth waiting) text p) refl
+
+    -- At most one group more is open at it.
+    abbrev pub Deep : EntryRead → Type 0
+    Deep (Whole x d k) = d ≤ depth + 1
+    Deep (Fault k) = Unit {0}
+
+    clauses-deep : (l d p n : ℕ) → d ≤ depth + 1 → (x : Clauses) → Deep (itemOf l d p n x)
+    clauses-deep l d p n h (Clauses.Ended c s t k) = h
+    clauses-deep l d p n h (Clauses.Fault k) = tt
+
+    called-deep : (l d p : ℕ) → d ≤ depth + 1 → (x : Called) → Deep (calledOf text l d p x)
+    called-deep l d p h (Called.Item k) = clauses-deep l d p (inked text (p + 2)) h (clausesAt text k)
+    called-deep l d p h (Called.Group k) = h
+    called-deep l d p h (Called.Fault k) = tt
+
+    entered-deep : (l p : ℕ) (x : Entered) → AtMost (depth + 1) x → Deep (enteredAt text l p x)
+    entered-deep l p (Depth d) h = called-deep l d p h (nameAt l text (p + 2))
+    entered-deep l p Not h = tt
+
+    leveled-deep : (p : ℕ) (x : Leveled) → Deep (leveledAt stack depth waiting text p x)
+    leveled-deep p (Leveled.Level l) = entered-deep l p (enteredBy stack depth waiting l) (entered-le stack depth waiting l)
+    leveled-deep p (Leveled.Fault k) = tt
+
+    pub entry-deep : (p : ℕ) → Deep (entryAt stack depth waiting text p)
+    entry-deep p = leveled-deep p (levelAt (groupsOf stack depth waiting) text p)

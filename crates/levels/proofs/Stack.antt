@@ -63,17 +63,17 @@ enter-is stack depth waiting l = by (eqb waiting 0)
     member true = rw add-one
     member false = refl
 
-    by : (t : Bool) → enter (cond t (inside (opened stack depth)) (awaiting waiting (opened stack depth))) l
-        ≡ toppedBy stack l (cond t (cond (eqb l 1 || eqb l 77) (Depth 0) (backed (backDepth stack depth l))) (cond (ltb waiting l && leb l 49) (Depth (depth + 1)) Not))
+    by : (t : Bool) → enter (cond t (inside (opened stack depth)) (awaiting (waiting - 1) (opened stack depth))) l
+        ≡ toppedBy stack l (cond t (cond (eqb l 1 || eqb l 77) (Depth 0) (backed (backDepth stack depth l))) (cond (ltb (waiting - 1) l && leb l 49) (Depth (depth + 1)) Not))
     by true = outside (eqb l 1 || eqb l 77)
-    by false = member (ltb waiting l && leb l 49)
+    by false = member (ltb (waiting - 1) l && leb l 49)
 
 -- The branches of entering.
 module _ (stack : List ℕ) (depth waiting l : ℕ) where
-  pub enter-member : ¬ (waiting ≡ 0) → ltb waiting l && leb l 49 ≡ true → Depth (depth + 1) ≡ enteredBy stack depth waiting l
+  pub enter-member : ¬ (waiting ≡ 0) → ltb (waiting - 1) l && leb l 49 ≡ true → Depth (depth + 1) ≡ enteredBy stack depth waiting l
   enter-member h e = rw (eqb-no waiting 0 h, e)
 
-  pub enter-no-member : ¬ (waiting ≡ 0) → ltb waiting l && leb l 49 ≡ false → Not ≡ enteredBy stack depth waiting l
+  pub enter-no-member : ¬ (waiting ≡ 0) → ltb (waiting - 1) l && leb l 49 ≡ false → Not ≡ enteredBy stack depth waiting l
   enter-no-member h e = rw (eqb-no waiting 0 h, e)
 
   pub enter-outside : waiting ≡ 0 → eqb l 1 || eqb l 77 ≡ true → Depth 0 ≡ enteredBy stack depth waiting l
@@ -159,3 +159,30 @@ stored-top stack l zero h k = absurd (omega arith)
 stored-top stack l (suc d) h k =
     let z : suc d - 1 ≡ d = omega arith in
     rw (z, getD-set-same stack d l 0, opened-set stack d l d (omega arith))
+
+-- At most one group more is open.
+back-le : (stack : List ℕ) (d l : ℕ) → backDepth stack d l ≤ d
+unfolding backDepth
+back-le stack zero l = omega arith
+back-le stack (suc d) l = by (eqb (getD stack d 0) l) (back-le stack d l)
+  where
+    by : (t : Bool) → backDepth stack d l ≤ d → cond t (suc d) (backDepth stack d l) ≤ suc d
+    by true h = omega arith
+    by false h = omega arith
+
+abbrev pub AtMost : ℕ → Entered → Type 0
+AtMost n (Depth d) = d ≤ n
+AtMost n Not = Unit {0}
+
+pub entered-le : (stack : List ℕ) (depth waiting l : ℕ) → AtMost (depth + 1) (enteredBy stack depth waiting l)
+entered-le stack depth waiting l = by (eqb waiting 0) (eqb l 1 || eqb l 77) (ltb (waiting - 1) l && leb l 49)
+  where
+    walked : (t : Bool) → AtMost (depth + 1) (cond t Not (Depth (backDepth stack depth l)))
+    walked true = tt
+    walked false = omega (arith, back-le stack depth l)
+
+    by : (s t u : Bool) → AtMost (depth + 1) (cond s (cond t (Depth 0) (backed (backDepth stack depth l))) (cond u (Depth (depth + 1)) Not))
+    by true true u = omega arith
+    by true false u = walked (eqb (backDepth stack depth l) 0)
+    by false t true = omega arith
+    by false t false = tt

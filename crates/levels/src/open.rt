@@ -1,5 +1,5 @@
 // The groups that are open at an entry. `stack` has the level numbers of their members, outermost first;
-// `waiting` is the level of a group that has no member yet, or 0.
+// `waiting` is one more than the level of a group that has no member yet, or 0.
 ghost use mathlib.Core.Path.{_≡_};
 ghost use Prim.Native.Nat.{_≤_};
 ghost use lib.ListN.{length};
@@ -26,7 +26,7 @@ pub fn enter(stack: &[u32], depth: usize, waiting: u32, level: u32) -> Entered
     ensures { λ r. ⌜ r ≡ enteredBy (now (stack .entry)) depth waiting level ⌝ }
 {
     if waiting != 0 {
-        if (waiting < level) & (level <= 49) {
+        if (waiting - 1 < level) & (level <= 49) {
             return Entered::Depth(depth + 1);
         }
         return Entered::Not;

@@ -5,8 +5,11 @@ use borrow.Author.Needs.{needs}
 use Rattle.levels.proofs.open.enter.Statement.{statement}
 use Rattle.levels.proofs.open.enter.Tie as tie
 
-add-t10 : tie.Need-add-t10
-add-t10 c = search needs
+sub-if2 : tie.Need-sub-if2
+sub-if2 c = search needs
+
+add-t11 : tie.Need-add-t11
+add-t11 c = search needs
 
 returns : tie.Need-returns
 returns c = enter-member (now (c .before .before .before .args .stack)) (c .before .before .before .args .depth) (c .before .before .before .args .waiting) (c .before .before .before .args .level) (c .before .if1 .taken) (c .if2 .taken)
@@ -28,4 +31,5 @@ returns-5 c = enter-back (now (c .before .before .before .before .before .args .
 
 pub enter-spec : {M : Type 1} → statement M
 enter-spec =
-    tie.close (tie.spec add-t10 returns returns-2 returns-3 back-requires returns-4 returns-5)
+    tie.close
+    (tie.spec sub-if2 add-t11 returns returns-2 returns-3 back-requires returns-4 returns-5)
