@@ -219,6 +219,17 @@ level-inside g text p l e = by (enters g (getD text p 0 ∷ getD text (p + 1) 0 
     by false true h e = let z : _≡_ {A = ℕ} 0 1 = cc in absurd (omega arith)
     by false false h e = let z : _≡_ {A = ℕ} 0 1 = cc in absurd (omega arith)
 
+pub level-small : (g : Groups) (text : List ℕ) (p l : ℕ) → levelAt g text p ≡ Leveled.Level l → l ≤ 99
+level-small g text p l e = by (enters g (getD text p 0 ∷ getD text (p + 1) 0 ∷ [])) (beginsLevel g (getD text p 0 ∷ [])) refl e
+  where
+    by : (s t : Bool) → enters g (getD text p 0 ∷ getD text (p + 1) 0 ∷ []) ≡ s → leveled p s t (10 * (getD text p 0 - 0x30) + (getD text (p + 1) 0 - 0x30)) ≡ Leveled.Level l → l ≤ 99
+    by true t h e =
+        let d = digits-of g (getD text p 0) (getD text (p + 1) 0) h in
+        let i : 10 * (getD text p 0 - 0x30) + (getD text (p + 1) 0 - 0x30) ≡ l = cc in
+        omega (arith, digit-range (getD text p 0) (d .0), digit-range (getD text (p + 1) 0) (d .1))
+    by false true h e = let z : _≡_ {A = ℕ} 0 1 = cc in absurd (omega arith)
+    by false false h e = let z : _≡_ {A = ℕ} 0 1 = cc in absurd (omega arith)
+
 pub leveled-le : (g : Groups) (text : List ℕ) (p k : ℕ) → p < length text → levelAt g text p ≡ Leveled.Fault k → k ≤ length text
 leveled-le g text p k l e = by (enters g (getD text p 0 ∷ getD text (p + 1) 0 ∷ [])) (beginsLevel g (getD text p 0 ∷ [])) e
   where

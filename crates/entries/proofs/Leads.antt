@@ -24,18 +24,11 @@ use Rattle.levels.specs.declared.Entered.{Entered}
 use Rattle.levels.specs.declared.Entered.the-variants.{Depth, Not}
 use Rattle.levels.specs.Stack.{groupsOf, enteredBy, topped, toppedBy}
 use Rattle.levels.proofs.Stack.{enter-is, AtMost, entered-le}
-use Rattle.entries.specs.Entries.{noted, itemOf, itemAt, calledOf, namedAt, enteredAt, leveledAt, entryAt}
+use Rattle.entries.specs.Entries.{contentOf, entryOf, noted, itemOf, itemAt, calledOf, namedAt, enteredAt, leveledAt, entryAt}
 use Rattle.entries.specs.declared.Noted.{Noted}
 use Rattle.entries.specs.declared.EntryRead.{EntryRead}
 use Rattle.entries.specs.declared.EntryRead.the-variants.{Whole, Fault}
-use Rattle.entries.proofs.Bounds.{Ends, Names, Wholes, clauses-end, name-reaches, named-whole, level-inside, leveled-le}
-
--- The entry that was noted: kind 0 is a group.
-abbrev pub contentOf : ℕ → ℕ → ℕ → Content
-contentOf kind size scale = cond (eqb kind 0) group (item kind size scale)
-
-abbrev pub entryOf : Noted → Entry
-entryOf x = entry (x .level) (x .place) (x .named) (contentOf (x .kind) (x .size) (x .scale))
+use Rattle.entries.proofs.Bounds.{Ends, Names, Wholes, clauses-end, name-reaches, named-whole, level-inside, level-small, leveled-le}
 
 -- The groups that are open after it.
 abbrev pub groupsAfter : List ℕ → Noted → ℕ → Groups
@@ -93,27 +86,28 @@ module _ (stack text : List ℕ) (es : List Entry) where
     pub entry-whole : (p : ℕ) → p < length text → Wholes text p (entryAt stack depth waiting text p)
     entry-whole p k = leveled-whole p k (levelAt (groupsOf stack depth waiting) text p) refl
 
-    -- At most one group more is open at it.
+    -- At most one group more is open at it, and its level has two digits.
     abbrev pub Deep : EntryRead → Type 0
-    Deep (Whole x d k) = d ≤ depth + 1
+    Deep (Whole x d k) = (d ≤ depth + 1) × (x .level ≤ 99)
     Deep (Fault k) = Unit {0}
 
-    clauses-deep : (l d p n : ℕ) → d ≤ depth + 1 → (x : Clauses) → Deep (itemOf l d p n x)
+    clauses-deep : (l d p n : ℕ) → (d ≤ depth + 1) × (l ≤ 99) → (x : Clauses) → Deep (itemOf l d p n x)
     clauses-deep l d p n h (Clauses.Ended c s t k) = h
     clauses-deep l d p n h (Clauses.Fault k) = tt
 
-    called-deep : (l d p : ℕ) → d ≤ depth + 1 → (x : Called) → Deep (calledOf text l d p x)
+    called-deep : (l d p : ℕ) → (d ≤ depth + 1) × (l ≤ 99) → (x : Called) → Deep (calledOf text l d p x)
     called-deep l d p h (Called.Item k) = clauses-deep l d p (inked text (p + 2)) h (clausesAt text k)
     called-deep l d p h (Called.Group k) = h
     called-deep l d p h (Called.Fault k) = tt
 
-    entered-deep : (l p : ℕ) (x : Entered) → AtMost (depth + 1) x → Deep (enteredAt text l p x)
-    entered-deep l p (Depth d) h = called-deep l d p h (nameAt l text (p + 2))
-    entered-deep l p Not h = tt
+    entered-deep : (l p : ℕ) → l ≤ 99 → (x : Entered) → AtMost (depth + 1) x → Deep (enteredAt text l p x)
+    entered-deep l p g (Depth d) h = called-deep l d p (h, g) (nameAt l text (p + 2))
+    entered-deep l p g Not h = tt
 
-    leveled-deep : (p : ℕ) (x : Leveled) → Deep (leveledAt stack depth waiting text p x)
-    leveled-deep p (Leveled.Level l) = entered-deep l p (enteredBy stack depth waiting l) (entered-le stack depth waiting l)
-    leveled-deep p (Leveled.Fault k) = tt
+    leveled-deep : (p : ℕ) (x : Leveled) → levelAt (groupsOf stack depth waiting) text p ≡ x → Deep (leveledAt stack depth waiting text p x)
+    leveled-deep p (Leveled.Level l) h =
+        entered-deep l p (level-small (groupsOf stack depth waiting) text p l h) (enteredBy stack depth waiting l) (entered-le stack depth waiting l)
+    leveled-deep p (Leveled.Fault k) h = tt
 
     pub entry-deep : (p : ℕ) → Deep (entryAt stack depth waiting text p)
-    entry-deep p = leveled-deep p (levelAt (groupsOf stack depth waiting) text p)
+    entry-deep p = leveled-deep p (levelAt (groupsOf stack depth waiting) text p) refl

@@ -1,7 +1,9 @@
 -- Entries as the code reads them: exact, and with counts that stop at 65,536.
+use mathlib.Core.Bool.{cond}
 use mathlib.Core.List.{List}
 use Prim.Native.Nat.{ℕ, _+_, min}
-use Rattle.description.specs.Grammar.{bytes, ended}
+use lib.Dec.{eqb}
+use Rattle.description.specs.Grammar.{bytes, ended, Entry, entry, Content, group, item}
 use Rattle.description.specs.Stages.{inked, literalAt, sided, afterSeparate, afterPicture, pictureAt, clausesAt, nameAt, levelAt}
 use Rattle.description.specs.declared.Sided.{Sided}
 use Rattle.description.specs.declared.Called.{Called}
@@ -71,3 +73,10 @@ capNoted x = noted (x .level) (x .place) (x .named) (x .kind) (cap (x .size)) (c
 abbrev pub capEntry : EntryRead → EntryRead
 capEntry (Whole x d k) = Whole (capNoted x) d k
 capEntry (Fault k) = Fault k
+
+-- The entry that was noted: kind 0 is a group.
+abbrev pub contentOf : ℕ → ℕ → ℕ → Content
+contentOf kind size scale = cond (eqb kind 0) group (item kind size scale)
+
+abbrev pub entryOf : Noted → Entry
+entryOf x = entry (x .level) (x .place) (x .named) (contentOf (x .kind) (x .size) (x .scale))
