@@ -8,7 +8,7 @@ use native.Mathlib.Omega.{arith}
 use native.Mathlib.Numerals.{add-one}
 use borrow.Author.Tests.{lt-ltb}
 use lib.Dec.{eqb, ltb}
-use lib.ListN.{length, getD, set, drop, replicate, length-replicate, length-set, length-append}
+use lib.ListN.{length, getD, set, drop, length-set, length-append}
 use lib.Seq.{sets, length-sets}
 use Rattle.description.specs.Grammar.{Entry}
 use Rattle.description.specs.Reader.{Groups, awaiting, inside, level, ends, State, Reading, read, faulty, layout, readText}
@@ -37,14 +37,14 @@ pub record Going (text flat stack : List ℕ) (depth waiting count at : ℕ) : T
   pub inside : at ≤ length text
   pub few : 5 * count ≤ at
   pub deep : depth ≤ count
-  pub wide : length stack ≡ 821
+  pub wide : 821 ≤ length stack
 
 abbrev pub found : ℕ → Bool → ℕ → Found
 found n w p = record { count = n; whole = w; place = p }
 
-pub begins : (text flat : List ℕ) → Going text flat (replicate 821 0) 0 0 0 0
+pub begins : (text flat stack : List ℕ) → 821 ≤ length stack → Going text flat stack 0 0 0 0
 unfolding readText notedFrom opened
-begins text flat =
+begins text flat stack h =
     record {
       exact = [];
       held = refl;
@@ -54,7 +54,7 @@ begins text flat =
       inside = omega arith;
       few = omega arith;
       deep = omega arith;
-      wide = length-replicate {A = ℕ} 821 0;
+      wide = h;
     }
 
 module _ (text flat stack : List ℕ) (depth waiting count at : ℕ) (G : Going text flat stack depth waiting count at) (short : length text ≤ 4096) where
@@ -204,12 +204,12 @@ module _ (text flat stack : List ℕ) (depth waiting count at : ℕ) (G : Going 
               rw (top, eqb-no (x .level + 1) 0 (λ i. omega arith), z)
           by false = rw top
 
-      wide-after : length (pushed stack d (x .level)) ≡ 821
+      wide-after : 821 ≤ length (pushed stack d (x .level))
       wide-after = by d
         where
-          by : (d : ℕ) → length (pushed stack d (x .level)) ≡ 821
+          by : (d : ℕ) → 821 ≤ length (pushed stack d (x .level))
           by zero = G .wide
-          by (suc d) = length-set stack d (x .level) ∙ G .wide
+          by (suc d) = omega (arith, length-set stack d (x .level), G .wide)
 
       -- A blank or the end after it.
       pub goes-on : parted (drop k text) ≡ true → Going text after (pushed stack d (x .level)) d (waitingAfter x) (count + 1) k

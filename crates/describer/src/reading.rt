@@ -21,12 +21,11 @@ fn parted_at(text: &[u8], k: usize) -> bool
     is_blank(text[k])
 }
 
-// The entries of a text of at most 4,096 bytes, each in six numbers.
-pub fn read_entries(text: &[u8], entries: &mut [u32]) -> Found
-    requires { ⌜ (length (now text) ≤ 4096) × (4926 ≤ length (now entries)) ⌝ }
+// The entries of a text of at most 4,096 bytes, each in six numbers. `stack` is for the open groups.
+pub fn read_entries(text: &[u8], entries: &mut [u32], stack: &mut [u32]) -> Found
+    requires { ⌜ (length (now text) ≤ 4096) × ((4926 ≤ length (now entries)) × (821 ≤ length (now stack))) ⌝ }
     ensures { λ r. ⌜ Reads (now (text .entry)) (now (entries .exit)) r ⌝ }
 {
-    let mut stack = [0u32; 821];
     let mut depth: usize = 0;
     let mut waiting: u32 = 0;
     let mut count: usize = 0;
@@ -40,7 +39,7 @@ pub fn read_entries(text: &[u8], entries: &mut [u32]) -> Found
                 place: p,
             };
         }
-        match entry_at(&stack, depth, waiting, text, p) {
+        match entry_at(stack, depth, waiting, text, p) {
             EntryRead::Fault(k) => {
                 return Found {
                     count,
@@ -50,7 +49,7 @@ pub fn read_entries(text: &[u8], entries: &mut [u32]) -> Found
             }
             EntryRead::Whole(x, d, end) => {
                 store(entries, count, x);
-                push(&mut stack, d, x.level);
+                push(stack, d, x.level);
                 count += 1;
                 depth = d;
                 waiting = waiting_after(x);
