@@ -139,8 +139,8 @@ module _ (flat : List ℕ) (n : ℕ) where
     lay-more {s} h m z =
         let k : over i (rowIn flat i n o) ≡ false = rw (← e) h in
         record {
-          limit = L .limit ∙ rw (entries-cons flat i n l, k, add-one, z .is);
-          laid = L .laid ∙ rw (entries-cons flat i n l, ← e) (sym (append-assoc (take (i * 4) rows) (numbersOf r) (rowNumbers (layout (o + sizeOf (entryOf (notedAt flat i) .content)) (entriesIn flat (suc i) n)))) ∙ rw (← z .is) (rw (← added, add-one)));
+          limit = L .limit ∙ rw (entries-cons flat i n l, k, add-one i, z .is);
+          laid = L .laid ∙ rw (entries-cons flat i n l, ← e) (sym (append-assoc (take (i * 4) rows) (numbersOf r) (rowNumbers (layout (o + sizeOf (entryOf (notedAt flat i) .content)) (entriesIn flat (suc i) n)))) ∙ rw (← z .is) (rw (← added, add-one i)));
           within = omega arith;
           few = omega (arith, not-over i r h);
           low = omega (arith, L .low, z .small);
