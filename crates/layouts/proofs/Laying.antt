@@ -34,7 +34,7 @@ most-digits k h l m = rw (eqb-no k 0 h, leb-no k 2 l, leb-so m)
 pub most-signed : (k : ℕ) → ¬ (k ≡ 0) → 2 < k → 4 < k → 19 ≡ most k
 most-signed k h l m = rw (eqb-no k 0 h, leb-no k 2 l, leb-no k 4 m)
 
-most-le : (k : ℕ) → most k ≤ 65535
+pub most-le : (k : ℕ) → most k ≤ 65535
 most-le k = by (eqb k 0) (leb k 2) (leb k 4)
   where
     by : (a b c : Bool) → cond a 65535 (cond b 256 (cond c 18 19)) ≤ 65535
