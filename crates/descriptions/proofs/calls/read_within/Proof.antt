@@ -1,57 +1,50 @@
+use Prim.Native.Nat.{_-_, _+_, _*_, _≤_}
+use native.Mathlib.Omega.{arith}
+use mathlib.Core.Path.{_≡_, refl, sym, ap, _∙_}
+use mathlib.Core.List.{_++_, map}
+use lib.ListN.{length, take, drop, length-set, length-take}
+use denote.Ref.{now}
+use borrow.Author.Tests.{not-true, not-false}
+use Rattle.descriptions.proofs.Answers.{within-short, within-long, within-cut}
 use borrow.Author.Needs.{needs}
 use Rattle.descriptions.proofs.calls.read_within.Statement.{statement}
 use Rattle.descriptions.proofs.calls.read_within.Tie as tie
-use Rattle.descriptions.proofs.calls.read_within.Reads as reads
-use Rattle.descriptions.proofs.calls.read_within.Lts as lts
-use Rattle.describer.proofs.reading.read_entries.Reads as read-entries-reads
 
--- src/calls.rt:22:9
 read-entries-requires : tie.Need-read-entries-requires
 read-entries-requires c κs = search needs
 
--- src/calls.rt:22:9
 same-length : tie.Need-same-length
 same-length c = search needs
 
--- src/calls.rt:22:9
 same-length-2 : tie.Need-same-length-2
 same-length-2 c = search needs
 
--- src/calls.rt:22:9
 returns : tie.Need-returns
-returns c = ?
+returns c = within-short (now (c .before .before .before .before .before .before .before .before .before .before .before .args .text)) _ (c .before .before .before .before .read-entries .result) (c .before .before .before .before .before .before .before .if1 .taken) (c .before .before .before .before .read-entries .ensures)
 
--- src/calls.rt:24:30
 slice-aggregate-read-entries : tie.Need-slice-aggregate-read-entries
-slice-aggregate-read-entries c = ?
+slice-aggregate-read-entries c = omega (arith, length-take 4096 (now (c .before .before .before .before .before .args .text)))
 
--- src/calls.rt:24:9
 read-entries-requires-2 : tie.Need-read-entries-requires-2
-read-entries-requires-2 c κs = ?
+read-entries-requires-2 c κs = (omega (arith, length-take 4096 (now (c .before .before .before .before .before .before .before .args .text))), c .before .before .before .before .before .before .before .pre)
 
--- src/calls.rt:26:9
 same-length-3 : tie.Need-same-length-3
 same-length-3 c = search needs
 
--- src/calls.rt:26:9
 same-length-4 : tie.Need-same-length-4
 same-length-4 c = search needs
 
--- src/calls.rt:26:9
 returns-2 : tie.Need-returns-2
-returns-2 c = ?
+returns-2 c = within-cut (now (c .before .before .before .before .before .before .before .before .before .before .before .before .before .args .text)) _ (c .before .before .before .before .before .read-entries2 .result) (c .before .before .before .before .before .before .before .before .before .if1 .left) (c .before .before .before .before .before .read-entries2 .ensures) (c .if2 .taken)
 
--- src/calls.rt:17:1
 same-length-5 : tie.Need-same-length-5
 same-length-5 c = search needs
 
--- src/calls.rt:17:1
 same-length-6 : tie.Need-same-length-6
 same-length-6 c = search needs
 
--- src/calls.rt:17:1
 returns-3 : tie.Need-returns-3
-returns-3 c = ?
+returns-3 c = within-long (now (c .before .before .before .before .before .before .before .before .before .before .before .before .before .args .text)) _ (c .before .before .before .before .before .read-entries2 .result) (c .before .before .before .before .before .before .before .before .before .if1 .left) (c .before .before .before .before .before .read-entries2 .ensures) (c .if2 .left)
 
 pub read-within-spec : {M : Type 1} → statement M
 read-within-spec =

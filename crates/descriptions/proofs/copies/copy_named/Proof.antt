@@ -1,61 +1,58 @@
+use Prim.Native.Nat.{_-_, _+_, _*_, _≤_}
+use native.Mathlib.Omega.{arith}
+use mathlib.Core.Path.{_≡_, refl, sym, ap, _∙_}
+use mathlib.Core.List.{_++_, map}
+use lib.ListN.{length, take, drop, length-set, length-take}
+use denote.Ref.{now}
+use borrow.Author.Tests.{not-true, not-false}
+use borrow.Author.Needs.{needs}
+use Rattle.describer.specs.Stored.{notedFrom}
+use Rattle.descriptions.specs.Calls.{namedOf}
+use Rattle.descriptions.proofs.Answers.{named-none, named-more}
 use Rattle.descriptions.proofs.copies.copy_named.Statement.{statement}
 use Rattle.descriptions.proofs.copies.copy_named.Tie as tie
-use Rattle.descriptions.proofs.copies.copy_named.Reads as reads
-use Rattle.descriptions.proofs.copies.copy_named.Lts as lts
 
 abbrev Inv-loop : tie.InvT-loop
-Inv-loop entries n to₀ i₀ to i = ?
+Inv-loop entries n to₀ i₀ to i = (i ≤ n) × ((length to ≡ length to₀) × (to ≡ map namedOf (notedFrom entries 0 i) ++ drop i to₀))
 
 abbrev μ-loop : tie.MeasureT-loop
-μ-loop entries n to₀ i₀ to i = ?
+μ-loop entries n to₀ i₀ to i = n - i
 
--- src/copies.rt:26:5
 loop-holds : tie.Need-loop-holds Inv-loop μ-loop
-loop-holds c = ?
+loop-holds c = (omega arith, (refl, named-none (now (c .args .entries)) (now (c .args .to))))
 
--- src/copies.rt:27:18
 mul-at : tie.Need-mul-at Inv-loop μ-loop
-mul-at c = ?
+mul-at c = omega (arith, c .before .before .pre .0, c .before .before .pre .1, c .before .loop .inv .1 .0)
 
--- src/copies.rt:28:25
 add-to : tie.Need-add-to Inv-loop μ-loop
-add-to c = ?
+add-to c = omega (arith, c .before .before .pre .0, c .before .before .pre .1, c .before .loop .inv .1 .0)
 
--- src/copies.rt:28:17
 mul-to : tie.Need-mul-to Inv-loop μ-loop
-mul-to c = ?
+mul-to c = omega (arith, c .before .before .pre .0, c .before .before .pre .1, c .before .loop .inv .1 .0)
 
--- src/copies.rt:28:17
 shared-slice-read-to : tie.Need-shared-slice-read-to Inv-loop μ-loop
-shared-slice-read-to c = ?
+shared-slice-read-to c = omega (arith, c .before .before .before .pre .0, c .before .before .before .pre .1, c .before .before .loop .inv .1 .0)
 
--- src/copies.rt:28:9
 mul-to-2 : tie.Need-mul-to-2 Inv-loop μ-loop
-mul-to-2 c = ?
+mul-to-2 c = omega (arith, c .before .before .before .pre .0, c .before .before .before .pre .1, c .before .before .loop .inv .1 .0)
 
--- src/copies.rt:28:9
 slice-write-to : tie.Need-slice-write-to Inv-loop μ-loop
-slice-write-to c = ?
+slice-write-to c = omega (arith, c .before .before .before .pre .0, c .before .before .before .pre .1, c .before .before .loop .inv .1 .0)
 
--- src/copies.rt:29:9
 add-i : tie.Need-add-i Inv-loop μ-loop
-add-i c = ?
+add-i c = omega (arith, c .before .before .before .pre .0, c .before .before .before .pre .1, c .before .before .loop .inv .1 .0)
 
--- src/copies.rt:26:5
 loop-less : tie.Need-loop-less Inv-loop μ-loop
-loop-less c = ?
+loop-less c = omega (arith, c .before .before .before .pre .0, c .before .before .before .pre .1, c .before .before .loop .inv .1 .0)
 
--- src/copies.rt:26:5
 loop-again : tie.Need-loop-again Inv-loop μ-loop
-loop-again c = ?
+loop-again c = (omega arith, (simp length-set (c .before .before .loop .inv .1 .0), named-more (now (c .before .before .before .args .entries)) (now (c .before .before .before .args .to)) (c .before .before .loop .i) (omega (arith, c .before .before .before .pre .1)) (c .before .before .loop .inv .1 .1)))
 
--- src/copies.rt:21:1
 same-length : tie.Need-same-length Inv-loop μ-loop
-same-length c = ?
+same-length c = c .before .loop .inv .1 .0
 
--- src/copies.rt:21:1
 returns : tie.Need-returns Inv-loop μ-loop
-returns c = ?
+returns c = let z : c .before .loop .i ≡ c .before .before .args .n = omega (arith, c .before .loop .inv .0) in rw z at (c .before .loop .inv .1 .1)
 
 pub copy-named-spec : {M : Type 1} → statement M
 copy-named-spec =
