@@ -46,8 +46,15 @@ unfolding notedFrom
 noted-same l k i zero f = refl
 noted-same l k i (suc n) f =
     let z : (i + suc n) * 6 ≡ (suc i + n) * 6 = omega arith in
-    rw (f (i * 6) (omega arith), f (i * 6 + 1) (omega arith), f (i * 6 + 2) (omega arith), f (i * 6 + 3) (omega arith), f (i * 6 + 4) (omega arith), f (i * 6 + 5) (omega arith),
-    noted-same l k (suc i) n (λ m h. f m (omega arith)))
+    rw (
+      f (i * 6) (omega arith),
+      f (i * 6 + 1) (omega arith),
+      f (i * 6 + 2) (omega arith),
+      f (i * 6 + 3) (omega arith),
+      f (i * 6 + 4) (omega arith),
+      f (i * 6 + 5) (omega arith),
+      noted-same l k (suc i) n (λ m h. f m (omega arith)),
+    )
 
 -- One entry more.
 pub noted-snoc : (l : List ℕ) (i n : ℕ) → notedFrom l i (suc n) ≡ notedFrom l i n ++ notedAt l (i + n) ∷ []

@@ -111,7 +111,8 @@ module _ (text flat stack : List ℕ) (depth waiting count at : ℕ) (G : Going 
       pub near : (d ≤ depth + 1) × (y .level ≤ 99)
 
     pub exactly : {x : Noted} {d k : ℕ} → r ≡ Whole x d k → Exact x d k
-    exactly {x} {d} {k} g = by (entryAt stack depth waiting text p) refl (sym g ∙ f) (entry-whole stack text (map entryOf (G .exact)) depth waiting p before-end) (entry-deep stack text (map entryOf (G .exact)) depth waiting p)
+    exactly {x} {d} {k} g = by (entryAt stack depth waiting text p) refl (sym g ∙ f) (entry-whole stack text (map entryOf (G .exact)) depth waiting p before-end)
+        (entry-deep stack text (map entryOf (G .exact)) depth waiting p)
       where
         by : (z : EntryRead) → entryAt stack depth waiting text p ≡ z → Whole x d k ≡ capEntry z → Wholes text p z → Deep stack text (map entryOf (G .exact)) depth waiting z → Exact x d k
         by (Whole y d′ m) j i w n =

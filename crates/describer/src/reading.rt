@@ -4,10 +4,12 @@ ghost use Prim.Native.Nat.{_≤_};
 ghost use lib.ListN.{length, drop};
 ghost use Rattle.description.specs.Stages.{parted};
 ghost use Rattle.describer.specs.Stored.{Reads};
-use crate::store::{push, store, waiting_after};
 use crate::Found;
-use entries::entry::entry_at;
+use crate::store::push;
+use crate::store::store;
+use crate::store::waiting_after;
 use entries::EntryRead;
+use entries::entry::entry_at;
 use words::blanks::next_ink;
 use words::bytes::is_blank;
 

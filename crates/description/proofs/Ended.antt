@@ -154,7 +154,8 @@ module _ (text : List ℕ) (e : ℕ) (h : Started) where
   name-middle = record { unended = refl; asks = λ p. refl }
 
   name-decided : (p m : ℕ) (bs : List ℕ) → unended (take m bs) ≡ none → (c d g : Bool) → isCalled (take m bs) ≡ c → eqb (getD (drop m bs) 0 0) 0x2e ≡ d → groupable (h .level) ≡ g →
-      leads text (next (name h) p (take (cond (d && (c && g)) (suc m) m) bs)) (name h) (p + cond (d && (c && g)) (suc m) m) ≡ onCalled text h p (cond c (cond (d && g) (Called.Group (p + m + 1)) (Called.Item (p + m))) (Called.Fault (p + m)))
+      leads text (next (name h) p (take (cond (d && (c && g)) (suc m) m) bs)) (name h) (p + cond (d && (c && g)) (suc m) m) ≡ onCalled text h p
+      (cond c (cond (d && g) (Called.Group (p + m + 1)) (Called.Item (p + m))) (Called.Fault (p + m)))
   unfolding next
   name-decided p m bs u true true true i j k =
       let z : p + suc m ≡ p + m + 1 = omega arith in

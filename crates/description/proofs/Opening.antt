@@ -127,8 +127,10 @@ module _ (text : List ℕ) (g : Groups) (es : List Entry) (p : ℕ) where
       let k : drop (p + 2) text ≡ bs = sym (drop-drop 2 p text) ∙ ap (drop 2) f in
       rw (i, j, k)
 
-  level-decided : (rest : List ℕ) → drop p text ≡ rest → blanks rest ≡ 0 → 0 < length rest → (s t : Bool) → enters g (getD rest 0 0 ∷ getD rest 1 0 ∷ []) ≡ s → beginsLevel g (getD rest 0 0 ∷ []) ≡ t →
-      arrive (pause descriptions (level g es) p (take (reach (begins (level g es)) [] rest) rest)) (level g es) (p + reach (begins (level g es)) [] rest) (drop (reach (begins (level g es)) [] rest) rest)
+  level-decided : (rest : List ℕ) → drop p text ≡ rest → blanks rest ≡ 0 → 0 < length rest → (s t : Bool) → enters g (getD rest 0 0 ∷ getD rest 1 0 ∷ []) ≡ s →
+      beginsLevel g (getD rest 0 0 ∷ []) ≡ t →
+      arrive (pause descriptions (level g es) p (take (reach (begins (level g es)) [] rest) rest)) (level g es) (p + reach (begins (level g es)) [] rest)
+      (drop (reach (begins (level g es)) [] rest) rest)
       ≡ onLeveled text g es p (leveled p s t (number-of (getD rest 0 0) (getD rest 1 0)))
   unfolding reach begins next
   level-decided [] f z l s t h k = absurd (omega arith)

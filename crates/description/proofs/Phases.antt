@@ -82,7 +82,8 @@ module _ (text : List ℕ) (e : ℕ) (q r : State) (M : Middle q) (word : List �
   abbrev rest : List ℕ
   rest = drop (inked text e) text
 
-  literal-met : (m : ℕ) (t : Bool) → eqb m (length word) ≡ t → leads text (given t r) q (inked text e + m) ≡ onReached text q r (cond t (Reached.Word (inked text e + m)) (Reached.Fault (inked text e + m)))
+  literal-met : (m : ℕ) (t : Bool) → eqb m (length word) ≡ t → leads text (given t r) q (inked text e + m) ≡ onReached text q r
+      (cond t (Reached.Word (inked text e + m)) (Reached.Fault (inked text e + m)))
   literal-met m true h = refl
   literal-met m false h = refl
 

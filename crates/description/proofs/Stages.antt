@@ -195,7 +195,8 @@ module _ (text : List ℕ) (e : ℕ) (q : State) (M : Middle q) where
   abbrev pub wordReach : ℕ
   wordReach = reach (begins q) [] (drop (inked text e) text)
 
-  decided : (m : ℕ) → wordReach ≡ m → onward text (inked text e) q ≡ arrive (pause descriptions q (inked text e) (take m (drop (inked text e) text))) q (inked text e + m) (drop m (drop (inked text e) text)) →
+  decided : (m : ℕ) → wordReach ≡ m → onward text (inked text e) q ≡ arrive (pause descriptions q (inked text e) (take m (drop (inked text e) text))) q (inked text e + m)
+      (drop m (drop (inked text e) text)) →
       onward text (inked text e) q ≡ leads text (next q (inked text e) (take m (drop (inked text e) text))) q (inked text e + m)
   decided zero h f =
       let z : inked text e + 0 ≡ inked text e = omega arith in

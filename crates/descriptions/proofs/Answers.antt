@@ -63,7 +63,7 @@ named-more flat before i l e =
     let z : 0 + i ≡ i = omega arith in
     let m : notedFrom flat 0 (i + 1) ≡ notedFrom flat 0 i ++ notedAt flat i ∷ [] = rw (add-one i, noted-snoc flat 0 i, z) in
     let k : map namedOf (notedFrom flat 0 (i + 1)) ≡ map namedOf (notedFrom flat 0 i) ++ getD flat (i * 6 + 2) 0 ∷ [] =
-        ap (map namedOf) m ∙ map-snoc (notedFrom flat 0 i) (notedAt flat i) in
+    ap (map namedOf) m ∙ map-snoc (notedFrom flat 0 i) (notedAt flat i) in
     rw (e, k) (put (map namedOf (notedFrom flat 0 i)) before i (getD flat (i * 6 + 2) 0) (named-length flat i) l)
 
 -- Byte 4,096.

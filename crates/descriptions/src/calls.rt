@@ -3,12 +3,13 @@ ghost use mathlib.Core.Path.{_≡_};
 ghost use Prim.Native.Nat.{_*_, _≤_};
 ghost use lib.ListN.{length};
 ghost use Rattle.descriptions.specs.Calls.{ReadsWithin, Given, DescribedBy};
-use crate::copies::{copy_named, copy_numbers};
 use crate::Described;
-use describer::reading::read_entries;
+use crate::copies::copy_named;
+use crate::copies::copy_numbers;
 use describer::Found;
-use layouts::rows::lay_rows;
+use describer::reading::read_entries;
 use layouts::Laid;
+use layouts::rows::lay_rows;
 
 // The numbers of a row.
 const WIDTH: usize = 4;
@@ -49,7 +50,14 @@ fn give(laid: &[u32], entries: &[u32], n: usize, rows: &mut [u32], places: &mut 
 }
 
 // The same as `describe`, with room for the entries, the open groups and the rows.
-fn describe_with(text: &[u8], entries: &mut [u32], stack: &mut [u32], laid: &mut [u32], rows: &mut [u32], places: &mut [u32]) -> Described
+fn describe_with(
+    text: &[u8],
+    entries: &mut [u32],
+    stack: &mut [u32],
+    laid: &mut [u32],
+    rows: &mut [u32],
+    places: &mut [u32],
+) -> Described
     requires { ⌜ (4926 ≤ length (now entries)) × ((821 ≤ length (now stack)) × (256 ≤ length (now laid))) ⌝ }
     ensures { λ r. ⌜ DescribedBy (now (text .entry)) (now (rows .entry)) (now (places .entry)) r (now (rows .exit)) (now (places .exit)) ⌝ }
 {

@@ -107,7 +107,8 @@ module _ (text : List ℕ) (n : ℕ) (l : n ≤ length text) where
 
       by : (t : Bool) → eqb (inked text n) n ≡ t → Names text n (cond t (Called.Fault n) (nameFrom level text (inked text n)))
       by true h = l
-      by false h = at (nameReach text (inked text n)) refl (eqb-false (inked text n) n h) (isCalled (take (nameReach text (inked text n)) (drop (inked text n) text))) (isPeriod text (inked text n + nameReach text (inked text n))) (leb level 48) refl refl
+      by false h = at (nameReach text (inked text n)) refl (eqb-false (inked text n) n h) (isCalled (take (nameReach text (inked text n)) (drop (inked text n) text)))
+          (isPeriod text (inked text n + nameReach text (inked text n))) (leb level 48) refl refl
 
   pub side-reaches : SidesAt text n (sideAt text n)
   side-reaches = by (eqb (getD text (inked text n) 0) 0x54) (literal-reaches (bytes "TRAILING")) (literal-reaches (bytes "LEADING"))
@@ -212,7 +213,8 @@ module _ (text : List ℕ) where
 pub level-inside : (g : Groups) (text : List ℕ) (p l : ℕ) → levelAt g text p ≡ Leveled.Level l → p + 2 ≤ length text
 level-inside g text p l e = by (enters g (getD text p 0 ∷ getD text (p + 1) 0 ∷ [])) (beginsLevel g (getD text p 0 ∷ [])) refl e
   where
-    by : (s t : Bool) → enters g (getD text p 0 ∷ getD text (p + 1) 0 ∷ []) ≡ s → leveled p s t (10 * (getD text p 0 - 0x30) + (getD text (p + 1) 0 - 0x30)) ≡ Leveled.Level l → p + 2 ≤ length text
+    by : (s t : Bool) → enters g (getD text p 0 ∷ getD text (p + 1) 0 ∷ []) ≡ s → leveled p s t (10 * (getD text p 0 - 0x30) + (getD text (p + 1) 0 - 0x30))
+        ≡ Leveled.Level l → p + 2 ≤ length text
     by true t h e =
         let k = digit-range (getD text (p + 1) 0) (digits-of g (getD text p 0) (getD text (p + 1) 0) h .1) in
         omega (arith, inside text (p + 1) (getD text (p + 1) 0) (omega (arith, k .0)) refl)

@@ -77,7 +77,8 @@ ended-is text {c} {s} {d} {k} y e f = by y (sym f ∙ e)
     by (Pictured.Signed i j k′) h = let z : _≡_ {A = ℕ} 0 1 = cc in absurd (omega arith)
     by (Pictured.Fault k′) h = let z : _≡_ {A = ℕ} 0 1 = cc in absurd (omega arith)
 
-pub signed-is : (text : List ℕ) {i j k : ℕ} {x : Pictured} {r : Clauses} (y : Pictured) → x ≡ capPictured y → x ≡ Pictured.Signed i j k → r ≡ capClauses (signAt i j text k) → r ≡ capClauses (afterPicture text y)
+pub signed-is : (text : List ℕ) {i j k : ℕ} {x : Pictured} {r : Clauses} (y : Pictured) → x ≡ capPictured y → x ≡ Pictured.Signed i j k → r ≡ capClauses
+    (signAt i j text k) → r ≡ capClauses (afterPicture text y)
 signed-is text {i} {j} {k} {r = r} y e f g = g ∙ by y (sym f ∙ e)
   where
     by : (y : Pictured) → Pictured.Signed i j k ≡ capPictured y → capClauses (signAt i j text k) ≡ capClauses (afterPicture text y)

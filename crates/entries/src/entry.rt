@@ -3,12 +3,15 @@ ghost use mathlib.Core.Path.{_≡_};
 ghost use Prim.Native.Nat.{_≤_, _<_, _+_};
 ghost use lib.ListN.{length};
 ghost use Rattle.entries.specs.Entries.{entryAt, namedAt, itemAt, capEntry};
+use crate::EntryRead;
+use crate::Noted;
 use crate::clauses::clauses_at;
-use crate::{EntryRead, Noted};
-use description::{Called, Clauses, Leveled};
+use description::Called;
+use description::Clauses;
+use description::Leveled;
+use levels::Entered;
 use levels::level::level_at;
 use levels::open::enter;
-use levels::Entered;
 use words::blanks::next_ink;
 use words::names::name_at;
 

@@ -75,7 +75,8 @@ first-caps n o p (y ∷ ys) e =
     (by (over n (rowOfNoted p (capNoted y) (capped ys))) (first-caps (suc n) (o + own y) (p + own (capNoted y)) ys (sum-caps o p (own y) (own (capNoted y)) e (own-caps y))))
   where
     by : (t : Bool) → firstOver (suc n) (exact ys) (layout (o + own y) (exact ys)) ≡ firstOver (suc n) (capped ys) (layout (p + own (capNoted y)) (capped ys)) →
-        cond t (some (y .place)) (firstOver (suc n) (exact ys) (layout (o + own y) (exact ys))) ≡ cond t (some (y .place)) (firstOver (suc n) (capped ys) (layout (p + own (capNoted y)) (capped ys)))
+        cond t (some (y .place)) (firstOver (suc n) (exact ys) (layout (o + own y) (exact ys))) ≡ cond t (some (y .place))
+        (firstOver (suc n) (capped ys) (layout (p + own (capNoted y)) (capped ys)))
     by true f = refl
     by false f = f
 

@@ -77,10 +77,13 @@ module _ (flat : List ℕ) (i n l : ℕ) where
 
   pub sum-more : (k sum : ℕ) {s : ℕ} → k < n → so-far k sum → ltb l (getD flat (k * 6) 0) && leb (getD flat (k * 6) 0) 49 ≡ true → Sized flat k s → so-far (k + 1) (sum + s)
   unfolding below
-  sum-more k sum {s} h f t z =
-      (omega (arith, f .0),
-      (f .1 .0 ∙ rw (entries-cons flat k n h, t, add-one, ← z .is) (omega arith),
-      omega (arith, f .1 .1, z .small)))
+  sum-more k sum {s} h f t z = (
+    omega (arith, f .0),
+    (
+      f .1 .0 ∙ rw (entries-cons flat k n h, t, add-one, ← z .is) (omega arith),
+      omega (arith, f .1 .1, z .small),
+    ),
+  )
 
   pub sum-stop : (k sum : ℕ) → k < n → n ≤ 820 → so-far k sum → ltb l (getD flat (k * 6) 0) && leb (getD flat (k * 6) 0) 49 ≡ false → Summed flat i n l sum
   unfolding below
@@ -140,7 +143,9 @@ module _ (flat : List ℕ) (n : ℕ) where
         let k : over i (rowIn flat i n o) ≡ false = rw (← e) h in
         record {
           limit = L .limit ∙ rw (entries-cons flat i n l, k, add-one i, z .is);
-          laid = L .laid ∙ rw (entries-cons flat i n l, ← e) (sym (append-assoc (take (i * 4) rows) (numbersOf r) (rowNumbers (layout (o + sizeOf (entryOf (notedAt flat i) .content)) (entriesIn flat (suc i) n)))) ∙ rw (← z .is) (rw (← added, add-one i)));
+          laid = L .laid ∙ rw (entries-cons flat i n l, ← e)
+              (sym (append-assoc (take (i * 4) rows) (numbersOf r) (rowNumbers (layout (o + sizeOf (entryOf (notedAt flat i) .content)) (entriesIn flat (suc i) n)))) ∙ rw
+              (← z .is) (rw (← added, add-one i)));
           within = omega arith;
           few = omega (arith, not-over i r h);
           low = omega (arith, L .low, z .small);

@@ -5,8 +5,9 @@ ghost use Prim.Native.Nat.{_+_, _*_, _-_, _<_, _≤_};
 ghost use lib.ListN.{length};
 ghost use lib.Seq.{sets};
 ghost use Rattle.layouts.specs.Layouts.{Sized, Summed, shownRow, entriesIn, rowIn, numbersOf, LaidOut};
+use crate::ItemRow;
+use crate::Laid;
 use crate::limits::is_over;
-use crate::{ItemRow, Laid};
 
 fn wide(n: u32) -> usize
     ensures { λ r. ⌜ r ≡ n ⌝ }

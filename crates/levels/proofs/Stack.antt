@@ -92,7 +92,8 @@ enters-none g a b h = rw h
 pub enters-no-second : (g : Groups) (a b : ℕ) → isDigit a ≡ true → isDigit b ≡ false → false ≡ enters g (a ∷ b ∷ [])
 enters-no-second g a b h k = rw (h, k)
 
-module _ (stack : List ℕ) (depth waiting a b l : ℕ) (h : isDigit a ≡ true) (k : isDigit b ≡ true) (e : l ≡ 10 * (a - 0x30) + (b - 0x30)) {x : Entered} (f : x ≡ enteredBy stack depth waiting l) where
+module _ (stack : List ℕ) (depth waiting a b l : ℕ) (h : isDigit a ≡ true) (k : isDigit b ≡ true) (e : l ≡ 10 * (a - 0x30) + (b - 0x30)) {x : Entered}
+    (f : x ≡ enteredBy stack depth waiting l) where
   enters-is : isSome (toppedBy stack l x) ≡ enters (groupsOf stack depth waiting) (a ∷ b ∷ [])
   enters-is = rw (h, k, ← e, enter-is stack depth waiting l, f)
 

@@ -8,10 +8,11 @@ ghost use Rattle.description.specs.Grammar.{isDigit};
 ghost use Rattle.description.specs.Reader.{enters, beginsLevel};
 ghost use Rattle.description.specs.Stages.{levelAt};
 ghost use Rattle.levels.specs.Stack.{groupsOf};
-use crate::open::enter;
 use crate::Entered;
+use crate::open::enter;
 use description::Leveled;
-use words::bytes::{byte_at, is_digit};
+use words::bytes::byte_at;
+use words::bytes::is_digit;
 
 fn wide(b: u8) -> u32
     ensures { λ r. ⌜ r ≡ b ⌝ }

@@ -59,7 +59,8 @@ number-caps s t b = rw (saturates 0x39 (t .count) (t .pending) b, total-caps (t 
     point (some m) = refl
 
     by : (u : Bool) → cond u (pointAfter s (capTotal (R.total (t .count) (t .pending)))) (drew (Whole s) (shown (R.tallying 0x39 (t .count) (t .pending) b)))
-        ≡ capO (cond u (bind (R.total (t .count) (t .pending)) (λ m. some (R.pointed s m (R.tally 0 R.settled)))) (bind (R.tallying 0x39 (t .count) (t .pending) b) (λ u. some (R.whole s u))))
+        ≡ capO (cond u (bind (R.total (t .count) (t .pending)) (λ m. some (R.pointed s m (R.tally 0 R.settled))))
+        (bind (R.tallying 0x39 (t .count) (t .pending) b) (λ u. some (R.whole s u))))
     by true = point (R.total (t .count) (t .pending))
     by false = drew-caps (R.whole s) (Whole s) (λ u. refl) (R.tallying 0x39 (t .count) (t .pending) b)
 
@@ -67,7 +68,8 @@ first-caps : (b : ℕ) → onFirst b ≡ capO (R.draw R.nothing b)
 first-caps b = by (eqb b 0x58) (eqb b 0x41) (eqb b 0x53)
   where
     by : (x a s : Bool) → cond x (On (Letters 0x58 (made 0 Last))) (cond a (On (Letters 0x41 (made 0 Last))) (cond s (On (Whole true (made 0 Settled))) (onNumber false (made 0 Settled) b)))
-        ≡ capO (cond x (some (R.letters R.letter-x (R.tally 0 R.last))) (cond a (some (R.letters R.letter-a (R.tally 0 R.last))) (cond s (some (R.whole true (R.tally 0 R.settled))) (R.drawNumber false (R.tally 0 R.settled) b))))
+        ≡ capO (cond x (some (R.letters R.letter-x (R.tally 0 R.last)))
+        (cond a (some (R.letters R.letter-a (R.tally 0 R.last))) (cond s (some (R.whole true (R.tally 0 R.settled))) (R.drawNumber false (R.tally 0 R.settled) b))))
     by true a s = refl
     by false true s = refl
     by false false true = refl
@@ -75,7 +77,8 @@ first-caps b = by (eqb b 0x58) (eqb b 0x41) (eqb b 0x53)
 
 pub draw-caps : (d : R.Drawn) (b : ℕ) → onDrawn (capDrawn d) b ≡ capO (R.draw d b)
 draw-caps R.nothing b = first-caps b
-draw-caps (R.letters c t) b = rw (saturates (R.letterByte c) (t .count) (t .pending) b) (drew-caps (R.letters c) (Letters (R.letterByte c)) (λ u. refl) (R.tallying (R.letterByte c) (t .count) (t .pending) b))
+draw-caps (R.letters c t) b = rw (saturates (R.letterByte c) (t .count) (t .pending) b)
+    (drew-caps (R.letters c) (Letters (R.letterByte c)) (λ u. refl) (R.tallying (R.letterByte c) (t .count) (t .pending) b))
 draw-caps (R.whole s t) b = number-caps s t b
 draw-caps (R.pointed s m t) b = rw (saturates 0x39 (t .count) (t .pending) b) (drew-caps (R.pointed s m) (Pointed s (cap m)) (λ u. refl) (R.tallying 0x39 (t .count) (t .pending) b))
 
@@ -222,7 +225,8 @@ sketch-le text p {s} l e =
 pub picture-some : (text : List ℕ) (n p : ℕ) (s : Sketch) (t : Bool) {r : Pictured} → p ≡ inked text n → ¬ (p ≡ n) → s ≡ sketch (take (length text - p) (drop p text)) →
     t ≡ isPeriod text (p + s .len) → r ≡ drawnEnd (s .drawn) (p + s .len) t → r ≡ capPictured (pictureAt text n)
 unfolding result
-picture-some text n p s t e h f g i = rw (← e, eqb-no p n h) (i ∙ rw (g, f, part-from text p) (by (after pictures R.nothing (take (reach draws [] (drop p text)) (drop p text))) (lives (drop p text))))
+picture-some text n p s t e h f g i = rw (← e, eqb-no p n h)
+    (i ∙ rw (g, f, part-from text p) (by (after pictures R.nothing (take (reach draws [] (drop p text)) (drop p text))) (lives (drop p text))))
   where
     by : (o : Option R.Drawn) → isSome o ≡ true →
         drawnEnd (capDrawn (Option·getD o R.nothing)) (p + reach draws [] (drop p text)) (isPeriod text (p + reach draws [] (drop p text)))

@@ -8,7 +8,6 @@ use Rattle.pictures.specs.declared.Pending.the-variants.{Settled, Last, 
 use Rattle.pictures.specs.declared.Tally.{Tally}
 use Rattle.pictures.specs.declared.Tallied.{Tallied}
 use Rattle.pictures.specs.declared.Tallied.the-variants.{On, Stuck}
-
 use Rattle.pictures.specs.declared.Counted.{Counted}
 use Rattle.pictures.specs.declared.Counted.the-variants.{Times, Open}
 

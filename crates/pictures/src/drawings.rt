@@ -3,8 +3,14 @@ ghost use mathlib.Core.Path.{_≡_};
 ghost use Prim.Native.Nat.{_≤_};
 ghost use Rattle.pictures.specs.Steps.{Small, totalOf};
 ghost use Rattle.pictures.specs.Drawings.{SmallDrawn, onLetters, onPointed, onPoint, onNumber, onFirst, onDrawn, numberEnd, lettersEnd, drawnEnd};
-use crate::tallies::{capped, read_byte};
-use crate::{Counted, Drawn, Drew, Pending, Tallied, Tally};
+use crate::Counted;
+use crate::Drawn;
+use crate::Drew;
+use crate::Pending;
+use crate::Tallied;
+use crate::Tally;
+use crate::tallies::capped;
+use crate::tallies::read_byte;
 use description::Pictured;
 
 fn total(t: Tally) -> Counted

@@ -3,8 +3,9 @@ ghost use mathlib.Core.Path.{_≡_};
 ghost use Prim.Native.Nat.{_≤_, _+_, _*_, _-_, min};
 ghost use Rattle.description.specs.Grammar.{isDigit};
 ghost use Rattle.pictures.specs.Steps.{onSettled, onLast, onCounting, onTally, Small};
-
-use crate::{Pending, Tallied, Tally};
+use crate::Pending;
+use crate::Tallied;
+use crate::Tally;
 use words::bytes::is_digit;
 
 fn wide(b: u8) -> u32

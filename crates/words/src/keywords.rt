@@ -48,7 +48,9 @@ pub fn is_keyword(w: &[u8]) -> bool
 fn keyword_a(w: &[u8]) -> bool
     ensures { λ r. ⌜ r ≡ within (now (w .entry)) wordsA ⌝ }
 {
-    same_bytes(w, b"AND") | (same_bytes(w, b"ALPHABETIC") | (same_bytes(w, b"ALPHABETIC-LOWER") | same_bytes(w, b"ALPHABETIC-UPPER")))
+    same_bytes(w, b"AND")
+        | (same_bytes(w, b"ALPHABETIC")
+            | (same_bytes(w, b"ALPHABETIC-LOWER") | same_bytes(w, b"ALPHABETIC-UPPER")))
 }
 
 fn keyword_l(w: &[u8]) -> bool
@@ -84,5 +86,11 @@ fn keyword_t(w: &[u8]) -> bool
 fn keyword_u(w: &[u8]) -> bool
     ensures { λ r. ⌜ r ≡ within (now (w .entry)) wordsU ⌝ }
 {
-    same_bytes(w, b"UPSI-0") | (same_bytes(w, b"UPSI-1") | (same_bytes(w, b"UPSI-2") | (same_bytes(w, b"UPSI-3") | (same_bytes(w, b"UPSI-4") | (same_bytes(w, b"UPSI-5") | (same_bytes(w, b"UPSI-6") | same_bytes(w, b"UPSI-7")))))))
+    same_bytes(w, b"UPSI-0")
+        | (same_bytes(w, b"UPSI-1")
+            | (same_bytes(w, b"UPSI-2")
+                | (same_bytes(w, b"UPSI-3")
+                    | (same_bytes(w, b"UPSI-4")
+                        | (same_bytes(w, b"UPSI-5")
+                            | (same_bytes(w, b"UPSI-6") | same_bytes(w, b"UPSI-7")))))))
 }

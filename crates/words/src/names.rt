@@ -8,8 +8,10 @@ ghost use Rattle.description.specs.Reader.{isName, isCalled, beginsName};
 ghost use Rattle.description.specs.Stages.{reach, isPeriod, nameAt};
 ghost use Rattle.words.specs.Runs.{nameRun};
 use crate::blanks::next_ink;
-use crate::bytes::{is_letter, is_name_byte};
-use crate::keywords::{is_keyword, same_bytes};
+use crate::bytes::is_letter;
+use crate::bytes::is_name_byte;
+use crate::keywords::is_keyword;
+use crate::keywords::same_bytes;
 use description::Called;
 
 fn all_name_bytes(w: &[u8]) -> bool
@@ -45,7 +47,12 @@ pub fn is_name(w: &[u8]) -> bool
         return false;
     }
     let last = w.len() - 1;
-    all_name_bytes(w) & (w[0] != 0x2d) & (w[last] != 0x2d) & any_letter(w) & (w.len() <= 30) & !is_keyword(w)
+    all_name_bytes(w)
+        & (w[0] != 0x2d)
+        & (w[last] != 0x2d)
+        & any_letter(w)
+        & (w.len() <= 30)
+        & !is_keyword(w)
 }
 
 // A name or FILLER.

@@ -1,3 +1,4 @@
+-- `parted_at` meets its contract: from the laws of proofs/ and what its callees ensure. Assumes nothing.
 use denote.Ref.{now}
 use Rattle.describer.proofs.Flat.{parted-end, parted-byte}
 use borrow.Author.Needs.{needs}

@@ -1,3 +1,4 @@
+-- `push` meets its contract: from the laws of proofs/ and what its callees ensure. Assumes nothing.
 use denote.Ref.{now}
 use Rattle.describer.proofs.Flat.{push-some}
 use borrow.Author.Needs.{needs}

@@ -1,3 +1,4 @@
+-- `store` meets its contract: from the laws of proofs/ and what its callees ensure. Assumes nothing.
 use native.Mathlib.Omega.{arith}
 use native.Mathlib.Numerals.{add-one}
 use lib.ListN.{length-set}

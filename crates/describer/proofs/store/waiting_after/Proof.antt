@@ -1,3 +1,4 @@
+-- `waiting_after` meets its contract: from the laws of proofs/ and what its callees ensure. Assumes nothing.
 use borrow.Author.Tests.{ne-eqb}
 use borrow.Author.Needs.{needs}
 use Rattle.describer.proofs.store.waiting_after.Statement.{statement}

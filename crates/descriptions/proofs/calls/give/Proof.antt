@@ -1,3 +1,4 @@
+-- `give` meets its contract: from the laws of proofs/ and what its callees ensure. Assumes nothing.
 use native.Mathlib.Omega.{arith}
 use denote.Ref.{now}
 use Rattle.descriptions.proofs.Answers.{no-rows, no-places, gives}
@@ -12,10 +13,14 @@ mul-t9 : tie.Need-mul-t9
 mul-t9 c = search needs
 
 returns : tie.Need-returns
-returns c = no-rows (now (c .before .before .before .before .before .args .laid)) (now (c .before .before .before .before .before .args .entries)) (c .before .before .before .before .before .args .n) (now (c .before .before .before .before .before .args .rows)) (now (c .before .before .before .before .before .args .places)) (c .if1 .taken)
+returns c = no-rows (now (c .before .before .before .before .before .args .laid)) (now (c .before .before .before .before .before .args .entries))
+    (c .before .before .before .before .before .args .n) (now (c .before .before .before .before .before .args .rows))
+    (now (c .before .before .before .before .before .args .places)) (c .if1 .taken)
 
 returns-2 : tie.Need-returns-2
-returns-2 c = no-places (now (c .before .before .before .before .before .before .args .laid)) (now (c .before .before .before .before .before .before .args .entries)) (c .before .before .before .before .before .before .args .n) (now (c .before .before .before .before .before .before .args .rows)) (now (c .before .before .before .before .before .before .args .places)) (c .before .if1 .left) (c .if2 .taken)
+returns-2 c = no-places (now (c .before .before .before .before .before .before .args .laid)) (now (c .before .before .before .before .before .before .args .entries))
+    (c .before .before .before .before .before .before .args .n) (now (c .before .before .before .before .before .before .args .rows))
+    (now (c .before .before .before .before .before .before .args .places)) (c .before .if1 .left) (c .if2 .taken)
 
 mul-copy-numbers : tie.Need-mul-copy-numbers
 mul-copy-numbers c = search needs
@@ -36,7 +41,14 @@ same-length-2 : tie.Need-same-length-2
 same-length-2 c = search needs
 
 returns-3 : tie.Need-returns-3
-returns-3 c = gives (now (c .before .before .before .before .before .before .before .before .before .before .before .before .before .before .args .laid)) (now (c .before .before .before .before .before .before .before .before .before .before .before .before .before .before .args .entries)) (c .before .before .before .before .before .before .before .before .before .before .before .before .before .before .args .n) (now (c .before .before .before .before .before .before .before .before .before .before .before .before .before .before .args .rows)) (now (c .before .before .before .before .before .before .before .before .before .before .before .before .before .before .args .places)) (c .before .before .before .before .before .before .before .before .before .if1 .left) (c .before .before .before .before .before .before .before .before .if2 .left) (c .before .before .before .before .before .before .before .before .before .before .before .before .before .before .pre .0) (c .before .before .before .before .before .before .copy-numbers .ensures) (c .before .before .copy-named .ensures)
+returns-3 c = gives (now (c .before .before .before .before .before .before .before .before .before .before .before .before .before .before .args .laid))
+    (now (c .before .before .before .before .before .before .before .before .before .before .before .before .before .before .args .entries))
+    (c .before .before .before .before .before .before .before .before .before .before .before .before .before .before .args .n)
+    (now (c .before .before .before .before .before .before .before .before .before .before .before .before .before .before .args .rows))
+    (now (c .before .before .before .before .before .before .before .before .before .before .before .before .before .before .args .places))
+    (c .before .before .before .before .before .before .before .before .before .if1 .left) (c .before .before .before .before .before .before .before .before .if2 .left)
+    (c .before .before .before .before .before .before .before .before .before .before .before .before .before .before .pre .0)
+    (c .before .before .before .before .before .before .copy-numbers .ensures) (c .before .before .copy-named .ensures)
 
 pub give-spec : {M : Type 1} → statement M
 give-spec =

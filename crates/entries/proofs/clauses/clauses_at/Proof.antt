@@ -1,3 +1,4 @@
+-- `clauses_at` meets its contract: from the laws of proofs/ and what its callees ensure. Assumes nothing.
 use Prim.Native.Nat.{_-_, _+_, _≤_}
 use native.Mathlib.Omega.{arith}
 use mathlib.Core.Path.{_≡_, refl, sym, ap, _∙_}
@@ -22,18 +23,26 @@ enum-known-k : tie.Need-enum-known-k
 enum-known-k c = search needs
 
 picture-clause-requires : tie.Need-picture-clause-requires
-picture-clause-requires c κs = (known (Reaches (now (c .before .before .before .before .before .before .args .text)) (c .before .before .before .before .before .before .args .n)) (c .before .before .before .literal .ensures) (c .before .k .given .1) (literal-reaches (now (c .before .before .before .before .before .before .args .text)) (c .before .before .before .before .before .before .args .n) (c .before .before .before .before .before .before .pre .0) (bytes "PIC")) .1, c .before .before .before .before .before .before .pre .1)
+picture-clause-requires c κs = (
+  known (Reaches (now (c .before .before .before .before .before .before .args .text))
+      (c .before .before .before .before .before .before .args .n)) (c .before .before .before .literal .ensures) (c .before .k .given .1)
+      (literal-reaches (now (c .before .before .before .before .before .before .args .text)) (c .before .before .before .before .before .before .args .n)
+      (c .before .before .before .before .before .before .pre .0) (bytes "PIC")) .1,
+  c .before .before .before .before .before .before .pre .1,
+)
 
 enum-known-k-2 : tie.Need-enum-known-k-2
 enum-known-k-2 c = search needs
 
 returns : tie.Need-returns
 unfolding clausesAt
-returns c = via (λ x. capClauses (afterPic (now (c .before .before .before .before .before .before .before .args .text)) x)) (c .before .before .before .before .literal .ensures) (c .before .before .k .given .1) (c .picture-clause .ensures)
+returns c = via (λ x. capClauses (afterPic (now (c .before .before .before .before .before .before .before .args .text)) x))
+    (c .before .before .before .before .literal .ensures) (c .before .before .k .given .1) (c .picture-clause .ensures)
 
 returns-2 : tie.Need-returns-2
 unfolding clausesAt
-returns-2 c = via (λ x. capClauses (afterPic (now (c .before .before .before .before .before .before .args .text)) x)) (c .before .before .before .literal .ensures) (c .before .k2 .given .1) refl
+returns-2 c = via (λ x. capClauses (afterPic (now (c .before .before .before .before .before .before .args .text)) x)) (c .before .before .before .literal .ensures)
+    (c .before .k2 .given .1) refl
 
 pub clauses-at-spec : {M : Type 1} → statement M
 clauses-at-spec =

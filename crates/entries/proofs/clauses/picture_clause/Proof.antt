@@ -1,3 +1,4 @@
+-- `picture_clause` meets its contract: from the laws of proofs/ and what its callees ensure. Assumes nothing.
 use Prim.Native.Nat.{_-_, _+_, _≤_}
 use native.Mathlib.Omega.{arith}
 use mathlib.Core.Path.{_≡_, refl, sym, ap, _∙_}
@@ -22,19 +23,34 @@ enum-known-i : tie.Need-enum-known-i
 enum-known-i c = search needs
 
 sign-at-requires : tie.Need-sign-at-requires
-sign-at-requires c κs = (signed-le (now (c .before .before .before .before .before .args .text)) (c .before .before .before .before .before .args .n) (pictureAt (now (c .before .before .before .before .before .args .text)) (c .before .before .before .before .before .args .n)) (c .before .before .before .picture-at .ensures) (c .before .i .given .1) (picture-draws (now (c .before .before .before .before .before .args .text)) (c .before .before .before .before .before .args .n) (c .before .before .before .before .before .pre .0)), signed-small (pictureAt (now (c .before .before .before .before .before .args .text)) (c .before .before .before .before .before .args .n)) (c .before .before .before .picture-at .ensures) (c .before .i .given .1))
+sign-at-requires c κs = (
+  signed-le (now (c .before .before .before .before .before .args .text)) (c .before .before .before .before .before .args .n)
+      (pictureAt (now (c .before .before .before .before .before .args .text)) (c .before .before .before .before .before .args .n))
+      (c .before .before .before .picture-at .ensures) (c .before .i .given .1)
+      (picture-draws (now (c .before .before .before .before .before .args .text)) (c .before .before .before .before .before .args .n)
+      (c .before .before .before .before .before .pre .0)),
+  signed-small
+      (pictureAt (now (c .before .before .before .before .before .args .text)) (c .before .before .before .before .before .args .n))
+      (c .before .before .before .picture-at .ensures) (c .before .i .given .1),
+)
 
 enum-known-k : tie.Need-enum-known-k
 enum-known-k c = search needs
 
 returns : tie.Need-returns
-returns c = ended-is (now (c .before .before .before .before .before .args .text)) (pictureAt (now (c .before .before .before .before .before .args .text)) (c .before .before .before .before .before .args .n)) (c .before .before .before .picture-at .ensures) (c .before .kind .given .1)
+returns c = ended-is (now (c .before .before .before .before .before .args .text))
+    (pictureAt (now (c .before .before .before .before .before .args .text)) (c .before .before .before .before .before .args .n))
+    (c .before .before .before .picture-at .ensures) (c .before .kind .given .1)
 
 returns-2 : tie.Need-returns-2
-returns-2 c = signed-is (now (c .before .before .before .before .before .before .args .text)) (pictureAt (now (c .before .before .before .before .before .before .args .text)) (c .before .before .before .before .before .before .args .n)) (c .before .before .before .before .picture-at .ensures) (c .before .before .i .given .1) (c .sign-at .ensures)
+returns-2 c = signed-is (now (c .before .before .before .before .before .before .args .text))
+    (pictureAt (now (c .before .before .before .before .before .before .args .text)) (c .before .before .before .before .before .before .args .n))
+    (c .before .before .before .before .picture-at .ensures) (c .before .before .i .given .1) (c .sign-at .ensures)
 
 returns-3 : tie.Need-returns-3
-returns-3 c = picture-fault (now (c .before .before .before .before .before .args .text)) (pictureAt (now (c .before .before .before .before .before .args .text)) (c .before .before .before .before .before .args .n)) (c .before .before .before .picture-at .ensures) (c .before .k .given .1)
+returns-3 c = picture-fault (now (c .before .before .before .before .before .args .text))
+    (pictureAt (now (c .before .before .before .before .before .args .text)) (c .before .before .before .before .before .args .n))
+    (c .before .before .before .picture-at .ensures) (c .before .k .given .1)
 
 pub picture-clause-spec : {M : Type 1} → statement M
 picture-clause-spec =

@@ -1,3 +1,4 @@
+-- `separate` meets its contract: from the laws of proofs/ and what its callees ensure. Assumes nothing.
 use Prim.Native.Nat.{_-_, _+_, _≤_}
 use native.Mathlib.Omega.{arith}
 use mathlib.Core.Path.{_≡_, refl, sym, ap, _∙_}
@@ -33,10 +34,14 @@ enum-known-k-2 : tie.Need-enum-known-k-2
 enum-known-k-2 c = search needs
 
 returns : tie.Need-returns
-returns c = separate-size (c .before .before .before .before .before .before .before .args .kind) (c .before .before .before .before .before .before .before .args .i) (c .before .before .before .before .before .before .before .args .j) (c .before .before .before .before .before .before .before .pre .1 .1) (c .capped .ensures) (c .before .before .before .before .literal .ensures) (c .before .before .k .given .1)
+returns c = separate-size (c .before .before .before .before .before .before .before .args .kind) (c .before .before .before .before .before .before .before .args .i)
+    (c .before .before .before .before .before .before .before .args .j) (c .before .before .before .before .before .before .before .pre .1 .1) (c .capped .ensures)
+    (c .before .before .before .before .literal .ensures) (c .before .before .k .given .1)
 
 returns-2 : tie.Need-returns-2
-returns-2 c = via (λ x. capClauses (afterSeparate (c .before .before .before .before .before .before .args .kind) (c .before .before .before .before .before .before .args .i) (c .before .before .before .before .before .before .args .j) x)) (c .before .before .before .literal .ensures) (c .before .k2 .given .1) refl
+returns-2 c = via (λ x. capClauses
+    (afterSeparate (c .before .before .before .before .before .before .args .kind) (c .before .before .before .before .before .before .args .i)
+    (c .before .before .before .before .before .before .args .j) x)) (c .before .before .before .literal .ensures) (c .before .k2 .given .1) refl
 
 pub separate-spec : {M : Type 1} → statement M
 separate-spec =

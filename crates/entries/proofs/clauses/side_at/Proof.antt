@@ -1,3 +1,4 @@
+-- `side_at` meets its contract: from the laws of proofs/ and what its callees ensure. Assumes nothing.
 use Prim.Native.Nat.{_-_, _+_, _≤_}
 use native.Mathlib.Omega.{arith}
 use mathlib.Core.Path.{_≡_, refl, sym, ap, _∙_}
@@ -29,10 +30,12 @@ side-word-requires-2 : tie.Need-side-word-requires-2
 side-word-requires-2 c κs = search needs
 
 returns : tie.Need-returns
-returns c = trailing-is (now (c .before .before .before .before .before .before .args .text)) (c .before .before .before .before .before .before .args .n) (c .before .before .before .before .next-ink .ensures) (c .before .before .before .byte-at .ensures) (c .before .before .if1 .taken) (c .side-word .ensures)
+returns c = trailing-is (now (c .before .before .before .before .before .before .args .text)) (c .before .before .before .before .before .before .args .n)
+    (c .before .before .before .before .next-ink .ensures) (c .before .before .before .byte-at .ensures) (c .before .before .if1 .taken) (c .side-word .ensures)
 
 returns-2 : tie.Need-returns-2
-returns-2 c = leading-is (now (c .before .before .before .before .before .before .args .text)) (c .before .before .before .before .before .before .args .n) (c .before .before .before .before .next-ink .ensures) (c .before .before .before .byte-at .ensures) (c .before .before .if1 .left) (c .side-word2 .ensures)
+returns-2 c = leading-is (now (c .before .before .before .before .before .before .args .text)) (c .before .before .before .before .before .before .args .n)
+    (c .before .before .before .before .next-ink .ensures) (c .before .before .before .byte-at .ensures) (c .before .before .if1 .left) (c .side-word2 .ensures)
 
 pub side-at-spec : {M : Type 1} → statement M
 side-at-spec =

@@ -1,3 +1,4 @@
+-- `entry_at` meets its contract: from the laws of proofs/ and what its callees ensure. Assumes nothing.
 use Prim.Native.Nat.{_-_, _+_, _≤_}
 use native.Mathlib.Omega.{arith}
 use mathlib.Core.Path.{_≡_, refl, sym, ap, _∙_}
@@ -25,7 +26,16 @@ enum-known-d : tie.Need-enum-known-d
 enum-known-d c = search needs
 
 named-at-requires : tie.Need-named-at-requires
-named-at-requires c κs = (level-inside (groupsOf (now (c .before .before .before .before .before .before .before .before .before .before .args .stack)) (c .before .before .before .before .before .before .before .before .before .before .args .depth) (c .before .before .before .before .before .before .before .before .before .before .args .waiting) ) (now (c .before .before .before .before .before .before .before .before .before .before .args .text)) (c .before .before .before .before .before .before .before .before .before .before .args .p) _ (sym (c .before .before .before .before .before .before .before .level-at .ensures) ∙ c .before .before .before .before .before .level .given .1), c .before .before .before .before .before .before .before .before .before .before .pre .1 .1)
+named-at-requires c κs = (
+  level-inside (groupsOf (now (c .before .before .before .before .before .before .before .before .before .before .args .stack))
+      (c .before .before .before .before .before .before .before .before .before .before .args .depth)
+      (c .before .before .before .before .before .before .before .before .before .before .args .waiting))
+      (now (c .before .before .before .before .before .before .before .before .before .before .args .text))
+      (c .before .before .before .before .before .before .before .before .before .before .args .p) _
+      (sym (c .before .before .before .before .before .before .before .level-at .ensures)
+      ∙ c .before .before .before .before .before .level .given .1),
+  c .before .before .before .before .before .before .before .before .before .before .pre .1 .1,
+)
 
 enum-told : tie.Need-enum-told
 enum-told c = search needs
@@ -34,13 +44,35 @@ enum-known-k : tie.Need-enum-known-k
 enum-known-k c = search needs
 
 returns : tie.Need-returns
-returns c = via (λ x. capEntry (leveledAt (now (c .before .before .before .before .before .before .before .before .before .before .before .args .stack)) (c .before .before .before .before .before .before .before .before .before .before .before .args .depth) (c .before .before .before .before .before .before .before .before .before .before .before .args .waiting) (now (c .before .before .before .before .before .before .before .before .before .before .before .args .text)) (c .before .before .before .before .before .before .before .before .before .before .before .args .p) x)) (c .before .before .before .before .before .before .before .before .level-at .ensures) (c .before .before .before .before .before .before .level .given .1) (via (λ x. capEntry (enteredAt (now (c .before .before .before .before .before .before .before .before .before .before .before .args .text)) (c .before .before .before .before .before .before .level .given .0 .0) (c .before .before .before .before .before .before .before .before .before .before .before .args .p) x)) (c .before .before .before .before .enter .ensures) (c .before .before .d .given .1) (c .named-at .ensures))
+returns c = via (λ x. capEntry
+    (leveledAt (now (c .before .before .before .before .before .before .before .before .before .before .before .args .stack))
+    (c .before .before .before .before .before .before .before .before .before .before .before .args .depth)
+    (c .before .before .before .before .before .before .before .before .before .before .before .args .waiting)
+    (now (c .before .before .before .before .before .before .before .before .before .before .before .args .text))
+    (c .before .before .before .before .before .before .before .before .before .before .before .args .p) x))
+    (c .before .before .before .before .before .before .before .before .level-at .ensures) (c .before .before .before .before .before .before .level .given .1)
+    (via (λ x. capEntry (enteredAt (now (c .before .before .before .before .before .before .before .before .before .before .before .args .text))
+    (c .before .before .before .before .before .before .level .given .0 .0)
+    (c .before .before .before .before .before .before .before .before .before .before .before .args .p) x)) (c .before .before .before .before .enter .ensures)
+    (c .before .before .d .given .1) (c .named-at .ensures))
 
 returns-2 : tie.Need-returns-2
-returns-2 c = via (λ x. capEntry (leveledAt (now (c .before .before .before .before .before .before .before .before .before .args .stack)) (c .before .before .before .before .before .before .before .before .before .args .depth) (c .before .before .before .before .before .before .before .before .before .args .waiting) (now (c .before .before .before .before .before .before .before .before .before .args .text)) (c .before .before .before .before .before .before .before .before .before .args .p) x)) (c .before .before .before .before .before .before .level-at .ensures) (c .before .before .before .before .level .given .1) (via (λ x. capEntry (enteredAt (now (c .before .before .before .before .before .before .before .before .before .args .text)) (c .before .before .before .before .level .given .0 .0) (c .before .before .before .before .before .before .before .before .before .args .p) x)) (c .before .before .enter .ensures) (c .enum-told .given .1) refl)
+returns-2 c = via (λ x. capEntry
+    (leveledAt (now (c .before .before .before .before .before .before .before .before .before .args .stack))
+    (c .before .before .before .before .before .before .before .before .before .args .depth)
+    (c .before .before .before .before .before .before .before .before .before .args .waiting)
+    (now (c .before .before .before .before .before .before .before .before .before .args .text))
+    (c .before .before .before .before .before .before .before .before .before .args .p) x)) (c .before .before .before .before .before .before .level-at .ensures)
+    (c .before .before .before .before .level .given .1) (via
+    (λ x. capEntry (enteredAt (now (c .before .before .before .before .before .before .before .before .before .args .text))
+    (c .before .before .before .before .level .given .0 .0) (c .before .before .before .before .before .before .before .before .before .args .p) x))
+    (c .before .before .enter .ensures) (c .enum-told .given .1) refl)
 
 returns-3 : tie.Need-returns-3
-returns-3 c = via (λ x. capEntry (leveledAt (now (c .before .before .before .before .before .before .args .stack)) (c .before .before .before .before .before .before .args .depth) (c .before .before .before .before .before .before .args .waiting) (now (c .before .before .before .before .before .before .args .text)) (c .before .before .before .before .before .before .args .p) x)) (c .before .before .before .level-at .ensures) (c .before .k .given .1) refl
+returns-3 c = via (λ x. capEntry
+    (leveledAt (now (c .before .before .before .before .before .before .args .stack)) (c .before .before .before .before .before .before .args .depth)
+    (c .before .before .before .before .before .before .args .waiting) (now (c .before .before .before .before .before .before .args .text))
+    (c .before .before .before .before .before .before .args .p) x)) (c .before .before .before .level-at .ensures) (c .before .k .given .1) refl
 
 pub entry-at-spec : {M : Type 1} → statement M
 entry-at-spec =

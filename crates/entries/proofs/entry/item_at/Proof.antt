@@ -1,3 +1,4 @@
+-- `item_at` meets its contract: from the laws of proofs/ and what its callees ensure. Assumes nothing.
 use Prim.Native.Nat.{_-_, _+_, _≤_}
 use native.Mathlib.Omega.{arith}
 use mathlib.Core.Path.{_≡_, refl, sym, ap, _∙_}
@@ -21,10 +22,16 @@ enum-known-e : tie.Need-enum-known-e
 enum-known-e c = search needs
 
 returns : tie.Need-returns
-returns c = item-is (c .before .before .before .before .before .args .level) (c .before .before .before .before .before .args .depth) (c .before .before .before .before .before .args .place) (c .before .before .before .before .before .args .named) (clausesAt (now (c .before .before .before .before .before .args .text)) (c .before .before .before .before .before .args .k)) (c .before .before .before .clauses-at .ensures) (c .before .kind .given .1)
+returns c = item-is (c .before .before .before .before .before .args .level) (c .before .before .before .before .before .args .depth)
+    (c .before .before .before .before .before .args .place) (c .before .before .before .before .before .args .named)
+    (clausesAt (now (c .before .before .before .before .before .args .text)) (c .before .before .before .before .before .args .k))
+    (c .before .before .before .clauses-at .ensures) (c .before .kind .given .1)
 
 returns-2 : tie.Need-returns-2
-returns-2 c = item-fault (c .before .before .before .before .before .args .level) (c .before .before .before .before .before .args .depth) (c .before .before .before .before .before .args .place) (c .before .before .before .before .before .args .named) (clausesAt (now (c .before .before .before .before .before .args .text)) (c .before .before .before .before .before .args .k)) (c .before .before .before .clauses-at .ensures) (c .before .e .given .1)
+returns-2 c = item-fault (c .before .before .before .before .before .args .level) (c .before .before .before .before .before .args .depth)
+    (c .before .before .before .before .before .args .place) (c .before .before .before .before .before .args .named)
+    (clausesAt (now (c .before .before .before .before .before .args .text)) (c .before .before .before .before .before .args .k))
+    (c .before .before .before .clauses-at .ensures) (c .before .e .given .1)
 
 pub item-at-spec : {M : Type 1} → statement M
 item-at-spec =

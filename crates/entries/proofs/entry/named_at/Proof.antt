@@ -1,3 +1,4 @@
+-- `named_at` meets its contract: from the laws of proofs/ and what its callees ensure. Assumes nothing.
 use Prim.Native.Nat.{_-_, _+_, _≤_}
 use native.Mathlib.Omega.{arith}
 use mathlib.Core.Path.{_≡_, refl, sym, ap, _∙_}
@@ -22,7 +23,13 @@ next-ink-requires : tie.Need-next-ink-requires
 next-ink-requires c κs = search needs
 
 narrow-requires-2 : tie.Need-narrow-requires-2
-narrow-requires-2 c κs = omega (arith, inked-le (now (c .before .before .before .args .text)) (c .before .before .before .args .p + 2) (c .before .before .before .pre .0), c .next-ink .ensures, c .before .before .before .pre .1)
+narrow-requires-2 c κs = omega (
+  arith,
+  inked-le (now (c .before .before .before .args .text)) (c .before .before .before .args .p + 2)
+      (c .before .before .before .pre .0),
+  c .next-ink .ensures,
+  c .before .before .before .pre .1,
+)
 
 add-name-at : tie.Need-add-name-at
 add-name-at c = search needs
@@ -34,7 +41,14 @@ enum-known-k : tie.Need-enum-known-k
 enum-known-k c = search needs
 
 item-at-requires : tie.Need-item-at-requires
-item-at-requires c κs = (known (Names (now (c .before .before .before .before .before .before .before .before .args .text)) (c .before .before .before .before .before .before .before .before .args .p + 2)) (c .before .before .before .name-at .ensures) (c .before .k .given .1) (name-reaches (now (c .before .before .before .before .before .before .before .before .args .text)) (c .before .before .before .before .before .before .before .before .args .p + 2) (c .before .before .before .before .before .before .before .before .pre .0) (c .before .before .before .before .before .before .before .before .args .level)) .1, c .before .before .before .before .before .before .before .before .pre .1)
+item-at-requires c κs = (
+  known (Names (now (c .before .before .before .before .before .before .before .before .args .text))
+      (c .before .before .before .before .before .before .before .before .args .p + 2)) (c .before .before .before .name-at .ensures) (c .before .k .given .1)
+      (name-reaches (now (c .before .before .before .before .before .before .before .before .args .text))
+      (c .before .before .before .before .before .before .before .before .args .p + 2) (c .before .before .before .before .before .before .before .before .pre .0)
+      (c .before .before .before .before .before .before .before .before .args .level)) .1,
+  c .before .before .before .before .before .before .before .before .pre .1,
+)
 
 enum-known-k-2 : tie.Need-enum-known-k-2
 enum-known-k-2 c = search needs
@@ -43,13 +57,26 @@ enum-known-k-3 : tie.Need-enum-known-k-3
 enum-known-k-3 c = search needs
 
 returns : tie.Need-returns
-returns c = via (λ x. capEntry (calledOf (now (c .before .before .before .before .before .before .before .before .before .args .text)) (c .before .before .before .before .before .before .before .before .before .args .level) (c .before .before .before .before .before .before .before .before .before .args .depth) (c .before .before .before .before .before .before .before .before .before .args .p) x)) (c .before .before .before .before .name-at .ensures) (c .before .before .k .given .1) (c .item-at .ensures ∙ rw (c .before .before .before .before .before .before .before .narrow .ensures, c .before .before .before .before .before .narrow2 .ensures, c .before .before .before .before .before .before .next-ink .ensures))
+returns c = via (λ x. capEntry
+    (calledOf (now (c .before .before .before .before .before .before .before .before .before .args .text))
+    (c .before .before .before .before .before .before .before .before .before .args .level)
+    (c .before .before .before .before .before .before .before .before .before .args .depth)
+    (c .before .before .before .before .before .before .before .before .before .args .p) x)) (c .before .before .before .before .name-at .ensures)
+    (c .before .before .k .given .1) (c .item-at .ensures ∙ rw
+    (c .before .before .before .before .before .before .before .narrow .ensures, c .before .before .before .before .before .narrow2 .ensures, c .before .before .before .before .before .before .next-ink .ensures))
 
 returns-2 : tie.Need-returns-2
-returns-2 c = via (λ x. capEntry (calledOf (now (c .before .before .before .before .before .before .before .before .args .text)) (c .before .before .before .before .before .before .before .before .args .level) (c .before .before .before .before .before .before .before .before .args .depth) (c .before .before .before .before .before .before .before .before .args .p) x)) (c .before .before .before .name-at .ensures) (c .before .k2 .given .1) (rw (c .before .before .before .before .before .before .narrow .ensures, c .before .before .before .before .narrow2 .ensures, c .before .before .before .before .before .next-ink .ensures))
+returns-2 c = via (λ x. capEntry
+    (calledOf (now (c .before .before .before .before .before .before .before .before .args .text))
+    (c .before .before .before .before .before .before .before .before .args .level) (c .before .before .before .before .before .before .before .before .args .depth)
+    (c .before .before .before .before .before .before .before .before .args .p) x)) (c .before .before .before .name-at .ensures) (c .before .k2 .given .1)
+    (rw (c .before .before .before .before .before .before .narrow .ensures, c .before .before .before .before .narrow2 .ensures, c .before .before .before .before .before .next-ink .ensures))
 
 returns-3 : tie.Need-returns-3
-returns-3 c = via (λ x. capEntry (calledOf (now (c .before .before .before .before .before .before .before .before .args .text)) (c .before .before .before .before .before .before .before .before .args .level) (c .before .before .before .before .before .before .before .before .args .depth) (c .before .before .before .before .before .before .before .before .args .p) x)) (c .before .before .before .name-at .ensures) (c .before .k3 .given .1) refl
+returns-3 c = via (λ x. capEntry
+    (calledOf (now (c .before .before .before .before .before .before .before .before .args .text))
+    (c .before .before .before .before .before .before .before .before .args .level) (c .before .before .before .before .before .before .before .before .args .depth)
+    (c .before .before .before .before .before .before .before .before .args .p) x)) (c .before .before .before .name-at .ensures) (c .before .k3 .given .1) refl
 
 pub named-at-spec : {M : Type 1} → statement M
 named-at-spec =

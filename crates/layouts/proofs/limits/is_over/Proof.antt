@@ -1,3 +1,4 @@
+-- `is_over` meets its contract: from the laws of proofs/ and what its callees ensure. Assumes nothing.
 use borrow.Author.Needs.{needs}
 use Rattle.layouts.proofs.limits.is_over.Statement.{statement}
 use Rattle.layouts.proofs.limits.is_over.Tie as tie

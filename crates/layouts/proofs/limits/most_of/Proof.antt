@@ -1,3 +1,4 @@
+-- `most_of` meets its contract: from the laws of proofs/ and what its callees ensure. Assumes nothing.
 use Rattle.layouts.proofs.Laying.{most-group, most-letters, most-digits, most-signed}
 use Rattle.layouts.proofs.limits.most_of.Statement.{statement}
 use Rattle.layouts.proofs.limits.most_of.Tie as tie

@@ -1,3 +1,4 @@
+-- `lay_rows` meets its contract: from the laws of proofs/ and what its callees ensure. Assumes nothing.
 use Prim.Native.Nat.{_-_, _+_, _*_, _≤_}
 use native.Mathlib.Omega.{arith}
 use mathlib.Core.Path.{_≡_, refl, sym, ap, _∙_}
@@ -42,31 +43,70 @@ same-length : tie.Need-same-length Inv-loop μ-loop
 same-length c = c .before .before .before .before .before .before .loop .inv .1
 
 returns : tie.Need-returns Inv-loop μ-loop
-returns c = lay-over (now (c .before .before .before .before .before .before .before .before .before .args .entries)) (c .before .before .before .before .before .before .before .before .before .args .n) (c .before .before .before .before .before .before .loop .rows) (c .before .before .before .before .before .before .loop .offset) (c .before .before .before .before .before .before .loop .i) (c .before .before .before .before .before .before .loop .inv .0) (c .before .before .before .before .before .loop-test .taken) (c .before .before .before .before .row-of .ensures) (sym (c .before .before .before .is-over .ensures) ∙ c .before .before .if1 .taken) (c .wide .ensures)
+returns c = lay-over (now (c .before .before .before .before .before .before .before .before .before .args .entries))
+    (c .before .before .before .before .before .before .before .before .before .args .n) (c .before .before .before .before .before .before .loop .rows)
+    (c .before .before .before .before .before .before .loop .offset) (c .before .before .before .before .before .before .loop .i)
+    (c .before .before .before .before .before .before .loop .inv .0) (c .before .before .before .before .before .loop-test .taken)
+    (c .before .before .before .before .row-of .ensures) (sym (c .before .before .before .is-over .ensures) ∙ c .before .before .if1 .taken) (c .wide .ensures)
 
 store-row-requires : tie.Need-store-row-requires Inv-loop μ-loop
-store-row-requires c κs = (omega (arith, not-over (c .before .before .before .before .before .loop .i) (shownRow (c .before .before .before .row-of .result)) (sym (c .before .before .is-over .ensures) ∙ c .before .if1 .left) .0, c .before .before .before .before .before .before .before .before .pre .1 .1, c .before .before .before .before .before .loop .inv .1), not-over (c .before .before .before .before .before .loop .i) (shownRow (c .before .before .before .row-of .result)) (sym (c .before .before .is-over .ensures) ∙ c .before .if1 .left) .1)
+store-row-requires c κs = (
+  omega (
+    arith,
+    not-over (c .before .before .before .before .before .loop .i) (shownRow (c .before .before .before .row-of .result))
+        (sym (c .before .before .is-over .ensures)
+        ∙ c .before .if1 .left) .0,
+    c .before .before .before .before .before .before .before .before .pre .1 .1,
+    c .before .before .before .before .before .loop .inv .1,
+  ),
+  not-over (c .before .before .before .before .before .loop .i) (shownRow (c .before .before .before .row-of .result)) (sym (c .before .before .is-over .ensures) ∙ c .before .if1 .left) .1,
+)
 
 size-at-requires : tie.Need-size-at-requires Inv-loop μ-loop
-size-at-requires c κs = omega (arith, c .before .before .before .before .before .before .before .before .before .before .before .pre .1 .0, c .before .before .before .before .before .before .before .loop-test .taken)
+size-at-requires c κs = omega
+    (arith, c .before .before .before .before .before .before .before .before .before .before .before .pre .1 .0, c .before .before .before .before .before .before .before .loop-test .taken)
 
 add-offset : tie.Need-add-offset Inv-loop μ-loop
-add-offset c = omega (arith, c .before .before .before .before .before .before .before .before .before .loop .inv .0 .low, c .size-at .ensures .small, c .before .before .before .before .before .before .before .before .before .before .before .before .pre .0, c .before .before .before .before .before .before .before .before .loop-test .taken)
+add-offset c = omega
+    (arith, c .before .before .before .before .before .before .before .before .before .loop .inv .0 .low, c .size-at .ensures .small, c .before .before .before .before .before .before .before .before .before .before .before .before .pre .0, c .before .before .before .before .before .before .before .before .loop-test .taken)
 
 add-i : tie.Need-add-i Inv-loop μ-loop
-add-i c = omega (arith, c .before .before .before .before .before .before .before .before .before .before .before .before .pre .1 .0, c .before .before .before .before .before .before .before .before .loop-test .taken)
+add-i c = omega
+    (arith, c .before .before .before .before .before .before .before .before .before .before .before .before .pre .1 .0, c .before .before .before .before .before .before .before .before .loop-test .taken)
 
 loop-less : tie.Need-loop-less Inv-loop μ-loop
-loop-less c = omega (arith, c .before .before .before .before .before .before .before .before .before .before .before .before .pre .1 .0, c .before .before .before .before .before .before .before .before .loop-test .taken)
+loop-less c = omega
+    (arith, c .before .before .before .before .before .before .before .before .before .before .before .before .pre .1 .0, c .before .before .before .before .before .before .before .before .loop-test .taken)
 
 loop-again : tie.Need-loop-again Inv-loop μ-loop
-loop-again c = (rw (c .before .before .before .store-row .ensures) (lay-more (now (c .before .before .before .before .before .before .before .before .before .before .before .before .args .entries)) (c .before .before .before .before .before .before .before .before .before .before .before .before .args .n) (c .before .before .before .before .before .before .before .before .before .loop .rows) (c .before .before .before .before .before .before .before .before .before .loop .offset) (c .before .before .before .before .before .before .before .before .before .loop .i) (c .before .before .before .before .before .before .before .before .before .loop .inv .0) (c .before .before .before .before .before .before .before .before .loop-test .taken) (c .before .before .before .before .before .before .before .row-of .ensures) (sym (c .before .before .before .before .before .before .is-over .ensures) ∙ c .before .before .before .before .before .if1 .left) (omega (arith, not-over (c .before .before .before .before .before .before .before .before .before .loop .i) (shownRow (c .before .before .before .before .before .before .before .row-of .result)) (sym (c .before .before .before .before .before .before .is-over .ensures) ∙ c .before .before .before .before .before .if1 .left) .0, c .before .before .before .before .before .before .before .before .before .before .before .before .pre .1 .1, c .before .before .before .before .before .before .before .before .before .loop .inv .1)) (c .size-at .ensures)), c .before .before .before .store-row .kept .0 ∙ c .before .before .before .before .before .before .before .before .before .loop .inv .1)
+loop-again c = (
+  rw (c .before .before .before .store-row .ensures)
+      (lay-more (now (c .before .before .before .before .before .before .before .before .before .before .before .before .args .entries))
+      (c .before .before .before .before .before .before .before .before .before .before .before .before .args .n)
+      (c .before .before .before .before .before .before .before .before .before .loop .rows)
+      (c .before .before .before .before .before .before .before .before .before .loop .offset)
+      (c .before .before .before .before .before .before .before .before .before .loop .i)
+      (c .before .before .before .before .before .before .before .before .before .loop .inv .0)
+      (c .before .before .before .before .before .before .before .before .loop-test .taken) (c .before .before .before .before .before .before .before .row-of .ensures)
+      (sym (c .before .before .before .before .before .before .is-over .ensures) ∙ c .before .before .before .before .before .if1 .left)
+      (omega (
+        arith,
+        not-over (c .before .before .before .before .before .before .before .before .before .loop .i)
+            (shownRow (c .before .before .before .before .before .before .before .row-of .result))
+            (sym (c .before .before .before .before .before .before .is-over .ensures)
+            ∙ c .before .before .before .before .before .if1 .left) .0,
+        c .before .before .before .before .before .before .before .before .before .before .before .before .pre .1 .1,
+        c .before .before .before .before .before .before .before .before .before .loop .inv .1,
+      )) (c .size-at .ensures)),
+  c .before .before .before .store-row .kept .0 ∙ c .before .before .before .before .before .before .before .before .before .loop .inv .1,
+)
 
 same-length-2 : tie.Need-same-length-2 Inv-loop μ-loop
 same-length-2 c = c .before .loop .inv .1
 
 returns-2 : tie.Need-returns-2 Inv-loop μ-loop
-returns-2 c = lay-end (now (c .before .before .before .before .args .entries)) (c .before .before .before .before .args .n) (c .before .loop .rows) (c .before .loop .offset) (c .before .loop .i) (c .before .loop .inv .0) (c .loop-test .left)
+returns-2 c = lay-end (now (c .before .before .before .before .args .entries)) (c .before .before .before .before .args .n) (c .before .loop .rows)
+    (c .before .loop .offset) (c .before .loop .i) (c .before .loop .inv .0) (c .loop-test .left)
 
 pub lay-rows-spec : {M : Type 1} → statement M
 lay-rows-spec =

@@ -1,3 +1,4 @@
+-- `row_of` meets its contract: from the laws of proofs/ and what its callees ensure. Assumes nothing.
 use denote.Ref.{now}
 use Rattle.layouts.proofs.Laying.{row-group, row-item}
 use borrow.Author.Needs.{needs}
@@ -29,7 +30,8 @@ size-below-requires : tie.Need-size-below-requires
 size-below-requires c κs = search needs
 
 returns : tie.Need-returns
-returns c = row-group (now (c .before .before .before .before .before .args .entries)) (c .before .before .before .before .before .args .i) (c .before .before .before .before .before .args .n) (c .before .before .before .before .before .args .offset) (c .before .before .if1 .taken) (c .size-below .ensures)
+returns c = row-group (now (c .before .before .before .before .before .args .entries)) (c .before .before .before .before .before .args .i)
+    (c .before .before .before .before .before .args .n) (c .before .before .before .before .before .args .offset) (c .before .before .if1 .taken) (c .size-below .ensures)
 
 add-wide : tie.Need-add-wide
 add-wide c = search needs
@@ -53,7 +55,9 @@ shared-slice-read-t22 : tie.Need-shared-slice-read-t22
 shared-slice-read-t22 c = search needs
 
 returns-2 : tie.Need-returns-2
-returns-2 c = row-item (now (c .before .before .before .before .before .before .args .entries)) (c .before .before .before .before .before .before .args .i) (c .before .before .before .before .before .before .args .n) (c .before .before .before .before .before .before .args .offset) (c .before .before .before .if1 .left) (c .before .wide .ensures)
+returns-2 c = row-item (now (c .before .before .before .before .before .before .args .entries)) (c .before .before .before .before .before .before .args .i)
+    (c .before .before .before .before .before .before .args .n) (c .before .before .before .before .before .before .args .offset) (c .before .before .before .if1 .left)
+    (c .before .wide .ensures)
 
 pub row-of-spec : {M : Type 1} → statement M
 row-of-spec =

@@ -1,3 +1,4 @@
+-- `size_at` meets its contract: from the laws of proofs/ and what its callees ensure. Assumes nothing.
 use native.Mathlib.Omega.{arith}
 use denote.Ref.{now}
 use Prim.Native.Nat.{_*_, _+_}
@@ -34,7 +35,9 @@ wide-requires : tie.Need-wide-requires
 wide-requires c κs = search needs
 
 returns-2 : tie.Need-returns-2
-returns-2 c = size-item (now (c .before .before .before .before .before .args .entries)) (c .before .before .before .before .before .args .i) (c .before .before .if1 .left) (c .wide .ensures) (omega (arith, c .before .before .before .before .shared-slice-known .given (c .before .before .before .before .before .args .i * 6 + 4)))
+returns-2 c = size-item (now (c .before .before .before .before .before .args .entries)) (c .before .before .before .before .before .args .i)
+    (c .before .before .if1 .left) (c .wide .ensures) (omega
+    (arith, c .before .before .before .before .shared-slice-known .given (c .before .before .before .before .before .args .i * 6 + 4)))
 
 pub size-at-spec : {M : Type 1} → statement M
 size-at-spec =

@@ -1,3 +1,4 @@
+-- `size_below` meets its contract: from the laws of proofs/ and what its callees ensure. Assumes nothing.
 use Prim.Native.Nat.{_-_, _+_, _*_, _≤_}
 use native.Mathlib.Omega.{arith}
 use mathlib.Core.Path.{_≡_, refl, sym, ap, _∙_}
@@ -27,7 +28,10 @@ shared-slice-read-l : tie.Need-shared-slice-read-l Inv-loop μ-loop
 shared-slice-read-l c = omega (arith, c .before .before .before .before .pre .1 .1, c .before .before .before .before .pre .1 .0)
 
 returns : tie.Need-returns Inv-loop μ-loop
-returns c = sum-stop (now (c .before .before .before .before .before .args .entries)) (c .before .before .before .before .before .args .i) (c .before .before .before .before .before .args .n) (c .before .before .before .before .before .args .level) (c .before .before .before .loop .k) (c .before .before .before .loop .sum) (c .before .before .loop-test .taken) (c .before .before .before .before .before .pre .1 .0) (c .before .before .before .loop .inv .1) (not-true _ (c .if1 .taken))
+returns c = sum-stop (now (c .before .before .before .before .before .args .entries)) (c .before .before .before .before .before .args .i)
+    (c .before .before .before .before .before .args .n) (c .before .before .before .before .before .args .level) (c .before .before .before .loop .k)
+    (c .before .before .before .loop .sum) (c .before .before .loop-test .taken) (c .before .before .before .before .before .pre .1 .0)
+    (c .before .before .before .loop .inv .1) (not-true _ (c .if1 .taken))
 
 size-at-requires : tie.Need-size-at-requires Inv-loop μ-loop
 size-at-requires c κs = omega (arith, c .before .before .before .before .before .pre .1 .1, c .before .before .loop-test .taken)
@@ -42,10 +46,17 @@ loop-less : tie.Need-loop-less Inv-loop μ-loop
 loop-less c = omega (arith, c .before .before .before .before .before .before .pre .1 .1, c .before .before .before .before .before .before .pre .1 .0)
 
 loop-again : tie.Need-loop-again Inv-loop μ-loop
-loop-again c = (omega arith, sum-more (now (c .before .before .before .before .before .before .args .entries)) (c .before .before .before .before .before .before .args .i) (c .before .before .before .before .before .before .args .n) (c .before .before .before .before .before .before .args .level) (c .before .before .before .before .loop .k) (c .before .before .before .before .loop .sum) (c .before .before .before .loop-test .taken) (c .before .before .before .before .loop .inv .1) (not-false _ (c .before .if1 .left)) (c .size-at .ensures))
+loop-again c = (
+  omega arith,
+  sum-more (now (c .before .before .before .before .before .before .args .entries))
+      (c .before .before .before .before .before .before .args .i) (c .before .before .before .before .before .before .args .n)
+      (c .before .before .before .before .before .before .args .level) (c .before .before .before .before .loop .k) (c .before .before .before .before .loop .sum)
+      (c .before .before .before .loop-test .taken) (c .before .before .before .before .loop .inv .1) (not-false _ (c .before .if1 .left)) (c .size-at .ensures),
+)
 
 returns-2 : tie.Need-returns-2 Inv-loop μ-loop
-returns-2 c = sum-end (now (c .before .before .before .args .entries)) (c .before .before .before .args .i) (c .before .before .before .args .n) (c .before .before .before .args .level) (c .before .loop .k) (c .before .loop .sum) (c .loop-test .left) (c .before .loop .inv .0) (c .before .loop .inv .1)
+returns-2 c = sum-end (now (c .before .before .before .args .entries)) (c .before .before .before .args .i) (c .before .before .before .args .n)
+    (c .before .before .before .args .level) (c .before .loop .k) (c .before .loop .sum) (c .loop-test .left) (c .before .loop .inv .0) (c .before .loop .inv .1)
 
 pub size-below-spec : {M : Type 1} → statement M
 size-below-spec =

@@ -1,3 +1,4 @@
+-- `begins_with` meets its contract: from the laws of proofs/ and what its callees ensure. Assumes nothing.
 use Prim.Native.Nat.{_-_, _+_, _≤_}
 use native.Mathlib.Omega.{arith}
 use mathlib.Core.Path.{_≡_, refl, sym, ap, _∙_}
@@ -28,16 +29,24 @@ enters-with-requires : tie.Need-enters-with-requires Inv-loop μ-loop
 enters-with-requires c κs = c .before .before .before .pre
 
 returns : tie.Need-returns Inv-loop μ-loop
-returns c = second-yes (groupsOf (now (c .before .before .before .before .before .args .stack)) (c .before .before .before .before .before .args .depth) (c .before .before .before .before .before .args .waiting)) (c .before .before .before .before .before .args .a) (c .before .before .before .loop .n) (c .before .before .loop-test .taken) (c .before .before .before .loop .inv .1) (sym (c .before .enters-with .ensures) ∙ c .if1 .taken)
+returns c = second-yes (groupsOf (now (c .before .before .before .before .before .args .stack)) (c .before .before .before .before .before .args .depth)
+    (c .before .before .before .before .before .args .waiting)) (c .before .before .before .before .before .args .a) (c .before .before .before .loop .n)
+    (c .before .before .loop-test .taken) (c .before .before .before .loop .inv .1) (sym (c .before .enters-with .ensures) ∙ c .if1 .taken)
 
 loop-less : tie.Need-loop-less Inv-loop μ-loop
 loop-less c = omega arith
 
 loop-again : tie.Need-loop-again Inv-loop μ-loop
-loop-again c = (omega arith, second-no (groupsOf (now (c .before .before .before .before .before .args .stack)) (c .before .before .before .before .before .args .depth) (c .before .before .before .before .before .args .waiting)) (c .before .before .before .before .before .args .a) (c .before .before .before .loop .n) (c .before .before .loop-test .taken) (c .before .before .before .loop .inv .1) (sym (c .before .enters-with .ensures) ∙ c .if1 .left))
+loop-again c = (
+  omega arith,
+  second-no (groupsOf (now (c .before .before .before .before .before .args .stack)) (c .before .before .before .before .before .args .depth)
+      (c .before .before .before .before .before .args .waiting)) (c .before .before .before .before .before .args .a) (c .before .before .before .loop .n)
+      (c .before .before .loop-test .taken) (c .before .before .before .loop .inv .1) (sym (c .before .enters-with .ensures) ∙ c .if1 .left),
+)
 
 returns-2 : tie.Need-returns-2 Inv-loop μ-loop
-returns-2 c = second-none (groupsOf (now (c .before .before .before .args .stack)) (c .before .before .before .args .depth) (c .before .before .before .args .waiting)) (c .before .before .before .args .a) (c .before .loop .n) (c .loop-test .left) (c .before .loop .inv .1)
+returns-2 c = second-none (groupsOf (now (c .before .before .before .args .stack)) (c .before .before .before .args .depth) (c .before .before .before .args .waiting))
+    (c .before .before .before .args .a) (c .before .loop .n) (c .loop-test .left) (c .before .loop .inv .1)
 
 pub begins-with-spec : {M : Type 1} → statement M
 begins-with-spec =

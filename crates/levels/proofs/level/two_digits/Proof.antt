@@ -1,3 +1,4 @@
+-- `two_digits` meets its contract: from the laws of proofs/ and what its callees ensure. Assumes nothing.
 use native.Mathlib.Omega.{arith}
 use Rattle.levels.proofs.Stack.{digit-range}
 use borrow.Author.Needs.{needs}

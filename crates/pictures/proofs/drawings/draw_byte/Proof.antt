@@ -1,3 +1,4 @@
+-- `draw_byte` meets its contract: from the laws of proofs/ and what its callees ensure. Assumes nothing.
 use Rattle.pictures.proofs.Sketches.{step-is, small-is}
 use borrow.Author.Needs.{needs}
 use Rattle.pictures.proofs.drawings.draw_byte.Statement.{statement}

@@ -1,3 +1,4 @@
+-- `first` meets its contract: from the laws of proofs/ and what its callees ensure. Assumes nothing.
 use Rattle.pictures.proofs.Sketches.{first-a, first-s, first-number}
 use borrow.Author.Needs.{needs}
 use Rattle.pictures.proofs.drawings.first.Statement.{statement}

@@ -1,3 +1,4 @@
+-- `letters` meets its contract: from the laws of proofs/ and what its callees ensure. Assumes nothing.
 use Rattle.pictures.specs.declared.Drawn.the-variants.{Letters}
 use Rattle.pictures.proofs.Sketches.{drew-on, drew-stuck}
 use borrow.Author.Needs.{needs}

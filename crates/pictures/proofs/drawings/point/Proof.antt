@@ -1,3 +1,4 @@
+-- `point` meets its contract: from the laws of proofs/ and what its callees ensure. Assumes nothing.
 use Rattle.pictures.proofs.Sketches.{point-on, point-stuck}
 use borrow.Author.Needs.{needs}
 use Rattle.pictures.proofs.drawings.point.Statement.{statement}

@@ -1,3 +1,4 @@
+-- `total` meets its contract: from the laws of proofs/ and what its callees ensure. Assumes nothing.
 use Rattle.pictures.proofs.Sketches.{total-settled, total-last, total-open}
 use borrow.Author.Needs.{needs}
 use Rattle.pictures.proofs.drawings.total.Statement.{statement}

@@ -1,3 +1,4 @@
+-- `sketched` meets its contract: from the laws of proofs/ and what its callees ensure. Assumes nothing.
 use Prim.Native.Nat.{_-_, _+_, _≤_}
 use native.Mathlib.Omega.{arith}
 use mathlib.Core.Path.{_≡_, refl, sym, ap, _∙_}
@@ -40,13 +41,17 @@ loop-less : tie.Need-loop-less Inv-loop μ-loop
 loop-less c = omega arith
 
 loop-again : tie.Need-loop-again Inv-loop μ-loop
-loop-again c = goes-on (now (c .before .before .before .before .before .before .before .before .args .rest)) (c .before .before .before .before .before .before .loop .k) (c .before .before .before .before .before .loop-test .taken) (c .before .before .before .before .before .before .loop .inv .1) (c .before .before .before .draw-byte .ensures) (c .before .before .before .before .before .before .loop .inv .0) (c .before .e .given .1)
+loop-again c = goes-on (now (c .before .before .before .before .before .before .before .before .args .rest)) (c .before .before .before .before .before .before .loop .k)
+    (c .before .before .before .before .before .loop-test .taken) (c .before .before .before .before .before .before .loop .inv .1)
+    (c .before .before .before .draw-byte .ensures) (c .before .before .before .before .before .before .loop .inv .0) (c .before .e .given .1)
 
 enum-told : tie.Need-enum-told Inv-loop μ-loop
 enum-told c = search needs
 
 returns : tie.Need-returns Inv-loop μ-loop
-returns c = gets-stuck (now (c .before .before .before .before .before .before .before .args .rest)) (c .before .before .before .before .before .loop .k) (c .before .before .before .before .loop-test .taken) (c .before .before .before .before .before .loop .inv .1) (c .before .before .draw-byte .ensures) (c .before .before .before .before .before .loop .inv .0) (c .enum-told .given .1)
+returns c = gets-stuck (now (c .before .before .before .before .before .before .before .args .rest)) (c .before .before .before .before .before .loop .k)
+    (c .before .before .before .before .loop-test .taken) (c .before .before .before .before .before .loop .inv .1) (c .before .before .draw-byte .ensures)
+    (c .before .before .before .before .before .loop .inv .0) (c .enum-told .given .1)
 
 returns-2 : tie.Need-returns-2 Inv-loop μ-loop
 returns-2 c = all-read (now (c .before .before .before .args .rest)) (c .before .loop .k) (c .loop-test .left) (c .before .loop .inv .1) (c .before .loop .inv .0)

@@ -1,3 +1,4 @@
+-- `counting` meets its contract: from the laws of proofs/ and what its callees ensure. Assumes nothing.
 use mathlib.Core.Path.{_∙_, sym}
 use native.Mathlib.Omega.{arith}
 use borrow.Author.Needs.{needs}

@@ -1,3 +1,4 @@
+-- `last` meets its contract: from the laws of proofs/ and what its callees ensure. Assumes nothing.
 use borrow.Author.Needs.{needs}
 use Rattle.pictures.proofs.tallies.last.Statement.{statement}
 use Rattle.pictures.proofs.tallies.last.Tie as tie

@@ -1,3 +1,4 @@
+-- `settled` meets its contract: from the laws of proofs/ and what its callees ensure. Assumes nothing.
 use Rattle.pictures.proofs.tallies.settled.Statement.{statement}
 use Rattle.pictures.proofs.tallies.settled.Tie as tie
 use Rattle.pictures.proofs.Laws.{settled-same, settled-other}

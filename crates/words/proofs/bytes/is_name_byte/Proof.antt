@@ -1,3 +1,4 @@
+-- `is_name_byte` meets its contract: from the laws of proofs/ and what its callees ensure. Assumes nothing.
 use mathlib.Core.Path.{sym, ap, ap₂, _∙_}
 use mathlib.Core.Bool.{_||_}
 use borrow.Author.Needs.{needs}

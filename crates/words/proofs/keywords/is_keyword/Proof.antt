@@ -1,3 +1,4 @@
+-- `is_keyword` meets its contract: from the laws of proofs/ and what its callees ensure. Assumes nothing.
 use denote.Ref.{now}
 use mathlib.Core.Path.{_∙_}
 use native.Mathlib.Omega.{arith}
@@ -73,16 +74,20 @@ returns-2 : tie.Need-returns-2
 returns-2 c = c .keyword-a .ensures ∙ starts-A (now (c .before .before .before .before .before .args .w)) (omega arith) (c .before .match .keys1)
 
 returns-3 : tie.Need-returns-3
-returns-3 c = one-word (now (c .before .before .before .before .before .before .args .w)) _ (c .same-bytes .result) (c .same-bytes .ensures) ∙ starts-E (now (c .before .before .before .before .before .before .args .w)) (omega arith) (c .before .before .match .keys2)
+returns-3 c = one-word (now (c .before .before .before .before .before .before .args .w)) _ (c .same-bytes .result) (c .same-bytes .ensures) ∙ starts-E
+    (now (c .before .before .before .before .before .before .args .w)) (omega arith) (c .before .before .match .keys2)
 
 returns-4 : tie.Need-returns-4
-returns-4 c = one-word (now (c .before .before .before .before .before .before .args .w)) _ (c .same-bytes2 .result) (c .same-bytes2 .ensures) ∙ starts-F (now (c .before .before .before .before .before .before .args .w)) (omega arith) (c .before .before .match .keys3)
+returns-4 c = one-word (now (c .before .before .before .before .before .before .args .w)) _ (c .same-bytes2 .result) (c .same-bytes2 .ensures) ∙ starts-F
+    (now (c .before .before .before .before .before .before .args .w)) (omega arith) (c .before .before .match .keys3)
 
 returns-5 : tie.Need-returns-5
-returns-5 c = one-word (now (c .before .before .before .before .before .before .args .w)) _ (c .same-bytes3 .result) (c .same-bytes3 .ensures) ∙ starts-G (now (c .before .before .before .before .before .before .args .w)) (omega arith) (c .before .before .match .keys4)
+returns-5 c = one-word (now (c .before .before .before .before .before .before .args .w)) _ (c .same-bytes3 .result) (c .same-bytes3 .ensures) ∙ starts-G
+    (now (c .before .before .before .before .before .before .args .w)) (omega arith) (c .before .before .match .keys4)
 
 returns-6 : tie.Need-returns-6
-returns-6 c = one-word (now (c .before .before .before .before .before .before .args .w)) _ (c .same-bytes4 .result) (c .same-bytes4 .ensures) ∙ starts-I (now (c .before .before .before .before .before .before .args .w)) (omega arith) (c .before .before .match .keys5)
+returns-6 c = one-word (now (c .before .before .before .before .before .before .args .w)) _ (c .same-bytes4 .result) (c .same-bytes4 .ensures) ∙ starts-I
+    (now (c .before .before .before .before .before .before .args .w)) (omega arith) (c .before .before .match .keys5)
 
 returns-7 : tie.Need-returns-7
 returns-7 c = c .keyword-l .ensures ∙ starts-L (now (c .before .before .before .before .before .args .w)) (omega arith) (c .before .match .keys6)
@@ -91,7 +96,8 @@ returns-8 : tie.Need-returns-8
 returns-8 c = c .keyword-n .ensures ∙ starts-N (now (c .before .before .before .before .before .args .w)) (omega arith) (c .before .match .keys7)
 
 returns-9 : tie.Need-returns-9
-returns-9 c = one-word (now (c .before .before .before .before .before .before .args .w)) _ (c .same-bytes5 .result) (c .same-bytes5 .ensures) ∙ starts-O (now (c .before .before .before .before .before .before .args .w)) (omega arith) (c .before .before .match .keys8)
+returns-9 c = one-word (now (c .before .before .before .before .before .before .args .w)) _ (c .same-bytes5 .result) (c .same-bytes5 .ensures) ∙ starts-O
+    (now (c .before .before .before .before .before .before .args .w)) (omega arith) (c .before .before .match .keys8)
 
 returns-10 : tie.Need-returns-10
 returns-10 c = c .keyword-p .ensures ∙ starts-P (now (c .before .before .before .before .before .args .w)) (omega arith) (c .before .match .keys9)
@@ -106,11 +112,15 @@ returns-13 : tie.Need-returns-13
 returns-13 c = c .keyword-u .ensures ∙ starts-U (now (c .before .before .before .before .before .args .w)) (omega arith) (c .before .match .keys12)
 
 returns-14 : tie.Need-returns-14
-returns-14 c = one-word (now (c .before .before .before .before .before .before .args .w)) _ (c .same-bytes6 .result) (c .same-bytes6 .ensures) ∙ starts-Z (now (c .before .before .before .before .before .before .args .w)) (omega arith) (c .before .before .match .keys13)
+returns-14 c = one-word (now (c .before .before .before .before .before .before .args .w)) _ (c .same-bytes6 .result) (c .same-bytes6 .ensures) ∙ starts-Z
+    (now (c .before .before .before .before .before .before .args .w)) (omega arith) (c .before .before .match .keys13)
 
 returns-15 : tie.Need-returns-15
 returns-15 c = starts-other (now (c .before .before .before .before .args .w))
-    (c .match .rest .0 .0 .0 .0 .0 .0 .0 .0 .0 .0 .0 .0 .1) (c .match .rest .0 .0 .0 .0 .0 .0 .0 .0 .0 .0 .0 .1) (c .match .rest .0 .0 .0 .0 .0 .0 .0 .0 .0 .0 .1) (c .match .rest .0 .0 .0 .0 .0 .0 .0 .0 .0 .1) (c .match .rest .0 .0 .0 .0 .0 .0 .0 .0 .1) (c .match .rest .0 .0 .0 .0 .0 .0 .0 .1) (c .match .rest .0 .0 .0 .0 .0 .0 .1) (c .match .rest .0 .0 .0 .0 .0 .1) (c .match .rest .0 .0 .0 .0 .1) (c .match .rest .0 .0 .0 .1) (c .match .rest .0 .0 .1) (c .match .rest .0 .1) (c .match .rest .1)
+    (c .match .rest .0 .0 .0 .0 .0 .0 .0 .0 .0 .0 .0 .0 .1) (c .match .rest .0 .0 .0 .0 .0 .0 .0 .0 .0 .0 .0 .1) (c .match .rest .0 .0 .0 .0 .0 .0 .0 .0 .0 .0 .1)
+    (c .match .rest .0 .0 .0 .0 .0 .0 .0 .0 .0 .1) (c .match .rest .0 .0 .0 .0 .0 .0 .0 .0 .1) (c .match .rest .0 .0 .0 .0 .0 .0 .0 .1)
+    (c .match .rest .0 .0 .0 .0 .0 .0 .1) (c .match .rest .0 .0 .0 .0 .0 .1) (c .match .rest .0 .0 .0 .0 .1) (c .match .rest .0 .0 .0 .1) (c .match .rest .0 .0 .1)
+    (c .match .rest .0 .1) (c .match .rest .1)
 
 pub is-keyword-spec : {M : Type 1} → statement M
 is-keyword-spec =

@@ -1,3 +1,4 @@
+-- `keyword_a` meets its contract: from the laws of proofs/ and what its callees ensure. Assumes nothing.
 use denote.Ref.{now}
 use Rattle.words.proofs.Initials.{one-word, word-more}
 use borrow.Author.Needs.{needs}
@@ -29,9 +30,12 @@ same-bytes-requires-4 : tie.Need-same-bytes-requires-4
 same-bytes-requires-4 c κs = search needs
 
 returns : tie.Need-returns
-returns c = word-more (now (c .before .before .before .before .before .before .before .before .before .args .w)) _ _ (c .before .before .before .before .before .before .same-bytes .result) _ (c .before .before .before .before .before .before .same-bytes .ensures)
-    (word-more (now (c .before .before .before .before .before .before .before .before .before .args .w)) _ _ (c .before .before .before .before .same-bytes2 .result) _ (c .before .before .before .before .same-bytes2 .ensures)
-    (word-more (now (c .before .before .before .before .before .before .before .before .before .args .w)) _ _ (c .before .before .same-bytes3 .result) _ (c .before .before .same-bytes3 .ensures)
+returns c = word-more (now (c .before .before .before .before .before .before .before .before .before .args .w)) _ _
+    (c .before .before .before .before .before .before .same-bytes .result) _ (c .before .before .before .before .before .before .same-bytes .ensures)
+    (word-more (now (c .before .before .before .before .before .before .before .before .before .args .w)) _ _ (c .before .before .before .before .same-bytes2 .result) _
+    (c .before .before .before .before .same-bytes2 .ensures)
+    (word-more (now (c .before .before .before .before .before .before .before .before .before .args .w)) _ _ (c .before .before .same-bytes3 .result) _
+    (c .before .before .same-bytes3 .ensures)
     (one-word (now (c .before .before .before .before .before .before .before .before .before .args .w)) _ (c .same-bytes4 .result) (c .same-bytes4 .ensures))))
 
 pub keyword-a-spec : {M : Type 1} → statement M

@@ -1,3 +1,4 @@
+-- `keyword_n` meets its contract: from the laws of proofs/ and what its callees ensure. Assumes nothing.
 use denote.Ref.{now}
 use Rattle.words.proofs.Initials.{one-word, word-more}
 use borrow.Author.Needs.{needs}
@@ -23,7 +24,8 @@ same-bytes-requires-3 : tie.Need-same-bytes-requires-3
 same-bytes-requires-3 c κs = search needs
 
 returns : tie.Need-returns
-returns c = word-more (now (c .before .before .before .before .before .before .before .args .w)) _ _ (c .before .before .before .before .same-bytes .result) _ (c .before .before .before .before .same-bytes .ensures)
+returns c = word-more (now (c .before .before .before .before .before .before .before .args .w)) _ _ (c .before .before .before .before .same-bytes .result) _
+    (c .before .before .before .before .same-bytes .ensures)
     (word-more (now (c .before .before .before .before .before .before .before .args .w)) _ _ (c .before .before .same-bytes2 .result) _ (c .before .before .same-bytes2 .ensures)
     (one-word (now (c .before .before .before .before .before .before .before .args .w)) _ (c .same-bytes3 .result) (c .same-bytes3 .ensures)))
 

@@ -1,3 +1,4 @@
+-- `keyword_u` meets its contract: from the laws of proofs/ and what its callees ensure. Assumes nothing.
 use denote.Ref.{now}
 use Rattle.words.proofs.Initials.{one-word, word-more}
 use borrow.Author.Needs.{needs}
@@ -53,14 +54,32 @@ same-bytes-requires-8 : tie.Need-same-bytes-requires-8
 same-bytes-requires-8 c κs = search needs
 
 returns : tie.Need-returns
-returns c = word-more (now (c .before .before .before .before .before .before .before .before .before .before .before .before .before .before .before .before .before .args .w)) _ _ (c .before .before .before .before .before .before .before .before .before .before .before .before .before .before .same-bytes .result) _ (c .before .before .before .before .before .before .before .before .before .before .before .before .before .before .same-bytes .ensures)
-    (word-more (now (c .before .before .before .before .before .before .before .before .before .before .before .before .before .before .before .before .before .args .w)) _ _ (c .before .before .before .before .before .before .before .before .before .before .before .before .same-bytes2 .result) _ (c .before .before .before .before .before .before .before .before .before .before .before .before .same-bytes2 .ensures)
-    (word-more (now (c .before .before .before .before .before .before .before .before .before .before .before .before .before .before .before .before .before .args .w)) _ _ (c .before .before .before .before .before .before .before .before .before .before .same-bytes3 .result) _ (c .before .before .before .before .before .before .before .before .before .before .same-bytes3 .ensures)
-    (word-more (now (c .before .before .before .before .before .before .before .before .before .before .before .before .before .before .before .before .before .args .w)) _ _ (c .before .before .before .before .before .before .before .before .same-bytes4 .result) _ (c .before .before .before .before .before .before .before .before .same-bytes4 .ensures)
-    (word-more (now (c .before .before .before .before .before .before .before .before .before .before .before .before .before .before .before .before .before .args .w)) _ _ (c .before .before .before .before .before .before .same-bytes5 .result) _ (c .before .before .before .before .before .before .same-bytes5 .ensures)
-    (word-more (now (c .before .before .before .before .before .before .before .before .before .before .before .before .before .before .before .before .before .args .w)) _ _ (c .before .before .before .before .same-bytes6 .result) _ (c .before .before .before .before .same-bytes6 .ensures)
-    (word-more (now (c .before .before .before .before .before .before .before .before .before .before .before .before .before .before .before .before .before .args .w)) _ _ (c .before .before .same-bytes7 .result) _ (c .before .before .same-bytes7 .ensures)
-    (one-word (now (c .before .before .before .before .before .before .before .before .before .before .before .before .before .before .before .before .before .args .w)) _ (c .same-bytes8 .result) (c .same-bytes8 .ensures))))))))
+returns c = word-more (now
+    (c .before .before .before .before .before .before .before .before .before .before .before .before .before .before .before .before .before .args .w)) _ _
+    (c .before .before .before .before .before .before .before .before .before .before .before .before .before .before .same-bytes .result) _
+    (c .before .before .before .before .before .before .before .before .before .before .before .before .before .before .same-bytes .ensures)
+    (word-more (now
+    (c .before .before .before .before .before .before .before .before .before .before .before .before .before .before .before .before .before .args .w)) _ _
+    (c .before .before .before .before .before .before .before .before .before .before .before .before .same-bytes2 .result) _
+    (c .before .before .before .before .before .before .before .before .before .before .before .before .same-bytes2 .ensures)
+    (word-more (now
+    (c .before .before .before .before .before .before .before .before .before .before .before .before .before .before .before .before .before .args .w)) _ _
+    (c .before .before .before .before .before .before .before .before .before .before .same-bytes3 .result) _
+    (c .before .before .before .before .before .before .before .before .before .before .same-bytes3 .ensures)
+    (word-more (now
+    (c .before .before .before .before .before .before .before .before .before .before .before .before .before .before .before .before .before .args .w)) _ _
+    (c .before .before .before .before .before .before .before .before .same-bytes4 .result) _ (c .before .before .before .before .before .before .before .before .same-bytes4 .ensures)
+    (word-more (now
+    (c .before .before .before .before .before .before .before .before .before .before .before .before .before .before .before .before .before .args .w)) _ _
+    (c .before .before .before .before .before .before .same-bytes5 .result) _ (c .before .before .before .before .before .before .same-bytes5 .ensures)
+    (word-more (now
+    (c .before .before .before .before .before .before .before .before .before .before .before .before .before .before .before .before .before .args .w)) _ _
+    (c .before .before .before .before .same-bytes6 .result) _ (c .before .before .before .before .same-bytes6 .ensures)
+    (word-more (now
+    (c .before .before .before .before .before .before .before .before .before .before .before .before .before .before .before .before .before .args .w)) _ _
+    (c .before .before .same-bytes7 .result) _ (c .before .before .same-bytes7 .ensures)
+    (one-word (now (c .before .before .before .before .before .before .before .before .before .before .before .before .before .before .before .before .before .args .w)) _
+    (c .same-bytes8 .result) (c .same-bytes8 .ensures))))))))
 
 pub keyword-u-spec : {M : Type 1} → statement M
 keyword-u-spec =

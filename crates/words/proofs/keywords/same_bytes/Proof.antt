@@ -1,3 +1,4 @@
+-- `same_bytes` meets its contract: from the laws of proofs/ and what its callees ensure. Assumes nothing.
 use Prim.Native.Nat.{_-_, _≤_}
 use native.Mathlib.Omega.{arith}
 use mathlib.Core.Path.{_≡_, refl, sym, _∙_}
@@ -28,7 +29,8 @@ shared-slice-read-if2-2 : tie.Need-shared-slice-read-if2-2 Inv-loop μ-loop
 shared-slice-read-if2-2 c = omega arith
 
 returns-2 : tie.Need-returns-2 Inv-loop μ-loop
-returns-2 c = same-other (now (c .before .before .before .before .before .before .args .a)) (now (c .before .before .before .before .before .before .args .b)) (c .before .before .before .before .loop .k) (c .before .before .before .loop-test .taken) (omega arith) (c .if2 .taken) (c .before .before .before .before .loop .inv)
+returns-2 c = same-other (now (c .before .before .before .before .before .before .args .a)) (now (c .before .before .before .before .before .before .args .b))
+    (c .before .before .before .before .loop .k) (c .before .before .before .loop-test .taken) (omega arith) (c .if2 .taken) (c .before .before .before .before .loop .inv)
 
 add-k : tie.Need-add-k Inv-loop μ-loop
 add-k c = omega arith
@@ -37,7 +39,8 @@ loop-less : tie.Need-loop-less Inv-loop μ-loop
 loop-less c = omega arith
 
 loop-again : tie.Need-loop-again Inv-loop μ-loop
-loop-again c = same-more (now (c .before .before .before .before .before .before .args .a)) (now (c .before .before .before .before .before .before .args .b)) (c .before .before .before .before .loop .k) (c .before .before .before .loop-test .taken) (omega arith) (c .if2 .left) (c .before .before .before .before .loop .inv)
+loop-again c = same-more (now (c .before .before .before .before .before .before .args .a)) (now (c .before .before .before .before .before .before .args .b))
+    (c .before .before .before .before .loop .k) (c .before .before .before .loop-test .taken) (omega arith) (c .if2 .left) (c .before .before .before .before .loop .inv)
 
 returns-3 : tie.Need-returns-3 Inv-loop μ-loop
 returns-3 c = same-end (now (c .before .before .before .args .a)) (now (c .before .before .before .args .b)) (c .before .loop .k) (c .loop-test .left) (omega arith) (c .before .loop .inv)

@@ -1,3 +1,4 @@
+-- `all_name_bytes` meets its contract: from the laws of proofs/ and what its callees ensure. Assumes nothing.
 use Prim.Native.Nat.{_-_, _+_, _≤_}
 use native.Mathlib.Omega.{arith}
 use mathlib.Core.Path.{_≡_, refl, sym, ap, _∙_}
@@ -26,7 +27,8 @@ is-name-byte-requires : tie.Need-is-name-byte-requires Inv-loop μ-loop
 is-name-byte-requires c κs = search needs
 
 returns : tie.Need-returns Inv-loop μ-loop
-returns c = all-other isNameByte (now (c .before .before .before .before .before .before .args .w)) (c .before .before .before .before .loop .k) (c .before .before .before .loop-test .taken) (sym (c .before .is-name-byte .ensures) ∙ not-true _ (c .if1 .taken)) (c .before .before .before .before .loop .inv)
+returns c = all-other isNameByte (now (c .before .before .before .before .before .before .args .w)) (c .before .before .before .before .loop .k)
+    (c .before .before .before .loop-test .taken) (sym (c .before .is-name-byte .ensures) ∙ not-true _ (c .if1 .taken)) (c .before .before .before .before .loop .inv)
 
 add-k : tie.Need-add-k Inv-loop μ-loop
 add-k c = omega arith
@@ -35,7 +37,8 @@ loop-less : tie.Need-loop-less Inv-loop μ-loop
 loop-less c = omega arith
 
 loop-again : tie.Need-loop-again Inv-loop μ-loop
-loop-again c = all-more isNameByte (now (c .before .before .before .before .before .before .args .w)) (c .before .before .before .before .loop .k) (c .before .before .before .loop-test .taken) (sym (c .before .is-name-byte .ensures) ∙ not-false _ (c .if1 .left)) (c .before .before .before .before .loop .inv)
+loop-again c = all-more isNameByte (now (c .before .before .before .before .before .before .args .w)) (c .before .before .before .before .loop .k)
+    (c .before .before .before .loop-test .taken) (sym (c .before .is-name-byte .ensures) ∙ not-false _ (c .if1 .left)) (c .before .before .before .before .loop .inv)
 
 returns-2 : tie.Need-returns-2 Inv-loop μ-loop
 returns-2 c = all-end isNameByte (now (c .before .before .before .args .w)) (c .before .loop .k) (c .loop-test .left) (c .before .loop .inv)

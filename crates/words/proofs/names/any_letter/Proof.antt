@@ -1,3 +1,4 @@
+-- `any_letter` meets its contract: from the laws of proofs/ and what its callees ensure. Assumes nothing.
 use Prim.Native.Nat.{_-_, _+_, _≤_}
 use native.Mathlib.Omega.{arith}
 use mathlib.Core.Path.{_≡_, refl, sym, ap, _∙_}
@@ -26,7 +27,8 @@ is-letter-requires : tie.Need-is-letter-requires Inv-loop μ-loop
 is-letter-requires c κs = search needs
 
 returns : tie.Need-returns Inv-loop μ-loop
-returns c = any-here isLetter (now (c .before .before .before .before .before .before .args .w)) (c .before .before .before .before .loop .k) (c .before .before .before .loop-test .taken) (sym (c .before .is-letter .ensures) ∙ c .if1 .taken) (c .before .before .before .before .loop .inv)
+returns c = any-here isLetter (now (c .before .before .before .before .before .before .args .w)) (c .before .before .before .before .loop .k)
+    (c .before .before .before .loop-test .taken) (sym (c .before .is-letter .ensures) ∙ c .if1 .taken) (c .before .before .before .before .loop .inv)
 
 add-k : tie.Need-add-k Inv-loop μ-loop
 add-k c = omega arith
@@ -35,7 +37,8 @@ loop-less : tie.Need-loop-less Inv-loop μ-loop
 loop-less c = omega arith
 
 loop-again : tie.Need-loop-again Inv-loop μ-loop
-loop-again c = any-more isLetter (now (c .before .before .before .before .before .before .args .w)) (c .before .before .before .before .loop .k) (c .before .before .before .loop-test .taken) (sym (c .before .is-letter .ensures) ∙ c .if1 .left) (c .before .before .before .before .loop .inv)
+loop-again c = any-more isLetter (now (c .before .before .before .before .before .before .args .w)) (c .before .before .before .before .loop .k)
+    (c .before .before .before .loop-test .taken) (sym (c .before .is-letter .ensures) ∙ c .if1 .left) (c .before .before .before .before .loop .inv)
 
 returns-2 : tie.Need-returns-2 Inv-loop μ-loop
 returns-2 c = any-end isLetter (now (c .before .before .before .args .w)) (c .before .loop .k) (c .loop-test .left) (c .before .loop .inv)

@@ -1,3 +1,4 @@
+-- `is_called` meets its contract: from the laws of proofs/ and what its callees ensure. Assumes nothing.
 use mathlib.Core.Path.{refl}
 use borrow.Author.Needs.{needs}
 use Rattle.words.proofs.names.is_called.Statement.{statement}
