@@ -57,13 +57,15 @@ enum-known-k-3 : tie.Need-enum-known-k-3
 enum-known-k-3 c = search needs
 
 returns : tie.Need-returns
-returns c = via (λ x. capEntry
-    (calledOf (now (c .before .before .before .before .before .before .before .before .before .args .text))
-    (c .before .before .before .before .before .before .before .before .before .args .level)
-    (c .before .before .before .before .before .before .before .before .before .args .depth)
-    (c .before .before .before .before .before .before .before .before .before .args .p) x)) (c .before .before .before .before .name-at .ensures)
-    (c .before .before .k .given .1) (c .item-at .ensures ∙ rw
-    (c .before .before .before .before .before .before .before .narrow .ensures, c .before .before .before .before .before .narrow2 .ensures, c .before .before .before .before .before .before .next-ink .ensures))
+returns c =
+    let p2 = c .before .before in
+    let p4 = p2 .before .before in
+    let p5 = p4 .before in
+    let p6 = p5 .before in
+    let p7 = p6 .before in
+    let p9 = p7 .before .before in
+    via (λ x. capEntry (calledOf (now (p9 .args .text)) (p9 .args .level) (p9 .args .depth) (p9 .args .p) x)) (p4 .name-at .ensures) (p2 .k .given .1)
+    (c .item-at .ensures ∙ rw (p7 .narrow .ensures, p5 .narrow2 .ensures, p6 .next-ink .ensures))
 
 returns-2 : tie.Need-returns-2
 returns-2 c = via (λ x. capEntry

@@ -67,16 +67,23 @@ size-at-requires c κs = omega
     (arith, c .before .before .before .before .before .before .before .before .before .before .before .pre .1 .0, c .before .before .before .before .before .before .before .loop-test .taken)
 
 add-offset : tie.Need-add-offset Inv-loop μ-loop
-add-offset c = omega
-    (arith, c .before .before .before .before .before .before .before .before .before .loop .inv .0 .low, c .size-at .ensures .small, c .before .before .before .before .before .before .before .before .before .before .before .before .pre .0, c .before .before .before .before .before .before .before .before .loop-test .taken)
+add-offset c =
+    let p8 = c .before .before .before .before .before .before .before .before in
+    let p9 = p8 .before in
+    let p12 = p9 .before .before .before in
+    omega (arith, p9 .loop .inv .0 .low, c .size-at .ensures .small, p12 .pre .0, p8 .loop-test .taken)
 
 add-i : tie.Need-add-i Inv-loop μ-loop
-add-i c = omega
-    (arith, c .before .before .before .before .before .before .before .before .before .before .before .before .pre .1 .0, c .before .before .before .before .before .before .before .before .loop-test .taken)
+add-i c =
+    let p8 = c .before .before .before .before .before .before .before .before in
+    let p12 = p8 .before .before .before .before in
+    omega (arith, p12 .pre .1 .0, p8 .loop-test .taken)
 
 loop-less : tie.Need-loop-less Inv-loop μ-loop
-loop-less c = omega
-    (arith, c .before .before .before .before .before .before .before .before .before .before .before .before .pre .1 .0, c .before .before .before .before .before .before .before .before .loop-test .taken)
+loop-less c =
+    let p8 = c .before .before .before .before .before .before .before .before in
+    let p12 = p8 .before .before .before .before in
+    omega (arith, p12 .pre .1 .0, p8 .loop-test .taken)
 
 loop-again : tie.Need-loop-again Inv-loop μ-loop
 loop-again c = (
