@@ -95,5 +95,18 @@ pub starts-other : (w : List ℕ) → ¬ (getD w 0 0 ≡ 0x41) → ¬ (getD w 0 
 unfolding within same
 starts-other [] hA hE hF hG hI hL hN hO hP hS hT hU hZ = refl
 starts-other (a ∷ v) hA hE hF hG hI hL hN hO hP hS hT hU hZ =
-    rw (eqb-no a 0x41 hA, eqb-no a 0x45 hE, eqb-no a 0x46 hF, eqb-no a 0x47 hG, eqb-no a 0x49 hI, eqb-no a 0x4c hL,
-    eqb-no a 0x4e hN, eqb-no a 0x4f hO, eqb-no a 0x50 hP, eqb-no a 0x53 hS, eqb-no a 0x54 hT, eqb-no a 0x55 hU, eqb-no a 0x5a hZ)
+    rw (
+      eqb-no a 0x41 hA,
+      eqb-no a 0x45 hE,
+      eqb-no a 0x46 hF,
+      eqb-no a 0x47 hG,
+      eqb-no a 0x49 hI,
+      eqb-no a 0x4c hL,
+      eqb-no a 0x4e hN,
+      eqb-no a 0x4f hO,
+      eqb-no a 0x50 hP,
+      eqb-no a 0x53 hS,
+      eqb-no a 0x54 hT,
+      eqb-no a 0x55 hU,
+      eqb-no a 0x5a hZ,
+    )
