@@ -1,7 +1,7 @@
 // Record descriptions as printed: a text is read into item rows and the places of their names.
 
 pub mod reading; // the entries of a text
-pub mod store; // entries in a lent buffer
+mod store; // entries in a lent buffer
 
 // The entries of a text: how many are complete; whether the text is a description; if not, its first
 // faulty byte.

@@ -1,6 +1,6 @@
 // Item rows of entries, and the limits that rows have.
 
-pub mod limits; // whether a row passes a limit
+mod limits; // whether a row passes a limit
 pub mod rows; // the rows of the entries that were read
 
 // A row of the item table, before it is known to keep the limits.

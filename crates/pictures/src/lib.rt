@@ -1,6 +1,6 @@
 // Pictures, byte by byte. Counts stop at 65,536, above every limit.
 
-pub mod drawings; // one byte of a picture, and what a picture is where it ends
+mod drawings; // one byte of a picture, and what a picture is where it ends
 pub mod scan; // a picture in a text
 pub mod tallies; // one byte of a repeated character and its counts
 
