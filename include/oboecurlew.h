@@ -1,4 +1,4 @@
-/* Oboecurlew: COBOL conditions, expanded, planned, judged and run.
+/* Oboecurlew: COBOL conditions, expanded, planned, judged and run; record descriptions, read.
  *
  * Build the archive with `rt staticlib conditions_c` (target/staticlib/libconditions_c.a) and link it.
  *
@@ -49,6 +49,7 @@ enum oboecurlew_refusal {
     OBOECURLEW_PLAN = 11,         /* no sound plan: 0, or the first unsound row */
     OBOECURLEW_RECORD = 12,       /* the record ends before an item does: the first such item row */
     OBOECURLEW_DATA = 13,         /* invalid numeric data reached: its simple condition; for run, its row; with the byte */
+    OBOECURLEW_TEXT = 14,         /* no valid description: the first faulty byte, or the entry that passes a limit */
     OBOECURLEW_LETTERS = 17       /* invalid alphabetic data reached: as 13 */
 };
 
@@ -115,6 +116,11 @@ uint32_t oboecurlew_judge(const uint32_t *items, size_t item_numbers, const uint
 uint32_t oboecurlew_run(const uint32_t *items, size_t item_numbers, const uint32_t *literals, size_t literal_numbers,
                         const uint8_t *bytes, size_t byte_count, const uint32_t *plan, size_t plan_numbers,
                         const uint8_t *record, size_t record_size, uint8_t switches, oboecurlew_answer *answer);
+
+/* Reads a record description, upper-case COBOL entries of at most 4,096 bytes, into item rows of four numbers and, for each row, the
+ * place of its name or FILLER in the text. 256 numbers and 64 places hold every description. Refusals 14, 10. */
+uint32_t oboecurlew_describe(const uint8_t *text, size_t text_size, uint32_t *rows, size_t row_numbers, uint32_t *places,
+                             size_t place_count, oboecurlew_answer *answer);
 
 #ifdef __cplusplus
 }

@@ -14,7 +14,8 @@
       *> oboecurlew_expand takes the same. oboecurlew_judge takes the
       *> record's bytes in the output's place and then, BY VALUE, the
       *> switch byte; oboecurlew_run the same with a plan in the
-      *> tokens' place. Numbers are BINARY-LONG UNSIGNED, lengths
+      *> tokens' place. oboecurlew_describe takes a text, item rows and
+      *> places, each with its length, and the answer. Numbers are BINARY-LONG UNSIGNED, lengths
       *> BINARY-DOUBLE UNSIGNED, the switch byte BINARY-CHAR UNSIGNED.
        01  OBOECURLEW-REFUSAL       BINARY-LONG UNSIGNED.
            88  REFUSED              VALUE 1 THRU 4294967295.
@@ -31,6 +32,7 @@
            88  PLAN-UNSOUND         VALUE 11.
            88  RECORD-TOO-SHORT     VALUE 12.
            88  NUMERIC-DATA-INVALID VALUE 13.
+           88  TEXT-FAULTY          VALUE 14.
            88  LETTERS-INVALID      VALUE 17.
       *> The refusal's place, or 1 for true and 0 for false (judge,
       *> run); for refusals 13 and 17 the item's first wrong byte,

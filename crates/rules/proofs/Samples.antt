@@ -48,7 +48,7 @@ counts : (judgeGives digits one-of-two c-blank 0 ≡ record { verdict = True; co
     × (judgeGives digits (0 ∷ 262151 ∷ 3 ∷ 262147 ∷ 1 ∷ 262148 ∷ 3 ∷ []) c-blank 0 ≡ record { verdict = True; count = 2 })
     × (judgeGives digits one-of-two (0x31 ∷ []) 0 ≡ record { verdict = Refused (Record 1); count = 0 })
     × (judgeGives digits (4 ∷ []) c-blank 0 ≡ record { verdict = Refused (Token 0); count = 0 })
-unfolding all numberFrom firstFrom validContent firstFailing firstOf typed byteOrder comparison classHolds switchHolds outcome class on parse-condition read depthFrom typingFrom leaves when at judged visited judgeWalk
+unfolding all numberFrom firstFrom validContent firstFailing firstOf typed byteOrder comparison classHolds outcome class on parse-condition read depthFrom typingFrom leaves when at judged visited judgeWalk
 counts = (refl, refl, refl, refl, refl, refl)
 
 -- n): what those look at: items 0 and 1; items 2 and 3; item 2, and not item 0, although the row has 0 for its object
@@ -105,7 +105,7 @@ which-byte : (judgeGives counters (0 ∷ 262158 ∷ []) spoiled 0 ≡ record { v
     × (judgeGives counters (4 ∷ 262151 ∷ 3 ∷ []) spoiled 0 ≡ record { verdict = Refused (Data 0 13); count = 1 })
     × (judgeGives counters (3 ∷ 262151 ∷ 5 ∷ []) spoiled 0 ≡ record { verdict = False; count = 1 })
     × (judgeGives counters (4 ∷ 262154 ∷ 262148 ∷ 4 ∷ 262150 ∷ 0 ∷ []) spoiled 0 ≡ record { verdict = Refused (Data 1 2); count = 2 })
-unfolding all numberFrom firstFrom validContent firstFailing firstOf typed byteOrder comparison classHolds switchHolds outcome class on parse-condition read depthFrom typingFrom leaves when at judged visited judgeWalk
+unfolding all firstFrom validContent firstFailing firstOf typed byteOrder comparison classHolds outcome class on parse-condition read depthFrom typingFrom leaves when at judged visited judgeWalk
 which-byte = (refl, refl, refl, refl, refl, refl, refl, refl, refl)
 
 -- g): an owner of kind 1 in bytes 0 to 2, a text of kind 2 in 3 to 5, a group over both, a counter of kind 4 in 6 to 8, a second owner in 9
@@ -132,5 +132,5 @@ letters-and-digits : (judgeGives fields (0 ∷ 262151 ∷ 1 ∷ []) typed-in 0 �
     × (judgeGives fields (0 ∷ 262151 ∷ 3 ∷ []) typed-in 0 ≡ record { verdict = Refused (Letters 0 1); count = 1 })
     × (judgeGives fields (0 ∷ 262155 ∷ 262148 ∷ 3 ∷ 262158 ∷ []) typed-in 0 ≡ record { verdict = Refused (Data 1 7); count = 2 })
     × (judgeGives fields (4 ∷ 262149 ∷ 1 ∷ []) typed-in 0 ≡ record { verdict = True; count = 1 })
-unfolding all numberFrom firstFrom validContent firstFailing firstOf typed byteOrder comparison classHolds switchHolds outcome class on parse-condition read depthFrom typingFrom leaves when at judged visited judgeWalk
+unfolding all firstFrom validContent firstFailing firstOf typed byteOrder comparison classHolds outcome class on parse-condition read depthFrom typingFrom leaves when at judged visited judgeWalk
 letters-and-digits = (refl, refl, refl, refl, refl, refl, refl)

@@ -84,7 +84,8 @@ abbrev pub SevenAndEightGiven : Type 0
 SevenAndEightGiven = (lent : Lent) (tokens : List ℕ) → SevenAndEight lent tokens
 
 -- Demand 2. For tables and tokens that refusals 1 to 6 and 8 do not refuse: a condition is accepted exactly when the rules derive
--- a tree whose parts are well typed; and its expanded form, its plan, its truth and its stop are those of that tree.
+-- a tree whose parts are well typed; and its expanded form, its plan, its truth and its stop on invalid numeric or alphabetic data
+-- (02, g), with its byte (02, c), are those of that tree.
 pub record Demand2 (lent : Lent) (tokens : List ℕ) : Type 0 where
   pub expands : (t : Tree) → Accepted lent tokens t → (output : List ℕ) → length (expanded t) ≤ length output →
       expandGives lent tokens output ≡ writtenOver (expanded t) output
@@ -110,8 +111,8 @@ pub record Demand3 (lent : Lent) (tokens plan : List ℕ) (n : ℕ) : Type 0 whe
   -- "row for row as "The plan" says"
   pub rows : plan ≡ planned tree
   pub counts : n ≡ length plan
-  -- "For every record and switch byte, what run gives equals the rules' answer for the condition": the verdict, and (02, i) how many
-  -- simple conditions were judged
+  -- "For every record and switch byte, what run gives equals the rules' answer for the condition": the truth value, or the refusal's
+  -- number, place and (02, c) byte, also on invalid alphabetic data (02, g); and (02, i) how many simple conditions were judged
   pub runs : (content : List ℕ) (switches : ℕ) → runGives lent plan content switches ≡ rulesAnswer lent content switches tree
   -- the rows that run reaches are the simple conditions that the rules' judging comes to, number for number, and no more than the
   -- plan's rows

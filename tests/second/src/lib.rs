@@ -2,9 +2,11 @@
 //! of random cases, answers to them, and a comparison with the library.
 
 pub mod answers;
+pub mod big;
 pub mod case;
 #[cfg(feature = "library")]
 pub mod compare;
+pub mod descriptions;
 pub mod generate;
 pub mod outside;
 pub mod random;

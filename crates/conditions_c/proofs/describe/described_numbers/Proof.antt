@@ -1,0 +1,49 @@
+-- The variant picks the case.
+use borrow.Author.Needs.{needs}
+use Rattle.conditions_c.proofs.describe.described_numbers.Statement.{statement}
+use Rattle.conditions_c.proofs.describe.described_numbers.Tie as tie
+
+enum-known-described : tie.Need-enum-known-described
+enum-known-described c = search needs
+
+narrow-requires : tie.Need-narrow-requires
+narrow-requires c κs = search needs
+
+narrow-requires-2 : tie.Need-narrow-requires-2
+narrow-requires-2 c κs = search needs
+
+enum-known-described-2 : tie.Need-enum-known-described-2
+enum-known-described-2 c = search needs
+
+narrow-requires-3 : tie.Need-narrow-requires-3
+narrow-requires-3 c κs = search needs
+
+enum-known-described-3 : tie.Need-enum-known-described-3
+enum-known-described-3 c = search needs
+
+narrow-requires-4 : tie.Need-narrow-requires-4
+narrow-requires-4 c κs = search needs
+
+returns : tie.Need-returns
+returns c = rw (c .before .before .before .described .given .1, c .before .narrow .ensures, c .narrow2 .ensures)
+
+returns-2 : tie.Need-returns-2
+returns-2 c = rw (c .before .before .described2 .given .1, c .narrow3 .ensures)
+
+returns-3 : tie.Need-returns-3
+returns-3 c = rw (c .before .before .described3 .given .1, c .narrow4 .ensures)
+
+pub described-numbers-spec : {M : Type 1} → statement M
+described-numbers-spec =
+    tie.close
+    (tie.spec
+    enum-known-described
+    narrow-requires
+    narrow-requires-2
+    enum-known-described-2
+    narrow-requires-3
+    enum-known-described-3
+    narrow-requires-4
+    returns
+    returns-2
+    returns-3)

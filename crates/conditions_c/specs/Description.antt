@@ -1,0 +1,26 @@
+-- How the answer of `describe` is told to C and COBOL.
+use mathlib.Core.Path.{_≡_}
+use mathlib.Core.Bool.{cond}
+use mathlib.Core.List.{List, [], _∷_}
+use Prim.Native.Nat.{ℕ}
+use lib.Dec.{leb}
+use Rattle.descriptions.specs.declared.Described.{Described}
+use Rattle.descriptions.specs.declared.Described.the-variants.{Counts, Faulty, Room}
+use Rattle.descriptions.specs.Calls.{number, DescribedBy}
+use Rattle.conditions_c.specs.Answer.{Told}
+
+-- a number of 32 bits: one that is greater stands as the greatest
+abbrev pub narrowed : ℕ → ℕ
+narrowed n = cond (leb n 4294967295) n 4294967295
+
+-- two counts written, or the place: of 14 the faulty byte or the entry, of 10 the numbers needed
+abbrev pub describedNumbers : Described → List ℕ
+describedNumbers (Counts rows places) = 0 ∷ 0 ∷ 0 ∷ narrowed rows ∷ narrowed places ∷ 0 ∷ 0 ∷ 0 ∷ 0 ∷ []
+describedNumbers (Faulty place) = narrowed place ∷ 0 ∷ 0 ∷ 0 ∷ 0 ∷ 0 ∷ 0 ∷ 0 ∷ 0 ∷ []
+describedNumbers (Room needed) = narrowed needed ∷ 0 ∷ 0 ∷ 0 ∷ 0 ∷ 0 ∷ 0 ∷ 0 ∷ 0 ∷ []
+
+-- what the library's call gives, told
+pub record Describes (text rows places : List ℕ) (returned : ℕ) (answer rows-after places-after : List ℕ) : Type 0 where
+  pub given : Described
+  pub described : DescribedBy text rows places given rows-after places-after
+  pub told : Told (number given) (describedNumbers given) returned answer

@@ -1,0 +1,48 @@
+// Record descriptions for C and COBOL.
+ghost use mathlib.Core.Path.{_≡_};
+ghost use Rattle.descriptions.specs.Calls.{number};
+ghost use Rattle.conditions_c.specs.Description.{narrowed, describedNumbers, Describes};
+use descriptions::Described;
+
+fn narrow(x: usize) -> u32
+    ensures { λ r. ⌜ r ≡ narrowed x ⌝ }
+{
+    if x <= 4294967295 {
+        return x as u32;
+    }
+    4294967295
+}
+
+fn described_number(described: Described) -> u32
+    ensures { λ r. ⌜ r ≡ number described ⌝ }
+{
+    match described {
+        Described::Counts(_, _) => 0,
+        Described::Faulty(_) => 14,
+        Described::Room(_) => 10,
+    }
+}
+
+fn described_numbers(described: Described) -> [u32; 9]
+    ensures { λ r. ⌜ r ≡ describedNumbers described ⌝ }
+{
+    match described {
+        Described::Counts(rows, places) => [0, 0, 0, narrow(rows), narrow(places), 0, 0, 0, 0],
+        Described::Faulty(place) => [narrow(place), 0, 0, 0, 0, 0, 0, 0, 0],
+        Described::Room(needed) => [narrow(needed), 0, 0, 0, 0, 0, 0, 0, 0],
+    }
+}
+
+#[no_mangle]
+pub extern "C" fn oboecurlew_describe(
+    text: &[u8],
+    rows: &mut [u32],
+    places: &mut [u32],
+    answer: &mut [u32; 9],
+) -> u32
+    ensures { λ r. ⌜ Describes (now (text .entry)) (now (rows .entry)) (now (places .entry)) r (now (answer .exit)) (now (rows .exit)) (now (places .exit)) ⌝ }
+{
+    let described = descriptions::calls::describe(text, rows, places);
+    *answer = described_numbers(described);
+    described_number(described)
+}

@@ -1,0 +1,49 @@
+-- Entries in a buffer, six numbers each, and what reading a text leaves there.
+use mathlib.Core.Path.{_≡_}
+use mathlib.Core.Bool.{Bool, true, false, cond}
+use mathlib.Core.List.{List, [], _∷_, map}
+use Prim.Native.Nat.{ℕ, zero, suc, _+_, _*_, _≤_}
+use lib.Dec.{eqb}
+use lib.ListN.{getD, set}
+use Rattle.description.specs.Grammar.{Entry}
+use Rattle.description.specs.Reader.{layout, Reading, read, faulty, readText}
+use Rattle.entries.specs.declared.Noted.{Noted}
+use Rattle.entries.specs.Entries.{noted, capNoted, entryOf}
+use Rattle.describer.specs.declared.Found.{Found}
+
+abbrev pub numbersOf : Noted → List ℕ
+numbersOf x = x .level ∷ x .place ∷ x .named ∷ x .kind ∷ x .size ∷ x .scale ∷ []
+
+-- the entry at index i
+abbrev pub notedAt : List ℕ → ℕ → Noted
+notedAt flat i = noted (getD flat (i * 6) 0) (getD flat (i * 6 + 1) 0) (getD flat (i * 6 + 2) 0) (getD flat (i * 6 + 3) 0) (getD flat (i * 6 + 4) 0) (getD flat (i * 6 + 5) 0)
+
+-- n entries from index i on
+unfoldable pub notedFrom : List ℕ → ℕ → ℕ → List Noted
+notedFrom flat i zero = []
+notedFrom flat i (suc n) = notedAt flat i ∷ notedFrom flat (suc i) n
+
+abbrev pub pushed : List ℕ → ℕ → ℕ → List ℕ
+pushed stack zero l = stack
+pushed stack (suc d) l = set stack d l
+
+-- one more than the level of a group, which waits for its first member
+abbrev pub waitingAfter : Noted → ℕ
+waitingAfter x = cond (eqb (x .kind) 0) (x .level + 1) 0
+
+-- No scale is above its size.
+abbrev pub Scaled : List Noted → Type 0
+Scaled [] = Unit {0}
+Scaled (y ∷ ys) = (y .scale ≤ y .size) × Scaled ys
+
+abbrev pub readingOf : Bool → List Entry → ℕ → Reading
+readingOf true es place = read (record { rows = layout 0 es; entries = es })
+readingOf false es place = faulty es place
+
+-- The buffer holds the complete entries of the text, with counts that stop at 65,536, and the answer says what the reading is.
+pub record Reads (text flat : List ℕ) (r : Found) : Type 0 where
+  pub exact : List Noted
+  pub held : notedFrom flat 0 (r .count) ≡ map capNoted exact
+  pub scaled : Scaled exact
+  pub reading : readText text ≡ readingOf (r .whole) (map entryOf exact) (r .place)
+  pub few : 5 * r .count ≤ 4096

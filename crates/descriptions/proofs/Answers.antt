@@ -1,0 +1,176 @@
+-- The call's answer, from what its parts promise.
+use mathlib.Core.Path.{_≡_, refl, sym, ap, _∙_}
+use mathlib.Core.Bool.{Bool, true, false, cond}
+use mathlib.Core.Option.{Option, none, some}
+use mathlib.Core.List.{List, [], _∷_, _++_, map}
+use Prim.Native.Nat.{ℕ, zero, suc, _+_, _*_, _-_, _≤_, _<_}
+use native.Mathlib.Omega.{arith}
+use native.Mathlib.Numerals.{add-one}
+use lib.Dec.{leb}
+use lib.ListN.{length, getD, take, drop, set, length-take, length-append}
+use lib.Seq.{drop-cons, set-at, take-suc, append-snoc, length-take-le}
+use Rattle.description.specs.Grammar.{Entry, Table}
+use Rattle.description.specs.Reader.{layout, Reading, read, faulty, readText}
+use Rattle.description.specs.Limits.{firstOver, cut, readWithin, Outcome, table, refusal, unless, judged}
+use Rattle.description.specs.Limits as Limits
+use Rattle.description.proofs.Bytes.{leb-so, leb-no}
+use Rattle.entries.specs.declared.Noted.{Noted}
+use Rattle.entries.specs.Entries.{capNoted, entryOf}
+use Rattle.describer.specs.declared.Found.{Found}
+use Rattle.describer.specs.Stored.{notedAt, notedFrom, readingOf, Reads}
+use Rattle.describer.proofs.Flat.{noted-snoc}
+use Rattle.layouts.specs.declared.Laid.{Laid}
+use Rattle.layouts.specs.declared.Laid.the-variants.{Over, Fine}
+use Rattle.layouts.specs.Layouts.{entriesIn, rowNumbers, overPlace, LaidOut}
+use Rattle.layouts.proofs.Capping.{first-caps, rows-same}
+use Rattle.descriptions.specs.Calls.{rowsOf, placeOfName, placesOf, room, answer, rowsIn, placesIn, written, DescribedBy, ReadsWithin, namedOf, Given}
+use Rattle.descriptions.specs.declared.Described.{Described}
+use Rattle.descriptions.specs.declared.Described.the-variants.{Counts, Faulty, Room}
+
+-- One number more.
+put : (done before : List ℕ) (i v : ℕ) → length done ≡ i → i < length before → set (done ++ drop i before) i v ≡ (done ++ v ∷ []) ++ drop (i + 1) before
+put done before i v e l = rw (drop-cons before i 0 l, add-one i, append-snoc done v (drop (suc i) before)) (set-at done (getD before i 0) (drop (suc i) before) v i e)
+
+pub copy-more : (from before : List ℕ) (i : ℕ) {to : List ℕ} → i < length from → i < length before → to ≡ take i from ++ drop i before →
+    set to i (getD from i 0) ≡ take (i + 1) from ++ drop (i + 1) before
+copy-more from before i l m e =
+    let k : take (i + 1) from ≡ take i from ++ getD from i 0 ∷ [] = rw (add-one i) (take-suc from i 0 l) in
+    rw (e, k) (put (take i from) before i (getD from i 0) (length-take-le i from (omega arith)) m)
+
+noted-length : (flat : List ℕ) (i n : ℕ) → length (notedFrom flat i n) ≡ n
+unfolding notedFrom
+noted-length flat i zero = refl
+noted-length flat i (suc n) = ap suc (noted-length flat (suc i) n)
+
+map-length : {A B : Type 0} (f : A → B) (xs : List A) → length (map f xs) ≡ length xs
+map-length f [] = refl
+map-length f (x ∷ xs) = ap suc (map-length f xs)
+
+named-length : (flat : List ℕ) (n : ℕ) → length (map namedOf (notedFrom flat 0 n)) ≡ n
+named-length flat n = map-length namedOf (notedFrom flat 0 n) ∙ noted-length flat 0 n
+
+map-snoc : (xs : List Noted) (x : Noted) → map namedOf (xs ++ x ∷ []) ≡ map namedOf xs ++ namedOf x ∷ []
+map-snoc [] x = refl
+map-snoc (y ∷ xs) x = ap (λ (l : List ℕ). namedOf y ∷ l) (map-snoc xs x)
+
+pub named-none : (flat before : List ℕ) → before ≡ map namedOf (notedFrom flat 0 0) ++ drop 0 before
+unfolding notedFrom
+named-none flat before = refl
+
+pub named-more : (flat before : List ℕ) (i : ℕ) {to : List ℕ} → i < length before → to ≡ map namedOf (notedFrom flat 0 i) ++ drop i before →
+    set to i (getD flat (i * 6 + 2) 0) ≡ map namedOf (notedFrom flat 0 (i + 1)) ++ drop (i + 1) before
+named-more flat before i l e =
+    let z : 0 + i ≡ i = omega arith in
+    let m : notedFrom flat 0 (i + 1) ≡ notedFrom flat 0 i ++ notedAt flat i ∷ [] = rw (add-one i, noted-snoc flat 0 i, z) in
+    let k : map namedOf (notedFrom flat 0 (i + 1)) ≡ map namedOf (notedFrom flat 0 i) ++ getD flat (i * 6 + 2) 0 ∷ [] =
+    ap (map namedOf) m ∙ map-snoc (notedFrom flat 0 i) (notedAt flat i) in
+    rw (e, k) (put (map namedOf (notedFrom flat 0 i)) before i (getD flat (i * 6 + 2) 0) (named-length flat i) l)
+
+-- Byte 4,096.
+pub within-short : (text flat : List ℕ) (r : Found) → length text ≤ 4096 → Reads text flat r → ReadsWithin text flat r
+within-short text flat r l R =
+    record { exact = R .exact; held = R .held; scaled = R .scaled; reading = rw (leb-so l) (R .reading); few = R .few }
+
+pub within-long : (text flat : List ℕ) (r : Found) → 4096 < length text → Reads (take 4096 text) flat r → r .whole ≡ false → ReadsWithin text flat r
+within-long text flat r l R w =
+    record {
+      exact = R .exact;
+      held = R .held;
+      scaled = R .scaled;
+      reading = rw (leb-no (length text) 4096 l, R .reading, w);
+      few = R .few;
+    }
+
+pub within-cut : (text flat : List ℕ) (r : Found) → 4096 < length text → Reads (take 4096 text) flat r → r .whole ≡ true →
+    ReadsWithin text flat (record { count = r .count; whole = false; place = 4096 })
+within-cut text flat r l R w =
+    record {
+      exact = R .exact;
+      held = R .held;
+      scaled = R .scaled;
+      reading = rw (leb-no (length text) 4096 l, R .reading, w);
+      few = R .few;
+    }
+
+-- Room.
+module _ (laid flat : List ℕ) (n : ℕ) (rows places : List ℕ) where
+  pub no-rows : length rows < n * 4 → Given laid flat n rows places (Room (n * 4)) rows places
+  no-rows h = record { answered = rw (leb-no (n * 4) (length rows) h); rows-written = refl; places-written = refl }
+
+  pub no-places : n * 4 ≤ length rows → length places < n → Given laid flat n rows places (Room n) rows places
+  no-places h k = record { answered = rw (leb-so h, leb-no n (length places) k); rows-written = refl; places-written = refl }
+
+  pub gives : {a b : List ℕ} → n * 4 ≤ length rows → n ≤ length places → n * 4 ≤ length laid → a ≡ take (n * 4) laid ++ drop (n * 4) rows →
+      b ≡ map namedOf (notedFrom flat 0 n) ++ drop n places → Given laid flat n rows places (Counts (n * 4) n) a b
+  gives h k l e f =
+      record {
+        answered = rw (leb-so h, leb-so k);
+        rows-written = rw (length-take-le (n * 4) laid l) e;
+        places-written = rw (named-length flat n) f;
+      }
+
+-- A text that is whole and passes no limit.
+judged-whole : (w : Bool) (es : List Entry) (p : ℕ) → w ≡ true → firstOver 0 es (layout 0 es) ≡ none → judged (readingOf w es p) ≡ table (record { rows = layout 0 es; entries = es })
+judged-whole w es p h k = rw (h, k)
+
+judged-faulty : (w : Bool) (es : List Entry) (p : ℕ) → w ≡ false → firstOver 0 es (layout 0 es) ≡ none → judged (readingOf w es p) ≡ refusal p
+judged-faulty w es p h k = rw (h, k)
+
+-- The answer.
+module _ (text flat laid rows places : List ℕ) (r : Found) (R : ReadsWithin text flat r) {x : Laid} (L : LaidOut flat (r .count) x laid) where
+  abbrev ys : List Noted
+  ys = R .exact
+
+  entries-are : entriesIn flat 0 (r .count) ≡ map entryOf (map capNoted ys)
+  entries-are = let z : r .count - 0 ≡ r .count = omega arith in rw (z, R .held)
+
+  limit-is : firstOver 0 (map entryOf ys) (layout 0 (map entryOf ys)) ≡ overPlace x
+  limit-is = first-caps 0 0 0 ys refl ∙ rw entries-are at (L .limit)
+
+  faulty-answer : {p : ℕ} → Limits.describe text ≡ refusal p → DescribedBy text rows places (Faulty p) rows places
+  faulty-answer e = record { answered = rw e; rows-written = refl; places-written = refl }
+
+  pub answers-over : {p : ℕ} → x ≡ Over p → DescribedBy text rows places (Faulty p) rows places
+  answers-over {p} e = faulty-answer (ap judged (R .reading) ∙ by (r .whole))
+    where
+      i : firstOver 0 (map entryOf ys) (layout 0 (map entryOf ys)) ≡ some p
+      i = limit-is ∙ ap overPlace e
+
+      by : (w : Bool) → judged (readingOf w (map entryOf ys) (r .place)) ≡ refusal p
+      by true = rw i
+      by false = rw i
+
+  pub answers-faulty : x ≡ Fine → r .whole ≡ false → DescribedBy text rows places (Faulty (r .place)) rows places
+  answers-faulty e w =
+      let i : firstOver 0 (map entryOf ys) (layout 0 (map entryOf ys)) ≡ none = limit-is ∙ ap overPlace e in
+      faulty-answer (ap judged (R .reading) ∙ judged-faulty (r .whole) (map entryOf ys) (r .place) w i)
+
+  module _ (e : x ≡ Fine) (w : r .whole ≡ true) {d : Described} {a b : List ℕ} (g : Given laid flat (r .count) rows places d a b) (room-laid : r .count * 4 ≤ length laid) where
+    none-over : firstOver 0 (map entryOf ys) (layout 0 (map entryOf ys)) ≡ none
+    none-over = limit-is ∙ ap overPlace e
+
+    abbrev t : Table
+    t = record { rows = layout 0 (map entryOf ys); entries = map entryOf ys }
+
+    described : Limits.describe text ≡ table t
+    described = ap judged (R .reading) ∙ judged-whole (r .whole) (map entryOf ys) (r .place) w none-over
+
+    rows-are : rowsOf t ≡ take (r .count * 4) laid
+    rows-are =
+        let f : layout 0 (map entryOf ys) ≡ layout 0 (entriesIn flat 0 (r .count)) = rows-same 0 0 ys (R .scaled) none-over ∙ ap (layout 0) (sym entries-are) in
+        ap rowNumbers f ∙ sym (L .laid e)
+
+    places-are : placesOf t ≡ map namedOf (notedFrom flat 0 (r .count))
+    places-are = by ys ∙ ap (map namedOf) (sym (R .held))
+      where
+        by : (ys : List Noted) → map placeOfName (map entryOf ys) ≡ map namedOf (map capNoted ys)
+        by [] = refl
+        by (y ∷ ys) = ap (λ (l : List ℕ). y .named ∷ l) (by ys)
+
+    pub answers-given : DescribedBy text rows places d a b
+    answers-given =
+        record {
+          answered = rw (described, rows-are, places-are, length-take-le (r .count * 4) laid room-laid, named-length flat (r .count)) (g .answered);
+          rows-written = rw (described, rows-are) (g .rows-written);
+          places-written = rw (described, places-are) (g .places-written);
+        }

@@ -1,0 +1,86 @@
+// The call that users make.
+ghost use mathlib.Core.Path.{_≡_};
+ghost use Prim.Native.Nat.{_*_, _≤_};
+ghost use lib.ListN.{length};
+ghost use Rattle.descriptions.specs.Calls.{ReadsWithin, Given, DescribedBy};
+use crate::Described;
+use crate::copies::copy_named;
+use crate::copies::copy_numbers;
+use describer::Found;
+use describer::reading::read_entries;
+use layouts::Laid;
+use layouts::rows::lay_rows;
+
+// The numbers of a row.
+const WIDTH: usize = 4;
+
+// The entries of a text: byte 4,096 is faulty.
+fn read_within(text: &[u8], entries: &mut [u32], stack: &mut [u32]) -> Found
+    requires { ⌜ (4926 ≤ length (now entries)) × (821 ≤ length (now stack)) ⌝ }
+    ensures { λ r. ⌜ ReadsWithin (now (text .entry)) (now (entries .exit)) r ⌝ }
+{
+    if text.len() <= 4096 {
+        return read_entries(text, entries, stack);
+    }
+    let found = read_entries(&text[..4096], entries, stack);
+    if found.whole {
+        return Found {
+            count: found.count,
+            whole: false,
+            place: 4096,
+        };
+    }
+    found
+}
+
+// Rows and places, where both outputs have room.
+fn give(laid: &[u32], entries: &[u32], n: usize, rows: &mut [u32], places: &mut [u32]) -> Described
+    requires { ⌜ (n * 4 ≤ length (now laid)) × ((n * 6 ≤ length (now entries)) × (n ≤ 64)) ⌝ }
+    ensures { λ r. ⌜ Given (now (laid .entry)) (now (entries .entry)) n (now (rows .entry)) (now (places .entry)) r (now (rows .exit)) (now (places .exit)) ⌝ }
+{
+    if rows.len() < n * WIDTH {
+        return Described::Room(n * WIDTH);
+    }
+    if places.len() < n {
+        return Described::Room(n);
+    }
+    copy_numbers(laid, n * WIDTH, rows);
+    copy_named(entries, n, places);
+    Described::Counts(n * WIDTH, n)
+}
+
+// The same as `describe`, with room for the entries, the open groups and the rows.
+fn describe_with(
+    text: &[u8],
+    entries: &mut [u32],
+    stack: &mut [u32],
+    laid: &mut [u32],
+    rows: &mut [u32],
+    places: &mut [u32],
+) -> Described
+    requires { ⌜ (4926 ≤ length (now entries)) × ((821 ≤ length (now stack)) × (256 ≤ length (now laid))) ⌝ }
+    ensures { λ r. ⌜ DescribedBy (now (text .entry)) (now (rows .entry)) (now (places .entry)) r (now (rows .exit)) (now (places .exit)) ⌝ }
+{
+    let found = read_within(text, entries, stack);
+    let n = found.count;
+    match lay_rows(entries, n, laid) {
+        Laid::Over(p) => Described::Faulty(p),
+        Laid::Fine => {
+            if !found.whole {
+                return Described::Faulty(found.place);
+            }
+            give(laid, entries, n, rows, places)
+        }
+    }
+}
+
+// Reads a record description into item rows, four numbers each, and the place of each row's name or
+// FILLER. A refusal changes neither output.
+pub fn describe(text: &[u8], rows: &mut [u32], places: &mut [u32]) -> Described
+    ensures { λ r. ⌜ DescribedBy (now (text .entry)) (now (rows .entry)) (now (places .entry)) r (now (rows .exit)) (now (places .exit)) ⌝ }
+{
+    let mut entries = [0u32; 4926];
+    let mut stack = [0u32; 821];
+    let mut laid = [0u32; 256];
+    describe_with(text, &mut entries, &mut stack, &mut laid, rows, places)
+}

@@ -1,0 +1,3 @@
+pub mod Branches
+pub mod Bounds
+pub mod Leads

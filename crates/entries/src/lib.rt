@@ -1,0 +1,20 @@
+// Entries of a record description.
+
+pub mod clauses; // what follows an item's name
+pub mod entry; // a whole entry
+
+// An entry as read: kind 0 is a group, and sizes and scales stop at 65,536.
+pub struct Noted {
+    pub level: u32,
+    pub place: u32,
+    pub named: u32,
+    pub kind: u32,
+    pub size: u32,
+    pub scale: u32,
+}
+
+// A whole entry, how many groups are open at it, and where its period ends; or the first faulty byte.
+pub enum EntryRead {
+    Whole(Noted, usize, usize),
+    Fault(usize),
+}

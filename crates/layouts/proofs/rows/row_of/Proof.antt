@@ -1,0 +1,82 @@
+-- `row_of` meets its contract: from the laws of proofs/ and what its callees ensure. Assumes nothing.
+use denote.Ref.{now}
+use Rattle.layouts.proofs.Laying.{row-group, row-item}
+use borrow.Author.Needs.{needs}
+use Rattle.layouts.proofs.rows.row_of.Statement.{statement}
+use Rattle.layouts.proofs.rows.row_of.Tie as tie
+
+mul-at : tie.Need-mul-at
+mul-at c = search needs
+
+add-kind : tie.Need-add-kind
+add-kind c = search needs
+
+mul-kind : tie.Need-mul-kind
+mul-kind c = search needs
+
+shared-slice-read-kind : tie.Need-shared-slice-read-kind
+shared-slice-read-kind c = search needs
+
+mul-level : tie.Need-mul-level
+mul-level c = search needs
+
+shared-slice-read-level : tie.Need-shared-slice-read-level
+shared-slice-read-level c = search needs
+
+add-size-below : tie.Need-add-size-below
+add-size-below c = search needs
+
+size-below-requires : tie.Need-size-below-requires
+size-below-requires c κs = search needs
+
+returns : tie.Need-returns
+returns c = row-group (now (c .before .before .before .before .before .args .entries)) (c .before .before .before .before .before .args .i)
+    (c .before .before .before .before .before .args .n) (c .before .before .before .before .before .args .offset) (c .before .before .if1 .taken) (c .size-below .ensures)
+
+add-wide : tie.Need-add-wide
+add-wide c = search needs
+
+mul-wide : tie.Need-mul-wide
+mul-wide c = search needs
+
+shared-slice-read-wide : tie.Need-shared-slice-read-wide
+shared-slice-read-wide c = search needs
+
+wide-requires : tie.Need-wide-requires
+wide-requires c κs = search needs
+
+add-t19 : tie.Need-add-t19
+add-t19 c = search needs
+
+mul-t20 : tie.Need-mul-t20
+mul-t20 c = search needs
+
+shared-slice-read-t22 : tie.Need-shared-slice-read-t22
+shared-slice-read-t22 c = search needs
+
+returns-2 : tie.Need-returns-2
+returns-2 c = row-item (now (c .before .before .before .before .before .before .args .entries)) (c .before .before .before .before .before .before .args .i)
+    (c .before .before .before .before .before .before .args .n) (c .before .before .before .before .before .before .args .offset) (c .before .before .before .if1 .left)
+    (c .before .wide .ensures)
+
+pub row-of-spec : {M : Type 1} → statement M
+row-of-spec =
+    tie.close
+    (tie.spec
+    mul-at
+    add-kind
+    mul-kind
+    shared-slice-read-kind
+    mul-level
+    shared-slice-read-level
+    add-size-below
+    size-below-requires
+    returns
+    add-wide
+    mul-wide
+    shared-slice-read-wide
+    wide-requires
+    add-t19
+    mul-t20
+    shared-slice-read-t22
+    returns-2)

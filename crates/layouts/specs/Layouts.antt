@@ -1,0 +1,53 @@
+-- Rows of the entries in a buffer.
+use mathlib.Core.Path.{_≡_}
+use mathlib.Core.Option.{Option, none, some}
+use mathlib.Core.List.{List, [], _∷_, _++_, map}
+use Prim.Native.Nat.{ℕ, suc, _+_, _*_, _-_, _≤_}
+use lib.ListN.{length, take}
+use Rattle.description.specs.Grammar.{Row, row, Entry}
+use Rattle.description.specs.Reader.{sizeOf, below, rowOf, layout}
+use Rattle.description.specs.Limits.{firstOver}
+use Rattle.entries.specs.Entries.{entryOf}
+use Rattle.describer.specs.Stored.{notedAt, notedFrom}
+use Rattle.layouts.specs.declared.ItemRow.{ItemRow}
+use Rattle.layouts.specs.declared.Laid.{Laid}
+use Rattle.layouts.specs.declared.Laid.the-variants.{Over, Fine}
+
+abbrev pub shownRow : ItemRow → Row
+shownRow r = row (r .kind) (r .offset) (r .size) (r .scale)
+
+-- the entries i to n
+abbrev pub entriesIn : List ℕ → ℕ → ℕ → List Entry
+entriesIn flat i n = map entryOf (notedFrom flat i (n - i))
+
+-- How many bytes entry i takes by itself.
+pub record Sized (flat : List ℕ) (i r : ℕ) : Type 0 where
+  pub is : r ≡ sizeOf (entryOf (notedAt flat i) .content)
+  pub small : r ≤ 4294967295
+
+-- The size of a group of this level by the entries i to n.
+pub record Summed (flat : List ℕ) (i n l r : ℕ) : Type 0 where
+  pub is : r ≡ below l (entriesIn flat i n)
+  pub small : r ≤ 4294967295 * n
+
+-- the row of entry i of n at an offset
+abbrev pub rowIn : List ℕ → ℕ → ℕ → ℕ → Row
+rowIn flat i n o = rowOf o (entryOf (notedAt flat i) .level) (entryOf (notedAt flat i) .content) (entriesIn flat (suc i) n)
+
+-- a row's numbers, in the order of document 01
+abbrev pub numbersOf : Row → List ℕ
+numbersOf r = r .kind ∷ r .offset ∷ r .size ∷ r .scale ∷ []
+
+unfoldable pub rowNumbers : List Row → List ℕ
+rowNumbers [] = []
+rowNumbers (r ∷ rs) = numbersOf r ++ rowNumbers rs
+
+abbrev pub overPlace : Laid → Option ℕ
+overPlace (Over p) = some p
+overPlace Fine = none
+
+-- The place of the first entry over a limit; where there is none, the rows.
+pub record LaidOut (flat : List ℕ) (n : ℕ) (r : Laid) (rows : List ℕ) : Type 0 where
+  pub limit : firstOver 0 (entriesIn flat 0 n) (layout 0 (entriesIn flat 0 n)) ≡ overPlace r
+  pub laid : r ≡ Fine → take (n * 4) rows ≡ rowNumbers (layout 0 (entriesIn flat 0 n))
+  pub few : r ≡ Fine → n ≤ 64

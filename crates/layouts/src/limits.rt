@@ -1,0 +1,28 @@
+// Whether a row passes a limit.
+ghost use mathlib.Core.Path.{_≡_};
+ghost use Rattle.description.specs.Limits.{most, over};
+ghost use Rattle.layouts.specs.Layouts.{shownRow};
+use crate::ItemRow;
+
+fn most_of(kind: u32) -> usize
+    ensures { λ r. ⌜ r ≡ most kind ⌝ }
+{
+    if kind == 0 {
+        return 65535;
+    }
+    if kind <= 2 {
+        return 256;
+    }
+    if kind <= 4 {
+        return 18;
+    }
+    19
+}
+
+// Whether the row with i rows before it passes a limit.
+pub fn is_over(i: usize, row: ItemRow) -> bool
+    ensures { λ r. ⌜ r ≡ over i (shownRow row) ⌝ }
+{
+    let most = most_of(row.kind);
+    (64 <= i) | (!(row.size <= most) | !(row.offset <= 65535))
+}

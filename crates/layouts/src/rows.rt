@@ -1,0 +1,102 @@
+// The rows of the entries that were read, six numbers each; four numbers a row.
+ghost use mathlib.Core.Path.{_≡_};
+ghost use mathlib.Core.List.{map};
+ghost use Prim.Native.Nat.{_+_, _*_, _-_, _<_, _≤_};
+ghost use lib.ListN.{length};
+ghost use lib.Seq.{sets};
+ghost use Rattle.layouts.specs.Layouts.{Sized, Summed, shownRow, entriesIn, rowIn, numbersOf, LaidOut};
+use crate::ItemRow;
+use crate::Laid;
+use crate::limits::is_over;
+
+fn wide(n: u32) -> usize
+    ensures { λ r. ⌜ r ≡ n ⌝ }
+{
+    n as usize
+}
+
+// How many bytes entry i takes by itself: a group, none.
+fn size_at(entries: &[u32], i: usize) -> usize
+    requires { ⌜ i * 6 + 5 < length (now entries) ⌝ }
+    ensures { λ r. ⌜ Sized (now (entries .entry)) i r ⌝ }
+{
+    let at = i * 6;
+    if entries[at + 3] == 0 {
+        return 0;
+    }
+    wide(entries[at + 4])
+}
+
+// The size of a group of this level by the entries from i on.
+fn size_below(entries: &[u32], i: usize, n: usize, level: u32) -> usize
+    requires { ⌜ (i ≤ n) × ((n ≤ 820) × (n * 6 ≤ length (now entries))) ⌝ }
+    ensures { λ r. ⌜ Summed (now (entries .entry)) i n level r ⌝ }
+{
+    let mut sum: usize = 0;
+    let mut k = i;
+    while k < n {
+        let l = entries[k * 6];
+        if !((level < l) & (l <= 49)) {
+            return sum;
+        }
+        sum += size_at(entries, k);
+        k += 1;
+    }
+    sum
+}
+
+// The row of entry i at an offset.
+fn row_of(entries: &[u32], i: usize, n: usize, offset: usize) -> ItemRow
+    requires { ⌜ (i < n) × ((n ≤ 820) × (n * 6 ≤ length (now entries))) ⌝ }
+    ensures { λ r. ⌜ shownRow r ≡ rowIn (now (entries .entry)) i n offset ⌝ }
+{
+    let at = i * 6;
+    let kind = entries[at + 3];
+    if kind == 0 {
+        let level = entries[at];
+        let size = size_below(entries, i + 1, n, level);
+        return ItemRow {
+            kind: 0,
+            offset,
+            size,
+            scale: 0,
+        };
+    }
+    ItemRow {
+        kind,
+        offset,
+        size: wide(entries[at + 4]),
+        scale: entries[at + 5],
+    }
+}
+
+fn store_row(rows: &mut [u32], i: usize, row: ItemRow)
+    requires { ⌜ (i * 4 + 3 < length (now rows)) × ((row .offset ≤ 65535) × (row .size ≤ 65535)) ⌝ }
+    ensures { λ _. ⌜ now (rows .exit) ≡ sets (now (rows .entry)) (i * 4) (numbersOf (shownRow row)) ⌝ }
+{
+    let at = i * 4;
+    rows[at] = row.kind;
+    rows[at + 1] = row.offset as u32;
+    rows[at + 2] = row.size as u32;
+    rows[at + 3] = row.scale;
+}
+
+// The rows of n entries, up to the first that passes a limit.
+pub fn lay_rows(entries: &[u32], n: usize, rows: &mut [u32]) -> Laid
+    requires { ⌜ (n ≤ 820) × ((n * 6 ≤ length (now entries)) × (256 ≤ length (now rows))) ⌝ }
+    ensures { λ r. ⌜ LaidOut (now (entries .entry)) n r (now (rows .exit)) ⌝ }
+{
+    let mut offset: usize = 0;
+    let mut i: usize = 0;
+    while i < n {
+        let row = row_of(entries, i, n, offset);
+        if is_over(i, row) {
+            let at = i * 6;
+            return Laid::Over(wide(entries[at + 1]));
+        }
+        store_row(rows, i, row);
+        offset += size_at(entries, i);
+        i += 1;
+    }
+    Laid::Fine
+}

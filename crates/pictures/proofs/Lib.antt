@@ -1,0 +1,4 @@
+pub mod Laws
+pub mod Saturates
+pub mod Sketches
+pub mod Caps

@@ -1,0 +1,118 @@
+-- Laws of words over plain lists.
+use mathlib.Core.Path.{_≡_, refl, sym, ap, _∙_}
+use mathlib.Core.Bool.{Bool, true, false, cond, _&&_}
+use mathlib.Core.List.{List, [], _∷_, _++_}
+use Prim.Native.Nat.{ℕ, zero, suc, _+_, _-_, _≤_, _<_}
+use native.Mathlib.Omega.{arith}
+use native.Mathlib.Numerals.{add-one}
+use borrow.Author.Tests.{eqb-true}
+use lib.Dec.{eqb}
+use lib.ListN.{length, getD, take, drop, length-drop, drop-of-length-le, List·getD-eq-default}
+use lib.Seq.{drop-cons, take-all}
+use Rattle.description.specs.Grammar.{isBlank, same}
+use Rattle.description.specs.Stages.{blanks, inked, common, met, literalAt}
+use Rattle.description.specs.declared.Reached.{Reached}
+use Rattle.description.specs.declared.Reached.the-variants as Reached
+use Rattle.description.proofs.Bytes.{eqb-no, eqb-same}
+
+-- Blanks.
+pub blank-more : (text : List ℕ) (n k : ℕ) → k < length text → isBlank (getD text k 0) ≡ true → inked text n ≡ inked text k → inked text n ≡ inked text (k + 1)
+unfolding blanks
+blank-more text n k l h e = e ∙ rw (drop-cons text k 0 l, h, add-one) (omega arith)
+
+pub blank-stop : (text : List ℕ) (n k : ℕ) → k < length text → isBlank (getD text k 0) ≡ false → inked text n ≡ inked text k → k ≡ inked text n
+unfolding blanks
+blank-stop text n k l h e = sym (e ∙ rw (drop-cons text k 0 l, h) (omega arith))
+
+pub blank-end : (text : List ℕ) (n k : ℕ) → length text ≤ k → inked text n ≡ inked text k → k ≡ inked text n
+unfolding blanks
+blank-end text n k l e = sym (e ∙ rw (drop-of-length-le text l) (omega arith))
+
+blanks-le : (bs : List ℕ) → blanks bs ≤ length bs
+unfolding blanks
+blanks-le [] = omega arith
+blanks-le (b ∷ bs) = by (isBlank b) (blanks-le bs)
+  where
+    by : (t : Bool) → blanks bs ≤ length bs → cond t (suc (blanks bs)) 0 ≤ suc (length bs)
+    by true h = omega arith
+    by false h = omega arith
+
+pub inked-le : (text : List ℕ) (n : ℕ) → n ≤ length text → inked text n ≤ length text
+inked-le text n h = omega (arith, blanks-le (drop n text), length-drop n text)
+
+-- A word that is asked for.
+pub common-more : (w bs : List ℕ) (k : ℕ) → k < length w → k < length bs → getD bs k 0 ≡ getD w k 0 →
+    common w bs ≡ k + common (drop k w) (drop k bs) → common w bs ≡ (k + 1) + common (drop (k + 1) w) (drop (k + 1) bs)
+unfolding common
+common-more w bs k l m h e = e ∙ rw (drop-cons w k 0 l, drop-cons bs k 0 m, h, eqb-same (getD w k 0), add-one) (omega arith)
+
+pub common-other : (w bs : List ℕ) (k : ℕ) → k < length w → k < length bs → ¬ (getD bs k 0 ≡ getD w k 0) →
+    common w bs ≡ k + common (drop k w) (drop k bs) → k ≡ common w bs
+unfolding common
+common-other w bs k l m h e = sym (e ∙ rw (drop-cons w k 0 l, drop-cons bs k 0 m, eqb-no (getD bs k 0) (getD w k 0) h) (omega arith))
+
+pub common-short : (w bs : List ℕ) (k : ℕ) → k < length w → length bs ≤ k → common w bs ≡ k + common (drop k w) (drop k bs) → k ≡ common w bs
+unfolding common
+common-short w bs k l m e = sym (e ∙ rw (drop-cons w k 0 l, drop-of-length-le bs m) (omega arith))
+
+pub common-end : (w bs : List ℕ) (k : ℕ) → length w ≤ k → common w bs ≡ k + common (drop k w) (drop k bs) → k ≡ common w bs
+unfolding common
+common-end w bs k l e = sym (e ∙ rw (drop-of-length-le w l) (omega arith))
+
+pub common-le : (w bs : List ℕ) → common w bs ≤ length bs
+unfolding common
+common-le [] bs = omega arith
+common-le (a ∷ w) [] = omega arith
+common-le (a ∷ w) (b ∷ bs) = by (eqb b a) (common-le w bs)
+  where
+    by : (t : Bool) → common w bs ≤ length bs → cond t (suc (common w bs)) 0 ≤ suc (length bs)
+    by true h = omega arith
+    by false h = omega arith
+
+-- the part from p on
+pub part-from : (text : List ℕ) (p : ℕ) → take (length text - p) (drop p text) ≡ drop p text
+part-from text p = take-all (length text - p) (drop p text) (omega (arith, length-drop p text))
+
+pub literal-none : (w text : List ℕ) (n p : ℕ) → p ≡ inked text n → p ≡ n → Reached.Fault n ≡ literalAt w text n
+literal-none w text n p e h = let i : inked text n ≡ n = sym e ∙ h in rw (i, eqb-same n)
+
+pub literal-word : (w text : List ℕ) (n p m : ℕ) → p ≡ inked text n → ¬ (p ≡ n) → m ≡ common w (take (length text - p) (drop p text)) → m ≡ length w →
+    Reached.Word (p + m) ≡ literalAt w text n
+literal-word w text n p m e h f k =
+    let z : m ≡ common w (drop p text) = f ∙ ap (common w) (part-from text p) in
+    rw (← e, eqb-no p n h, ← z, k, eqb-same (length w))
+
+pub literal-fault : (w text : List ℕ) (n p m : ℕ) → p ≡ inked text n → ¬ (p ≡ n) → m ≡ common w (take (length text - p) (drop p text)) → ¬ (m ≡ length w) →
+    Reached.Fault (p + m) ≡ literalAt w text n
+literal-fault w text n p m e h f k =
+    let z : m ≡ common w (drop p text) = f ∙ ap (common w) (part-from text p) in
+    rw (← e, eqb-no p n h, ← z, eqb-no m (length w) k)
+
+-- Words that are the same.
+pub same-lengths : (u v : List ℕ) → ¬ (length u ≡ length v) → false ≡ same u v
+unfolding same
+same-lengths [] [] h = absurd (h refl)
+same-lengths [] (b ∷ v) h = refl
+same-lengths (a ∷ u) [] h = refl
+same-lengths (a ∷ u) (b ∷ v) h = by (eqb a b) (same-lengths u v (λ e. h (ap suc e)))
+  where
+    by : (t : Bool) → false ≡ same u v → false ≡ t && same u v
+    by true e = e
+    by false e = refl
+
+pub same-more : (u v : List ℕ) (k : ℕ) → k < length u → k < length v → getD u k 0 ≡ getD v k 0 → same u v ≡ same (drop k u) (drop k v) →
+    same u v ≡ same (drop (k + 1) u) (drop (k + 1) v)
+unfolding same
+same-more u v k l m h e = e ∙ rw (drop-cons u k 0 l, drop-cons v k 0 m, h, eqb-same (getD v k 0), add-one)
+
+pub same-other : (u v : List ℕ) (k : ℕ) → k < length u → k < length v → ¬ (getD u k 0 ≡ getD v k 0) → same u v ≡ same (drop k u) (drop k v) → false ≡ same u v
+unfolding same
+same-other u v k l m h e = sym (e ∙ rw (drop-cons u k 0 l, drop-cons v k 0 m, eqb-no (getD u k 0) (getD v k 0) h))
+
+pub same-end : (u v : List ℕ) (k : ℕ) → length u ≤ k → length v ≤ k → same u v ≡ same (drop k u) (drop k v) → true ≡ same u v
+unfolding same
+same-end u v k l m e = sym (e ∙ rw (drop-of-length-le u l, drop-of-length-le v m))
+
+-- Past the end.
+pub no-byte : (text : List ℕ) (k : ℕ) → length text ≤ k → 0 ≡ getD text k 0
+no-byte text k l = sym (List·getD-eq-default text 0 l)

@@ -1,0 +1,3 @@
+pub mod Laws
+pub mod Initials
+pub mod Reaches

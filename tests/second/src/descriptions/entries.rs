@@ -1,0 +1,142 @@
+//! Entries, and what makes a text of entries valid.
+
+use super::pictures::{self, Sort};
+use super::words::{is_name, level, words, Word, Words};
+use std::ops::Range;
+
+/// An entry, its parts as ranges of the text.
+#[derive(Clone, Debug)]
+pub struct Entry {
+    pub start: usize,
+    pub level: u32,
+    pub name: Range<usize>,
+    pub form: Form,
+}
+
+#[derive(Clone, Debug)]
+pub enum Form {
+    /// "No PIC makes a group".
+    Group,
+    Elementary {
+        kind: u32,
+        picture: Range<usize>,
+    },
+}
+
+impl Entry {
+    fn is_group(&self) -> bool {
+        matches!(self.form, Form::Group)
+    }
+}
+
+/// Whether a whole text is as 02 says, its length and row limits aside: "one or
+/// more" entries, nothing behind the last period.
+pub fn is_valid(text: &[u8]) -> bool {
+    let mut words = words(text);
+    let mut entries = Vec::new();
+    while words.clone().next().is_some() {
+        match entry(&mut words) {
+            Some(entry) => entries.push(entry),
+            None => return false,
+        }
+    }
+    !entries.is_empty() && are_records(&entries)
+}
+
+/// The complete entries of a beginning that some valid text shares.
+pub fn complete(beginning: &[u8]) -> Vec<Entry> {
+    let mut words = words(beginning);
+    std::iter::from_fn(|| entry(&mut words)).collect()
+}
+
+/// One entry: level, name, PIC and picture, SIGN clause, as many as there are up
+/// to "a period, no blank before it".
+fn entry(words: &mut Words) -> Option<Entry> {
+    let level_word = words.next().filter(|word| !word.last)?;
+    let level = level(level_word.text)?;
+    let name = words.next()?;
+    if name.text != b"FILLER" && !is_name(name.text) {
+        return None;
+    }
+    let form = if name.last {
+        Form::Group
+    } else {
+        elementary(words)?
+    };
+    Some(Entry {
+        start: level_word.start,
+        level,
+        name: name.range(),
+        form,
+    })
+}
+
+fn elementary(words: &mut Words) -> Option<Form> {
+    expect(words, "PIC")?;
+    let picture = words.next()?;
+    let sort = pictures::sort(picture.text)?;
+    let kind = match sort {
+        Sort::A => 1,
+        Sort::X => 2,
+        Sort::Nines { signed: false } => 3,
+        Sort::Nines { signed: true } => 4,
+    };
+    let kind = match (picture.last, sort) {
+        (true, _) => kind,
+        (false, Sort::Nines { signed: true }) => separate_sign(words)?,
+        (false, _) => return None,
+    };
+    let picture = picture.range();
+    Some(Form::Elementary { kind, picture })
+}
+
+/// "SIGN LEADING or TRAILING SEPARATE for kinds 5, 6".
+fn separate_sign(words: &mut Words) -> Option<u32> {
+    expect(words, "SIGN")?;
+    let side = words.next().filter(|word| !word.last)?;
+    let last = words.next().filter(|word: &Word| word.last)?;
+    match (side.text, last.text) {
+        (b"LEADING", b"SEPARATE") => Some(5),
+        (b"TRAILING", b"SEPARATE") => Some(6),
+        _ => None,
+    }
+}
+
+/// A keyword that does not end its entry.
+fn expect(words: &mut Words, keyword: &str) -> Option<()> {
+    let word = words.next()?;
+    (word.text == keyword.as_bytes() && !word.last).then_some(())
+}
+
+/// "01 or 77 (which has a PIC) outside groups".
+fn are_records(mut entries: &[Entry]) -> bool {
+    while let [first, ..] = entries {
+        let stands_outside = match first.level {
+            1 => true,
+            77 => !first.is_group(),
+            _ => false,
+        };
+        match item(entries) {
+            Some(rest) if stands_outside => entries = rest,
+            _ => return false,
+        }
+    }
+    true
+}
+
+/// An elementary entry, or a group's with its members: "its one or more members
+/// share one greater level number", "02 to 49". Gives what follows.
+fn item(entries: &[Entry]) -> Option<&[Entry]> {
+    let (first, mut rest) = entries.split_first()?;
+    if !first.is_group() {
+        return Some(rest);
+    }
+    let shared = rest.first()?.level;
+    if shared <= first.level || shared > 49 {
+        return None;
+    }
+    while rest.first().is_some_and(|member| member.level == shared) {
+        rest = item(rest)?;
+    }
+    Some(rest)
+}

@@ -1,0 +1,96 @@
+//! Rows of complete entries, and document 01's upper limits on them.
+
+use super::entries::{Entry, Form};
+use super::pictures;
+use crate::big::Big;
+
+/// A row before it is known to keep the limits.
+#[derive(Clone, Debug)]
+pub struct Row {
+    kind: u32,
+    offset: Big,
+    size: Big,
+    scale: Big,
+}
+
+/// One row for each entry, in their order. "Levels 01 and 77 start at the next
+/// free offset", and so does everything inside them.
+pub fn rows(text: &[u8], entries: &[Entry]) -> Vec<Row> {
+    let mut free = Big::default();
+    let mut rows = Vec::new();
+    for entry in entries {
+        let row = match &entry.form {
+            Form::Group => Row {
+                kind: 0,
+                offset: free.clone(),
+                size: Big::default(),
+                scale: Big::default(),
+            },
+            Form::Elementary { kind, picture } => {
+                elementary(*kind, &text[picture.clone()], free.clone())
+            }
+        };
+        free = free.plus(&row.size);
+        rows.push(row);
+    }
+    for group in 0..entries.len() {
+        if matches!(entries[group].form, Form::Group) {
+            rows[group].size = size_of_members(entries, &rows, group);
+        }
+    }
+    rows
+}
+
+/// A separate sign takes a byte of its own.
+fn elementary(kind: u32, picture: &[u8], offset: Big) -> Row {
+    let (count, scale) = pictures::measures(picture);
+    let sign = Big::from(u32::from(kind >= 5));
+    let size = count.plus(&sign);
+    Row {
+        kind,
+        offset,
+        size,
+        scale,
+    }
+}
+
+/// The sum over "its complete members" at any depth: the entries behind it up to
+/// the first whose level is not greater, or is 77.
+fn size_of_members(entries: &[Entry], rows: &[Row], group: usize) -> Big {
+    let inside = |entry: &Entry| entry.level > entries[group].level && entry.level != 77;
+    let members = (group + 1..entries.len()).take_while(|&place| inside(&entries[place]));
+    let elementary = members.filter(|&place| !matches!(entries[place].form, Form::Group));
+    elementary.fold(Big::default(), |sum, place| sum.plus(&rows[place].size))
+}
+
+/// The first "whose row passes an upper limit of 01 [...], or is its table's
+/// 65th".
+pub fn first_beyond_limits(rows: &[Row]) -> Option<usize> {
+    (0..rows.len()).find(|&place| place >= 64 || rows[place].is_beyond_limits())
+}
+
+impl Row {
+    /// "Kind 0: size 1 to 65,535. Kinds 1, 2: size 1 to 256. Kinds 3, 4: size 1
+    /// to 18. Kinds 5, 6: size 2 to 19. Offset at most 65,535." (01). A scale is
+    /// never above its digits.
+    fn is_beyond_limits(&self) -> bool {
+        let largest = match self.kind {
+            0 => 65_535,
+            1 | 2 => 256,
+            3 | 4 => 18,
+            _ => 19,
+        };
+        self.size > Big::from(largest) || self.offset > Big::from(65_535)
+    }
+
+    /// Of a row within the limits.
+    pub fn numbers(&self) -> [u32; 4] {
+        let small = |number: &Big| number.small().expect("a row within the limits");
+        [
+            self.kind,
+            small(&self.offset),
+            small(&self.size),
+            small(&self.scale),
+        ]
+    }
+}
