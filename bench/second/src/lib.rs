@@ -1,5 +1,6 @@
 //! The second program's calls, with the parameters and the answers of `include/oboecurlew.h`.
 
+use second::descriptions;
 use second::outside::{of_judged, of_written, Answer, Said};
 use second::rules::{self, Tables};
 use std::slice::{from_raw_parts as lent, from_raw_parts_mut as lent_mut};
@@ -84,4 +85,24 @@ pub unsafe extern "C" fn second_run(
     };
     let judged = rules::run(&tables, lent(plan, plan_numbers), lent(record, record_size), switches);
     told(of_judged(judged), &mut *answer)
+}
+
+/// # Safety
+/// As of `second_plan`.
+#[no_mangle]
+pub unsafe extern "C" fn second_describe(
+    text: *const u8,
+    text_size: usize,
+    rows: *mut u32,
+    row_numbers: usize,
+    places: *mut u32,
+    place_count: usize,
+    answer: *mut Answer,
+) -> u32 {
+    let counts = descriptions::describe(
+        lent(text, text_size),
+        lent_mut(rows, row_numbers),
+        lent_mut(places, place_count),
+    );
+    told(of_written(counts), &mut *answer)
 }
