@@ -18,7 +18,7 @@ valid-content-requires-2 c κs = search needs
 
 returns-2 : tie.Need-returns-2
 unfolding classHolds
-returns-2 c = rw (c .before .before .if1 .taken, ne-eqb _ 2 (c .before .if2 .left)) (c .valid-content2 .ensures)
+returns-2 c = rw (c .before .before .if1 .taken, c .before .if2 .left) (c .valid-content2 .ensures)
 
 all-in-alphabet-requires : tie.Need-all-in-alphabet-requires
 all-in-alphabet-requires c κs = search needs
