@@ -62,16 +62,16 @@ module _ (flat : List ℕ) (i : ℕ) where
   pub size-item : ¬ (getD flat (i * 6 + 3) 0 ≡ 0) → {r : ℕ} → r ≡ getD flat (i * 6 + 4) 0 → getD flat (i * 6 + 4) 0 < 4294967296 → Sized flat i r
   size-item h e l = record { is = e ∙ rw (eqb-no (getD flat (i * 6 + 3) 0) 0 h); small = omega arith }
 
--- A group is kind 0 in the buffer, and no kind that is signed.
-pub signed-is : (flat : List ℕ) (i : ℕ) → let k = getD flat (i * 6 + 3) 0 in Signed flat i (eqb k 4 || eqb k 5 || eqb k 6)
-signed-is flat i = record { is = by (eqb (getD flat (i * 6 + 3) 0) 0) refl }
+-- A group is kind 0 in the buffer, and that is no signed kind.
+signed-kind : (k z s : ℕ) → eqb k 4 || eqb k 5 || eqb k 6 ≡ isSigned (contentOf k z s)
+signed-kind k z s = by (eqb k 0) refl
   where
-    abbrev k : ℕ
-    k = getD flat (i * 6 + 3) 0
-
-    by : (t : Bool) → eqb k 0 ≡ t → eqb k 4 || eqb k 5 || eqb k 6 ≡ isSigned (cond t group (item k (getD flat (i * 6 + 4) 0) (getD flat (i * 6 + 5) 0)))
+    by : (t : Bool) → eqb k 0 ≡ t → eqb k 4 || eqb k 5 || eqb k 6 ≡ isSigned (cond t group (item k z s))
     by true h = rw (eqb-true k 0 h)
     by false h = refl
+
+pub signed-is : (flat : List ℕ) (i : ℕ) → Signed flat i (eqb (getD flat (i * 6 + 3) 0) 4 || eqb (getD flat (i * 6 + 3) 0) 5 || eqb (getD flat (i * 6 + 3) 0) 6)
+signed-is flat i = record { is = signed-kind (getD flat (i * 6 + 3) 0) (getD flat (i * 6 + 4) 0) (getD flat (i * 6 + 5) 0) }
 
 -- the entries from i on: that one, and the others
 pub entries-cons : (flat : List ℕ) (i n : ℕ) → i < n → entriesIn flat i n ≡ entryOf (notedAt flat i) ∷ entriesIn flat (suc i) n
@@ -94,7 +94,7 @@ module _ (flat : List ℕ) (i n l : ℕ) where
   inGroup k = ltb l (getD flat (k * 6) 0) && leb (getD flat (k * 6) 0) 49
 
   pub sum-none : SoFar i 0 false
-  sum-none = record { from = omega arith; sums = refl; small = omega arith; signs = refl }
+  sum-none = record { from = omega arith; sums = omega arith; small = omega arith; signs = refl }
 
   pub sum-more : (k sum : ℕ) (b : Bool) {s : ℕ} {c : Bool} → k < n → SoFar k sum b → inGroup k ≡ true → Sized flat k s → Signed flat k c → SoFar (k + 1) (sum + s) (b || c)
   unfolding below signedBelow

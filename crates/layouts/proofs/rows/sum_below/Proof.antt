@@ -1,22 +1,21 @@
--- `size_below` meets its contract: from the laws of proofs/ and what its callees ensure. Assumes nothing.
+-- `sum_below` meets its contract: from the laws of proofs/ and what its callees ensure. Assumes nothing.
 use Prim.Native.Nat.{_-_, _+_, _*_, _≤_}
 use native.Mathlib.Omega.{arith}
-use mathlib.Core.Path.{_≡_, refl, sym, ap, _∙_}
 use lib.ListN.{length}
 use denote.Ref.{now}
 use borrow.Author.Tests.{not-true, not-false}
-use Rattle.layouts.proofs.Laying.{so-far, sum-more, sum-stop, sum-end}
-use Rattle.layouts.proofs.rows.size_below.Statement.{statement}
-use Rattle.layouts.proofs.rows.size_below.Tie as tie
+use Rattle.layouts.proofs.Laying.{SoFar, sum-none, sum-more, sum-stop, sum-end}
+use Rattle.layouts.proofs.rows.sum_below.Statement.{statement}
+use Rattle.layouts.proofs.rows.sum_below.Tie as tie
 
 abbrev Inv-loop : tie.InvT-loop
-Inv-loop entries i n level sum₀ k₀ sum k = (k ≤ n) × so-far entries i n level k sum
+Inv-loop entries i n level size₀ signed₀ k₀ size signed k = (k ≤ n) × SoFar entries i n level k size signed
 
 abbrev μ-loop : tie.MeasureT-loop
-μ-loop entries i n level sum₀ k₀ sum k = n - k
+μ-loop entries i n level size₀ signed₀ k₀ size signed k = n - k
 
 loop-holds : tie.Need-loop-holds Inv-loop μ-loop
-loop-holds c = (c .before .pre .0, (omega arith, (omega arith, omega arith)))
+loop-holds c = (c .before .pre .0, sum-none (now (c .before .args .entries)) (c .before .args .i) (c .before .args .n) (c .before .args .level))
 
 mul-l : tie.Need-mul-l Inv-loop μ-loop
 mul-l c = omega (arith, c .before .before .before .pre .1 .1, c .before .before .before .pre .1 .0)
@@ -30,36 +29,40 @@ shared-slice-read-l c = omega (arith, c .before .before .before .before .pre .1 
 returns : tie.Need-returns Inv-loop μ-loop
 returns c = sum-stop (now (c .before .before .before .before .before .args .entries)) (c .before .before .before .before .before .args .i)
     (c .before .before .before .before .before .args .n) (c .before .before .before .before .before .args .level) (c .before .before .before .loop .k)
-    (c .before .before .before .loop .sum) (c .before .before .loop-test .taken) (c .before .before .before .before .before .pre .1 .0)
+    (c .before .before .before .loop .size) (c .before .before .before .loop .signed) (c .before .before .loop-test .taken) (c .before .before .before .before .before .pre .1 .0)
     (c .before .before .before .loop .inv .1) (not-true _ (c .if1 .taken))
 
 size-at-requires : tie.Need-size-at-requires Inv-loop μ-loop
 size-at-requires c κs = omega (arith, c .before .before .before .before .before .pre .1 .1, c .before .before .loop-test .taken)
 
-add-sum : tie.Need-add-sum Inv-loop μ-loop
-add-sum c = omega (arith, c .before .before .before .before .before .before .pre .1 .1, c .before .before .before .before .before .before .pre .1 .0)
+add-size : tie.Need-add-size Inv-loop μ-loop
+add-size c = omega (arith, c .before .before .before .before .before .before .pre .1 .1, c .before .before .before .before .before .before .pre .1 .0, c .before .before .before .before .loop .inv .1 .small, c .size-at .ensures .small)
+
+signed-at-requires : tie.Need-signed-at-requires Inv-loop μ-loop
+signed-at-requires c κs = omega (arith, c .before .before .before .before .before .before .pre .1 .1, c .before .before .before .loop-test .taken)
 
 add-k : tie.Need-add-k Inv-loop μ-loop
-add-k c = omega (arith, c .before .before .before .before .before .before .pre .1 .1, c .before .before .before .before .before .before .pre .1 .0)
+add-k c = omega (arith, c .before .before .before .before .before .before .before .pre .1 .1, c .before .before .before .before .before .before .before .pre .1 .0)
 
 loop-less : tie.Need-loop-less Inv-loop μ-loop
-loop-less c = omega (arith, c .before .before .before .before .before .before .pre .1 .1, c .before .before .before .before .before .before .pre .1 .0)
+loop-less c = omega (arith, c .before .before .before .before .before .before .before .pre .1 .1, c .before .before .before .before .before .before .before .pre .1 .0)
 
 loop-again : tie.Need-loop-again Inv-loop μ-loop
 loop-again c = (
   omega arith,
-  sum-more (now (c .before .before .before .before .before .before .args .entries))
-      (c .before .before .before .before .before .before .args .i) (c .before .before .before .before .before .before .args .n)
-      (c .before .before .before .before .before .before .args .level) (c .before .before .before .before .loop .k) (c .before .before .before .before .loop .sum)
-      (c .before .before .before .loop-test .taken) (c .before .before .before .before .loop .inv .1) (not-false _ (c .before .if1 .left)) (c .size-at .ensures),
+  sum-more (now (c .before .before .before .before .before .before .before .args .entries)) (c .before .before .before .before .before .before .before .args .i)
+    (c .before .before .before .before .before .before .before .args .n) (c .before .before .before .before .before .before .before .args .level) (c .before .before .before .before .before .loop .k)
+      (c .before .before .before .before .before .loop .size) (c .before .before .before .before .before .loop .signed) (c .before .before .before .before .loop-test .taken)
+      (c .before .before .before .before .before .loop .inv .1) (not-false _ (c .before .before .if1 .left)) (c .before .size-at .ensures) (c .signed-at .ensures),
 )
 
 returns-2 : tie.Need-returns-2 Inv-loop μ-loop
-returns-2 c = sum-end (now (c .before .before .before .args .entries)) (c .before .before .before .args .i) (c .before .before .before .args .n)
-    (c .before .before .before .args .level) (c .before .loop .k) (c .before .loop .sum) (c .loop-test .left) (c .before .loop .inv .0) (c .before .loop .inv .1)
+returns-2 c = sum-end (now (c .before .before .before .args .entries)) (c .before .before .before .args .i)
+    (c .before .before .before .args .n) (c .before .before .before .args .level)
+    (c .before .loop .k) (c .before .loop .size) (c .before .loop .signed) (c .loop-test .left) (c .before .loop .inv .0) (c .before .loop .inv .1)
 
-pub size-below-spec : {M : Type 1} → statement M
-size-below-spec =
+pub sum-below-spec : {M : Type 1} → statement M
+sum-below-spec =
     tie.close
     (tie.spec
     Inv-loop
@@ -70,7 +73,8 @@ size-below-spec =
     shared-slice-read-l
     returns
     size-at-requires
-    add-sum
+    add-size
+    signed-at-requires
     add-k
     loop-less
     loop-again
