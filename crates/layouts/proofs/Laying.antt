@@ -125,7 +125,8 @@ module _ (flat : List ℕ) (i n l : ℕ) where
       }
 
 -- One row.
-pub row-group : (flat : List ℕ) (i n o : ℕ) {k s : ℕ} {b : Bool} → getD flat (i * 6 + 3) 0 ≡ 0 → Summed flat (i + 1) n (getD flat (i * 6) 0) s b → k ≡ groupKind b → row k o s 0 ≡ rowIn flat i n o
+pub row-group : (flat : List ℕ) (i n o : ℕ) {k s : ℕ} {b : Bool} → getD flat (i * 6 + 3) 0 ≡ 0 → Summed flat (i + 1) n (getD flat (i * 6) 0) s b → k ≡ groupKind b →
+    row k o s 0 ≡ rowIn flat i n o
 row-group flat i n o h z g =
     let k : entriesIn flat (i + 1) n ≡ entriesIn flat (suc i) n = ap (λ (m : ℕ). entriesIn flat m n) (add-one i) in
     rw (h, g, z .is, z .signs, k)

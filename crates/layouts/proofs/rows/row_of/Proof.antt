@@ -34,8 +34,8 @@ group-kind-requires c κs = search needs
 
 returns : tie.Need-returns
 returns c = row-group (now (c .before .before .before .before .before .before .args .entries)) (c .before .before .before .before .before .before .args .i)
-    (c .before .before .before .before .before .before .args .n) (c .before .before .before .before .before .before .args .offset) (c .before .before .before .if1 .taken) (c .before .sum-below .ensures)
-    (c .group-kind .ensures)
+    (c .before .before .before .before .before .before .args .n) (c .before .before .before .before .before .before .args .offset) (c .before .before .before .if1 .taken)
+    (c .before .sum-below .ensures) (c .group-kind .ensures)
 
 add-wide : tie.Need-add-wide
 add-wide c = search needs

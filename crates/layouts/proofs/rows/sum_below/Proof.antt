@@ -36,7 +36,7 @@ size-at-requires : tie.Need-size-at-requires Inv-loop μ-loop
 size-at-requires c κs = omega (arith, c .before .before .before .before .before .pre .1 .1, c .before .before .loop-test .taken)
 
 add-size : tie.Need-add-size Inv-loop μ-loop
-add-size c = omega (arith, c .before .before .before .before .before .before .pre .1 .1, c .before .before .before .before .before .before .pre .1 .0, c .before .before .before .before .loop .inv .1 .small, c .size-at .ensures .small)
+add-size c = omega (arith, c .before .before .before .before .before .before .pre .1 .0, c .before .before .before .before .loop .inv .1 .small, c .size-at .ensures .small)
 
 signed-at-requires : tie.Need-signed-at-requires Inv-loop μ-loop
 signed-at-requires c κs = omega (arith, c .before .before .before .before .before .before .pre .1 .1, c .before .before .before .loop-test .taken)
@@ -51,8 +51,9 @@ loop-again : tie.Need-loop-again Inv-loop μ-loop
 loop-again c = (
   omega arith,
   sum-more (now (c .before .before .before .before .before .before .before .args .entries)) (c .before .before .before .before .before .before .before .args .i)
-    (c .before .before .before .before .before .before .before .args .n) (c .before .before .before .before .before .before .before .args .level) (c .before .before .before .before .before .loop .k)
-      (c .before .before .before .before .before .loop .size) (c .before .before .before .before .before .loop .signed) (c .before .before .before .before .loop-test .taken)
+      (c .before .before .before .before .before .before .before .args .n) (c .before .before .before .before .before .before .before .args .level)
+      (c .before .before .before .before .before .loop .k) (c .before .before .before .before .before .loop .size) (c .before .before .before .before .before .loop .signed)
+      (c .before .before .before .before .loop-test .taken)
       (c .before .before .before .before .before .loop .inv .1) (not-false _ (c .before .before .if1 .left)) (c .before .size-at .ensures) (c .signed-at .ensures),
 )
 
