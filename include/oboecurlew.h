@@ -53,7 +53,8 @@ enum oboecurlew_refusal {
     OBOECURLEW_LETTERS = 17       /* invalid alphabetic data reached: as 13 */
 };
 
-/* Row kinds: group, alphabetic, alphanumeric, unsigned numeric, sign in the last byte, sign leading or trailing separate. */
+/* Row kinds: group, alphabetic, alphanumeric, unsigned numeric, sign in the last byte, sign leading or trailing separate, group with no
+ * signed item at any depth, which may be tested NUMERIC. */
 enum oboecurlew_kind {
     OBOECURLEW_GROUP = 0,
     OBOECURLEW_ALPHABETIC_ITEM = 1,
@@ -61,7 +62,8 @@ enum oboecurlew_kind {
     OBOECURLEW_UNSIGNED = 3,
     OBOECURLEW_SIGNED = 4,
     OBOECURLEW_SIGN_LEADING = 5,
-    OBOECURLEW_SIGN_TRAILING = 6
+    OBOECURLEW_SIGN_TRAILING = 6,
+    OBOECURLEW_NUMERIC_GROUP = 7
 };
 
 /* A token is kind * 65536 + v. */

@@ -52,6 +52,7 @@
        78  SIGNED-ROW               VALUE 4.
        78  SIGN-LEADING-ROW         VALUE 5.
        78  SIGN-TRAILING-ROW        VALUE 6.
+       78  NUMERIC-GROUP-ROW        VALUE 7.
       *> Tokens: an item is its row, a literal FIRST-LITERAL plus its
       *> row, a switch FIRST-ON or FIRST-OFF plus its number.
        78  FIRST-ITEM               VALUE 0.

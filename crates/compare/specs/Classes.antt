@@ -1,5 +1,5 @@
 -- Document 01, "Truth on a record": class tests.
-use mathlib.Core.Bool.{Bool, cond}
+use mathlib.Core.Bool.{Bool, cond, _||_}
 use mathlib.Core.List.{List}
 use Prim.Native.Nat.{ℕ}
 use lib.Dec.{eqb}
@@ -7,8 +7,8 @@ use Rattle.content.specs.Content.{all, isDigit}
 use Rattle.content.specs.Letters.{inAlphabet}
 use Rattle.content.specs.WrongByte.{validContent}
 
--- "NUMERIC on kind 2 means all digits; on 3 to 6, valid content." Word "10 NUMERIC". Typing lets it test no other kind. Each other word
--- tests for its alphabet.
+-- "NUMERIC on kind 2 means all digits; on 3 to 6, valid content." Document 02, b): "NUMERIC on [kind 7] means all digits". Word "10 NUMERIC".
+-- Typing lets it test no other kind. Each other word tests for its alphabet.
 unfoldable pub classHolds : ℕ → ℕ → List ℕ → Bool
 classHolds word kind bytes =
-    cond (eqb word 10) (cond (eqb kind 2) (all isDigit bytes) (validContent kind bytes)) (all (inAlphabet word) bytes)
+    cond (eqb word 10) (cond (eqb kind 2 || eqb kind 7) (all isDigit bytes) (validContent kind bytes)) (all (inAlphabet word) bytes)

@@ -11,7 +11,7 @@ pub fn class_holds(word: u32, kind: u32, bytes: &[u8]) -> bool
     ensures { λ r. ⌜ r ≡ classHolds word kind (now (bytes .entry)) ⌝ }
 {
     if word == 10 {
-        if kind == 2 {
+        if (kind == 2) | (kind == 7) {
             return valid_content(3, bytes); // all digits, as kind 3
         }
         return valid_content(kind, bytes);

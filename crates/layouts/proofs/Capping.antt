@@ -7,8 +7,8 @@ use Prim.Native.Nat.{ℕ, suc, _+_, _≤_, _<_, min}
 use native.Mathlib.Omega.{arith}
 use borrow.Author.Tests.{leb-true, leb-false, le-leb, lt-leb}
 use lib.Dec.{eqb, leb, ltb}
-use Rattle.description.specs.Grammar.{Row, row, Entry, group, item}
-use Rattle.description.specs.Reader.{sizeOf, below, rowOf, layout}
+use Rattle.description.specs.Grammar.{Row, row, Entry, group, item, isSigned, groupKind}
+use Rattle.description.specs.Reader.{sizeOf, belongs, below, signedBelow, rowOf, layout}
 use Rattle.description.specs.Limits.{most, over, firstOver}
 use Rattle.description.proofs.Bytes.{apart}
 use Rattle.entries.specs.declared.Noted.{Noted}
@@ -45,6 +45,19 @@ below-caps l (y ∷ ys) = by (ltb l (y .level) && leb (y .level) 49) (below-caps
     by true e = sum-caps (own y) (own (capNoted y)) (below l (exact ys)) (below l (capped ys)) (own-caps y) e
     by false e = refl
 
+-- A count that stops leaves the kind, and with it the sign.
+signed-own : (y : Noted) → isSigned (entryOf y .content) ≡ isSigned (entryOf (capNoted y) .content)
+signed-own y = by (eqb (y .kind) 0)
+  where
+    by : (t : Bool) → isSigned (cond t group (item (y .kind) (y .size) (y .scale))) ≡ isSigned (cond t group (item (y .kind) (cap (y .size)) (cap (y .scale))))
+    by true = refl
+    by false = refl
+
+signed-caps : (l : ℕ) (ys : List Noted) → signedBelow l (exact ys) ≡ signedBelow l (capped ys)
+unfolding signedBelow
+signed-caps l [] = refl
+signed-caps l (y ∷ ys) = rw (signed-own y, signed-caps l ys)
+
 leb-caps : (a b m : ℕ) → m ≤ 65535 → cap a ≡ cap b → leb a m ≡ leb b m
 leb-caps a b m l e = by (leb a m) refl
   where
@@ -63,7 +76,9 @@ over-caps n o p y ys e = by (eqb (y .kind) 0)
   where
     by : (t : Bool) → over n (rowOf o (y .level) (cond t group (item (y .kind) (y .size) (y .scale))) (exact ys))
         ≡ over n (rowOf p (y .level) (cond t group (item (y .kind) (cap (y .size)) (cap (y .scale)))) (capped ys))
-    by true = over-row n 0 o p (below (y .level) (exact ys)) (below (y .level) (capped ys)) 0 0 e (below-caps (y .level) ys)
+    by true =
+        rw (signed-caps (y .level) ys)
+        (over-row n (groupKind (signedBelow (y .level) (capped ys))) o p (below (y .level) (exact ys)) (below (y .level) (capped ys)) 0 0 e (below-caps (y .level) ys))
     by false = over-row n (y .kind) o p (y .size) (cap (y .size)) (y .scale) (cap (y .scale)) e (omega arith)
 
 -- The first entry over a limit is the same.
@@ -91,7 +106,7 @@ row-same n o y ys s h = by (eqb (y .kind) 0) (not-over n (rowOfNoted o y (exact 
         × (sizeOf (cond t group (item (y .kind) (y .size) (y .scale))) ≡ sizeOf (cond t group (item (y .kind) (cap (y .size)) (cap (y .scale)))))
     by true l =
         let i : below (y .level) (exact ys) ≡ below (y .level) (capped ys) = omega (arith, below-caps (y .level) ys) in
-        (rw i, refl)
+        (rw (i, signed-caps (y .level) ys), refl)
     by false l =
         let i : y .size ≡ cap (y .size) = omega arith in
         let j : y .scale ≡ cap (y .scale) = omega arith in

@@ -1,41 +1,41 @@
 -- Rows of the entries in a buffer, one by one.
 use mathlib.Core.Path.{_≡_, refl, sym, ap, _∙_}
-use mathlib.Core.Bool.{Bool, true, false, cond, not, _&&_, _||_}
+use mathlib.Core.Bool.{Bool, true, false, cond, not, _&&_, _||_, or-assoc, or-false}
 use mathlib.Core.Option.{Option, none, some}
 use mathlib.Core.List.{List, [], _∷_, _++_, map, append-assoc, append-nil}
 use Prim.Native.Nat.{ℕ, zero, suc, _+_, _*_, _-_, _≤_, _<_}
 use native.Mathlib.Omega.{arith}
 use native.Mathlib.Numerals.{add-one}
-use borrow.Author.Tests.{leb-true, leb-false, not-false}
+use borrow.Author.Tests.{eqb-true, leb-true, leb-false, not-false}
 use lib.Dec.{eqb, leb, ltb}
 use lib.ListN.{length, getD, take, drop, set, length-take, length-append}
 use lib.Seq.{sets, sets-eq, take-append-le, take-at, length-take-le, take-add, length-sets}
-use Rattle.description.specs.Grammar.{Row, row, Entry, group, item}
-use Rattle.description.specs.Reader.{sizeOf, below, rowOf, layout}
+use Rattle.description.specs.Grammar.{Row, row, Entry, group, item, isSigned, groupKind}
+use Rattle.description.specs.Reader.{sizeOf, below, signedBelow, rowOf, layout}
 use Rattle.description.specs.Limits.{most, over, passes, firstOver}
 use Rattle.description.proofs.Bytes.{apart, eqb-no, leb-so, leb-no}
 use Rattle.entries.specs.Entries.{contentOf, entryOf}
 use Rattle.describer.specs.Stored.{notedAt, notedFrom}
-use Rattle.layouts.specs.Layouts.{shownRow, entriesIn, Sized, Summed, rowIn, numbersOf, rowNumbers, overPlace, LaidOut}
+use Rattle.layouts.specs.Layouts.{shownRow, entriesIn, Sized, Signed, Summed, rowIn, numbersOf, rowNumbers, overPlace, LaidOut}
 use Rattle.layouts.specs.declared.ItemRow.{ItemRow}
 use Rattle.layouts.specs.declared.Laid.{Laid}
 use Rattle.layouts.specs.declared.Laid.the-variants.{Over, Fine}
 
 -- Limits.
-pub most-group : (k : ℕ) → k ≡ 0 → 65535 ≡ most k
+pub most-group : (k : ℕ) → eqb k 0 || eqb k 7 ≡ true → 65535 ≡ most k
 most-group k e = rw e
 
-pub most-letters : (k : ℕ) → ¬ (k ≡ 0) → k ≤ 2 → 256 ≡ most k
-most-letters k h l = rw (eqb-no k 0 h, leb-so l)
+pub most-letters : (k : ℕ) → eqb k 0 || eqb k 7 ≡ false → k ≤ 2 → 256 ≡ most k
+most-letters k h l = rw (h, leb-so l)
 
-pub most-digits : (k : ℕ) → ¬ (k ≡ 0) → 2 < k → k ≤ 4 → 18 ≡ most k
-most-digits k h l m = rw (eqb-no k 0 h, leb-no k 2 l, leb-so m)
+pub most-digits : (k : ℕ) → eqb k 0 || eqb k 7 ≡ false → 2 < k → k ≤ 4 → 18 ≡ most k
+most-digits k h l m = rw (h, leb-no k 2 l, leb-so m)
 
-pub most-signed : (k : ℕ) → ¬ (k ≡ 0) → 2 < k → 4 < k → 19 ≡ most k
-most-signed k h l m = rw (eqb-no k 0 h, leb-no k 2 l, leb-no k 4 m)
+pub most-signed : (k : ℕ) → eqb k 0 || eqb k 7 ≡ false → 2 < k → 4 < k → 19 ≡ most k
+most-signed k h l m = rw (h, leb-no k 2 l, leb-no k 4 m)
 
 pub most-le : (k : ℕ) → most k ≤ 65535
-most-le k = by (eqb k 0) (leb k 2) (leb k 4)
+most-le k = by (eqb k 0 || eqb k 7) (leb k 2) (leb k 4)
   where
     by : (a b c : Bool) → cond a 65535 (cond b 256 (cond c 18 19)) ≤ 65535
     by true b c = omega arith
@@ -62,6 +62,17 @@ module _ (flat : List ℕ) (i : ℕ) where
   pub size-item : ¬ (getD flat (i * 6 + 3) 0 ≡ 0) → {r : ℕ} → r ≡ getD flat (i * 6 + 4) 0 → getD flat (i * 6 + 4) 0 < 4294967296 → Sized flat i r
   size-item h e l = record { is = e ∙ rw (eqb-no (getD flat (i * 6 + 3) 0) 0 h); small = omega arith }
 
+-- A group is kind 0 in the buffer, and that is no signed kind.
+signed-kind : (k z s : ℕ) → eqb k 4 || eqb k 5 || eqb k 6 ≡ isSigned (contentOf k z s)
+signed-kind k z s = by (eqb k 0) refl
+  where
+    by : (t : Bool) → eqb k 0 ≡ t → eqb k 4 || eqb k 5 || eqb k 6 ≡ isSigned (cond t group (item k z s))
+    by true h = rw (eqb-true k 0 h)
+    by false h = refl
+
+pub signed-is : (flat : List ℕ) (i : ℕ) → Signed flat i (eqb (getD flat (i * 6 + 3) 0) 4 || eqb (getD flat (i * 6 + 3) 0) 5 || eqb (getD flat (i * 6 + 3) 0) 6)
+signed-is flat i = record { is = signed-kind (getD flat (i * 6 + 3) 0) (getD flat (i * 6 + 4) 0) (getD flat (i * 6 + 5) 0) }
+
 -- the entries from i on: that one, and the others
 pub entries-cons : (flat : List ℕ) (i n : ℕ) → i < n → entriesIn flat i n ≡ entryOf (notedAt flat i) ∷ entriesIn flat (suc i) n
 unfolding notedFrom
@@ -72,32 +83,53 @@ unfolding notedFrom
 entries-end flat i n l = let z : n - i ≡ 0 = omega arith in rw z
 
 module _ (flat : List ℕ) (i n l : ℕ) where
-  abbrev pub so-far : ℕ → ℕ → Type 0
-  so-far k sum = (i ≤ k) × ((below l (entriesIn flat i n) ≡ sum + below l (entriesIn flat k n)) × (sum ≤ 4294967295 * k))
+  -- The entries i to k are of the group; the sum and the sign of all are theirs with those of the others.
+  pub record SoFar (k sum : ℕ) (signed : Bool) : Type 0 where
+    pub from : i ≤ k
+    pub sums : below l (entriesIn flat i n) ≡ sum + below l (entriesIn flat k n)
+    pub small : sum ≤ 4294967295 * k
+    pub signs : signedBelow l (entriesIn flat i n) ≡ signed || signedBelow l (entriesIn flat k n)
 
-  pub sum-more : (k sum : ℕ) {s : ℕ} → k < n → so-far k sum → ltb l (getD flat (k * 6) 0) && leb (getD flat (k * 6) 0) 49 ≡ true → Sized flat k s → so-far (k + 1) (sum + s)
-  unfolding below
-  sum-more k sum {s} h f t z = (
-    omega (arith, f .0),
-    (
-      f .1 .0 ∙ rw (entries-cons flat k n h, t, add-one, ← z .is) (omega arith),
-      omega (arith, f .1 .1, z .small),
-    ),
-  )
+  abbrev pub inGroup : ℕ → Bool
+  inGroup k = ltb l (getD flat (k * 6) 0) && leb (getD flat (k * 6) 0) 49
 
-  pub sum-stop : (k sum : ℕ) → k < n → n ≤ 820 → so-far k sum → ltb l (getD flat (k * 6) 0) && leb (getD flat (k * 6) 0) 49 ≡ false → Summed flat i n l sum
-  unfolding below
-  sum-stop k sum h m f t = record { is = sym (f .1 .0 ∙ rw (entries-cons flat k n h, t) (omega arith)); small = omega (arith, f .1 .1) }
+  pub sum-none : SoFar i 0 false
+  sum-none = record { from = omega arith; sums = omega arith; small = omega arith; signs = refl }
 
-  pub sum-end : (k sum : ℕ) → n ≤ k → k ≤ n → so-far k sum → Summed flat i n l sum
-  unfolding below
-  sum-end k sum h g f = record { is = sym (f .1 .0 ∙ rw (entries-end flat k n h) (omega arith)); small = omega (arith, f .1 .1) }
+  pub sum-more : (k sum : ℕ) (b : Bool) {s : ℕ} {c : Bool} → k < n → SoFar k sum b → inGroup k ≡ true → Sized flat k s → Signed flat k c → SoFar (k + 1) (sum + s) (b || c)
+  unfolding below signedBelow
+  sum-more k sum b {s} {c} h f t z g =
+      record {
+        from = omega (arith, f .from);
+        sums = f .sums ∙ rw (entries-cons flat k n h, t, add-one, ← z .is) (omega arith);
+        small = omega (arith, f .small, z .small);
+        signs = f .signs ∙ rw (entries-cons flat k n h, t, add-one, ← g .is) (sym (or-assoc b c (signedBelow l (entriesIn flat (suc k) n))));
+      }
+
+  pub sum-stop : (k sum : ℕ) (b : Bool) → k < n → n ≤ 820 → SoFar k sum b → inGroup k ≡ false → Summed flat i n l sum b
+  unfolding below signedBelow
+  sum-stop k sum b h m f t =
+      record {
+        is = sym (f .sums ∙ rw (entries-cons flat k n h, t) (omega arith));
+        small = omega (arith, f .small);
+        signs = sym (f .signs ∙ rw (entries-cons flat k n h, t) (or-false b));
+      }
+
+  pub sum-end : (k sum : ℕ) (b : Bool) → n ≤ k → k ≤ n → SoFar k sum b → Summed flat i n l sum b
+  unfolding below signedBelow
+  sum-end k sum b h g f =
+      record {
+        is = sym (f .sums ∙ rw (entries-end flat k n h) (omega arith));
+        small = omega (arith, f .small);
+        signs = sym (f .signs ∙ rw (entries-end flat k n h) (or-false b));
+      }
 
 -- One row.
-pub row-group : (flat : List ℕ) (i n o : ℕ) {s : ℕ} → getD flat (i * 6 + 3) 0 ≡ 0 → Summed flat (i + 1) n (getD flat (i * 6) 0) s → row 0 o s 0 ≡ rowIn flat i n o
-row-group flat i n o h z =
+pub row-group : (flat : List ℕ) (i n o : ℕ) {k s : ℕ} {b : Bool} → getD flat (i * 6 + 3) 0 ≡ 0 → Summed flat (i + 1) n (getD flat (i * 6) 0) s b → k ≡ groupKind b →
+    row k o s 0 ≡ rowIn flat i n o
+row-group flat i n o h z g =
     let k : entriesIn flat (i + 1) n ≡ entriesIn flat (suc i) n = ap (λ (m : ℕ). entriesIn flat m n) (add-one i) in
-    rw (h, z .is, k)
+    rw (h, g, z .is, z .signs, k)
 
 pub row-item : (flat : List ℕ) (i n o : ℕ) {s : ℕ} → ¬ (getD flat (i * 6 + 3) 0 ≡ 0) → s ≡ getD flat (i * 6 + 4) 0 →
     row (getD flat (i * 6 + 3) 0) o s (getD flat (i * 6 + 5) 0) ≡ rowIn flat i n o

@@ -1,11 +1,12 @@
 -- Rows of the entries in a buffer.
 use mathlib.Core.Path.{_≡_}
+use mathlib.Core.Bool.{Bool}
 use mathlib.Core.Option.{Option, none, some}
 use mathlib.Core.List.{List, [], _∷_, _++_, map}
 use Prim.Native.Nat.{ℕ, suc, _+_, _*_, _-_, _≤_}
 use lib.ListN.{length, take}
-use Rattle.description.specs.Grammar.{Row, row, Entry}
-use Rattle.description.specs.Reader.{sizeOf, below, rowOf, layout}
+use Rattle.description.specs.Grammar.{Row, row, Entry, isSigned}
+use Rattle.description.specs.Reader.{sizeOf, below, signedBelow, rowOf, layout}
 use Rattle.description.specs.Limits.{firstOver}
 use Rattle.entries.specs.Entries.{entryOf}
 use Rattle.describer.specs.Stored.{notedAt, notedFrom}
@@ -25,10 +26,15 @@ pub record Sized (flat : List ℕ) (i r : ℕ) : Type 0 where
   pub is : r ≡ sizeOf (entryOf (notedAt flat i) .content)
   pub small : r ≤ 4294967295
 
--- The size of a group of this level by the entries i to n.
-pub record Summed (flat : List ℕ) (i n l r : ℕ) : Type 0 where
+-- Whether entry i is an item whose picture has an S.
+pub record Signed (flat : List ℕ) (i : ℕ) (r : Bool) : Type 0 where
+  pub is : r ≡ isSigned (entryOf (notedAt flat i) .content)
+
+-- The size of a group of this level by the entries i to n, and whether one of them is signed.
+pub record Summed (flat : List ℕ) (i n l r : ℕ) (signed : Bool) : Type 0 where
   pub is : r ≡ below l (entriesIn flat i n)
   pub small : r ≤ 4294967295 * n
+  pub signs : signed ≡ signedBelow l (entriesIn flat i n)
 
 -- the row of entry i of n at an offset
 abbrev pub rowIn : List ℕ → ℕ → ℕ → ℕ → Row

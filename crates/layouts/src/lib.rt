@@ -11,6 +11,12 @@ pub struct ItemRow {
     pub scale: u32,
 }
 
+// What the entries of a group come to: its bytes, and whether a picture has an S.
+pub struct Below {
+    pub size: usize,
+    pub signed: bool,
+}
+
 // The place of the first entry whose row passes a limit, or none does.
 pub enum Laid {
     Over(usize),

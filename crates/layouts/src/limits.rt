@@ -7,7 +7,7 @@ use crate::ItemRow;
 fn most_of(kind: u32) -> usize
     ensures { λ r. ⌜ r ≡ most kind ⌝ }
 {
-    if kind == 0 {
+    if (kind == 0) | (kind == 7) {
         return 65535;
     }
     if kind <= 2 {

@@ -4,7 +4,9 @@ ghost use mathlib.Core.List.{map};
 ghost use Prim.Native.Nat.{_+_, _*_, _-_, _<_, _≤_};
 ghost use lib.ListN.{length};
 ghost use lib.Seq.{sets};
-ghost use Rattle.layouts.specs.Layouts.{Sized, Summed, shownRow, entriesIn, rowIn, numbersOf, LaidOut};
+ghost use Rattle.description.specs.Grammar.{groupKind};
+ghost use Rattle.layouts.specs.Layouts.{Sized, Signed, Summed, shownRow, entriesIn, rowIn, numbersOf, LaidOut};
+use crate::Below;
 use crate::ItemRow;
 use crate::Laid;
 use crate::limits::is_over;
@@ -27,22 +29,44 @@ fn size_at(entries: &[u32], i: usize) -> usize
     wide(entries[at + 4])
 }
 
-// The size of a group of this level by the entries from i on.
-fn size_below(entries: &[u32], i: usize, n: usize, level: u32) -> usize
-    requires { ⌜ (i ≤ n) × ((n ≤ 820) × (n * 6 ≤ length (now entries))) ⌝ }
-    ensures { λ r. ⌜ Summed (now (entries .entry)) i n level r ⌝ }
+// Whether entry i is an item whose picture has an S.
+fn signed_at(entries: &[u32], i: usize) -> bool
+    requires { ⌜ i * 6 + 5 < length (now entries) ⌝ }
+    ensures { λ r. ⌜ Signed (now (entries .entry)) i r ⌝ }
 {
-    let mut sum: usize = 0;
+    let at = i * 6;
+    let kind = entries[at + 3];
+    (kind == 4) | (kind == 5) | (kind == 6)
+}
+
+// What a group of this level has by the entries from i on.
+fn sum_below(entries: &[u32], i: usize, n: usize, level: u32) -> Below
+    requires { ⌜ (i ≤ n) × ((n ≤ 820) × (n * 6 ≤ length (now entries))) ⌝ }
+    ensures { λ r. ⌜ Summed (now (entries .entry)) i n level (r .size) (r .signed) ⌝ }
+{
+    let mut size: usize = 0;
+    let mut signed = false;
     let mut k = i;
     while k < n {
         let l = entries[k * 6];
         if !((level < l) & (l <= 49)) {
-            return sum;
+            return Below { size, signed };
         }
-        sum += size_at(entries, k);
+        size += size_at(entries, k);
+        signed = signed | signed_at(entries, k);
         k += 1;
     }
-    sum
+    Below { size, signed }
+}
+
+// Kind 7 is a group with no signed item at any depth.
+fn group_kind(signed: bool) -> u32
+    ensures { λ r. ⌜ r ≡ groupKind signed ⌝ }
+{
+    if signed {
+        return 0;
+    }
+    7
 }
 
 // The row of entry i at an offset.
@@ -54,11 +78,11 @@ fn row_of(entries: &[u32], i: usize, n: usize, offset: usize) -> ItemRow
     let kind = entries[at + 3];
     if kind == 0 {
         let level = entries[at];
-        let size = size_below(entries, i + 1, n, level);
+        let below = sum_below(entries, i + 1, n, level);
         return ItemRow {
-            kind: 0,
+            kind: group_kind(below.signed),
             offset,
-            size,
+            size: below.size,
             scale: 0,
         };
     }

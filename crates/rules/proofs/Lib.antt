@@ -2,6 +2,7 @@ pub mod Cases
 pub mod Passing
 pub mod Deep
 pub mod Stops
+pub mod Groups
 pub mod Places
 pub mod Answers
 pub mod Demands

@@ -1,9 +1,9 @@
--- Worked examples of document 02, c), g), i), l), n), by computation.
+-- Worked examples of document 02, b), c), g), i), l), n), by computation.
 use mathlib.Core.Path.{_≡_, refl}
 use mathlib.Core.List.{List, [], _∷_}
 use Prim.Native.Nat.{ℕ}
 use mathlib.Core.Bool.{true, false}
-use Rattle.tables.specs.declared.Refusal.the-variants.{Record, Token, PlanRow as PlanFault, Data, Letters}
+use Rattle.tables.specs.declared.Refusal.the-variants.{ItemRow, Record, Token, Typing, PlanRow as PlanFault, Data, Letters}
 use Rattle.tables.specs.declared.Verdict.the-variants.{True, False, Refused}
 use Rattle.tables.specs.Operands.{Lent, under}
 use Rattle.content.specs.Content.{all, numberFrom}
@@ -134,3 +134,34 @@ letters-and-digits : (judgeGives fields (0 ∷ 262151 ∷ 1 ∷ []) typed-in 0 �
     × (judgeGives fields (4 ∷ 262149 ∷ 1 ∷ []) typed-in 0 ≡ record { verdict = True; count = 1 })
 unfolding all firstFrom validContent firstFailing firstOf typed byteOrder comparison classHolds outcome class on parse-condition read depthFrom typingFrom leaves when at judged visited judgeWalk
 letters-and-digits = (refl, refl, refl, refl, refl, refl, refl)
+
+-- b): of the record's first four bytes, 1 2 3 4, a group of kind 7, a group of kind 0 and a text of kind 2; a counter of kind 3, 1 and a blank,
+-- in bytes 4 and 5; an owner of kind 1, A 7, in 6 and 7; a group of kind 7 over the last four bytes.
+abbrev groups : Lent
+groups =
+    record {
+      off = false;
+      items = 7 ∷ 0 ∷ 4 ∷ 0 ∷ 0 ∷ 0 ∷ 4 ∷ 0 ∷ 2 ∷ 0 ∷ 4 ∷ 0 ∷ 3 ∷ 4 ∷ 2 ∷ 0 ∷ 1 ∷ 6 ∷ 2 ∷ 0 ∷ 7 ∷ 4 ∷ 4 ∷ 0 ∷ [];
+      literals = [];
+      bytes = [];
+    }
+
+abbrev counted : List ℕ
+counted = 0x31 ∷ 0x32 ∷ 0x33 ∷ 0x34 ∷ 0x31 ∷ 0x20 ∷ 0x41 ∷ 0x37 ∷ []
+
+-- NUMERIC: all digits, or not; 9 on kind 0. ALPHABETIC is typed on kind 7, POSITIVE is not. Kind 7 = kind 0. The counter and the owner beside
+-- kind 7 are not looked at, on either side; beside the text they are. Kind 8 is none.
+counters-in-groups : (judgeGives groups (0 ∷ 262154 ∷ []) counted 0 ≡ record { verdict = True; count = 1 })
+    × (judgeGives groups (5 ∷ 262154 ∷ []) counted 0 ≡ record { verdict = False; count = 1 })
+    × (judgeGives groups (1 ∷ 262154 ∷ []) counted 0 ≡ record { verdict = Refused (Typing 0); count = 0 })
+    × (judgeGives groups (0 ∷ 262155 ∷ []) counted 0 ≡ record { verdict = False; count = 1 })
+    × (judgeGives groups (0 ∷ 262158 ∷ []) counted 0 ≡ record { verdict = Refused (Typing 0); count = 0 })
+    × (judgeGives groups (0 ∷ 262151 ∷ 1 ∷ []) counted 0 ≡ record { verdict = True; count = 1 })
+    × (judgeGives groups (3 ∷ 262150 ∷ 0 ∷ []) counted 0 ≡ record { verdict = True; count = 1 })
+    × (judgeGives groups (0 ∷ 262150 ∷ 4 ∷ []) counted 0 ≡ record { verdict = True; count = 1 })
+    × (judgeGives groups (3 ∷ 262150 ∷ 2 ∷ []) counted 0 ≡ record { verdict = Refused (Data 0 5); count = 1 })
+    × (judgeGives groups (2 ∷ 262150 ∷ 4 ∷ []) counted 0 ≡ record { verdict = Refused (Letters 0 7); count = 1 })
+    × (judgeGives record { off = false; items = 8 ∷ 0 ∷ 4 ∷ 0 ∷ []; literals = []; bytes = [] } (0 ∷ 262154 ∷ []) counted 0
+    ≡ record { verdict = Refused (ItemRow 0); count = 0 })
+unfolding all numberFrom firstFrom validContent firstFailing firstOf typed byteOrder comparison classHolds switchHolds outcome class on parse-condition read depthFrom typingFrom leaves when at judged visited judgeWalk
+counters-in-groups = (refl, refl, refl, refl, refl, refl, refl, refl, refl, refl, refl)

@@ -6,7 +6,7 @@ use Rattle.tables.specs.declared.Row.{Row}
 use Rattle.typing.specs.declared.Test.{Test}
 use Rattle.typing.specs.declared.Test.the-variants.{Switch, Relation, Class, Sign, Unknown}
 use Rattle.tables.specs.Tokens.{isItem, isLiteral}
-use Rattle.tables.specs.Rows.{isNumeric}
+use Rattle.tables.specs.Rows.{isGroup, isNumeric}
 use Rattle.tables.specs.Operands.{Lent, rowOf}
 use Rattle.typing.specs.Tests.{testOf}
 
@@ -21,11 +21,18 @@ relationTyped lent subject object =
     && scaleFits (rowOf lent subject) (rowOf lent object)
     && scaleFits (rowOf lent object) (rowOf lent subject)
 
--- "class: the operand is an item; NUMERIC for kinds 2 to 6, the alphabetic tests for 0 to 2"
+-- "NUMERIC for kinds 2 to 6": document 02, b), "corrects 01's typing rule", so that it is for kinds 2 to 7
+abbrev pub mayBeNumeric : Row → Bool
+mayBeNumeric r = leb 2 (r .kind) && leb (r .kind) 7
+
+-- "the alphabetic tests for 0 to 2": for groups and kinds 1 and 2. Document 02, b): kind 7 is "tested for letters as a group".
+abbrev pub mayBeAlphabetic : Row → Bool
+mayBeAlphabetic r = isGroup r || eqb (r .kind) 1 || eqb (r .kind) 2
+
+-- "class: the operand is an item; NUMERIC for kinds .., the alphabetic tests for .."
 abbrev pub classTyped : Lent → ℕ → ℕ → Bool
 classTyped lent word subject =
-    isItem subject
-    && cond (eqb word 10) (leb 2 (rowOf lent subject .kind) && leb (rowOf lent subject .kind) 6) (leb (rowOf lent subject .kind) 2)
+    isItem subject && cond (eqb word 10) (mayBeNumeric (rowOf lent subject)) (mayBeAlphabetic (rowOf lent subject))
 
 -- "sign: an item of kinds 3 to 6"
 abbrev pub signTyped : Lent → ℕ → Bool

@@ -11,6 +11,7 @@ ghost use Rattle.typing.specs.Typing.{scaleFits, relationTyped, classTyp
 use crate::Test;
 use tables::Row;
 use tables::operands::row_of;
+use tables::rows::is_group;
 use tables::rows::is_numeric;
 use tables::tokens::is_item;
 
@@ -143,9 +144,9 @@ fn class_typed(items: &[u32], literals: &[u32], word: u32, subject: u32) -> bool
 {
     let row = row_of(subject, items, literals);
     if word == 10 {
-        return is_item(subject) & ((2 <= row.kind) & (row.kind <= 6));
+        return is_item(subject) & ((2 <= row.kind) & (row.kind <= 7));
     }
-    is_item(subject) & (row.kind <= 2)
+    is_item(subject) & (is_group(row) | (row.kind == 1) | (row.kind == 2))
 }
 
 fn sign_typed(items: &[u32], literals: &[u32], subject: u32) -> bool

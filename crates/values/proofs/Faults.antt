@@ -39,8 +39,10 @@ number-invalid s e = rw e (go (s .item))
 
 no-group : (row : Row) → isNumeric row ≡ true → isGroup row ≡ false
 no-group row n =
-    let three = leb-true 3 (row .kind) (both (leb 3 (row .kind)) (leb (row .kind) 6) n .0) in
-    ne-eqb (row .kind) 0 (λ e. omega (arith, three, e))
+    let k = both (leb 3 (row .kind)) (leb (row .kind) 6) n in
+    let three = leb-true 3 (row .kind) (k .0) in
+    let six = leb-true (row .kind) 6 (k .1) in
+    rw (ne-eqb (row .kind) 0 (λ e. omega (arith, three, e)), ne-eqb (row .kind) 7 (λ e. omega (arith, six, e)))
 
 pub number-faulty : (s : Side) (o : Row) {n : Number} → isNumeric o ≡ true → n ≡ numberOf (s .row .kind) (s .bytes)
     → s .item && not (n .valid) ≡ not (nowhere (fault s o))

@@ -100,8 +100,8 @@ some-compared f false = some-bytes f
 some-compared {s} f true = by (ℕ-discrete (s .row .kind) 5) (ℕ-discrete (s .row .kind) 6)
   where
     by : Dec (s .row .kind ≡ 5) → Dec (s .row .kind ≡ 6) → 1 ≤ length (digitBytes (s .row .kind) (s .bytes))
-    by (yes p) d = rw p (omega (arith, length-drop 1 (s .bytes), row-facts (s .row) (f .sound) .apart (omega arith)))
-    by (no p) (yes q) = rw q (omega (arith, but-last-length (s .bytes), row-facts (s .row) (f .sound) .apart (omega arith)))
+    by (yes p) d = rw p (omega (arith, length-drop 1 (s .bytes), row-facts (s .row) (f .sound) .apart (omega arith) (omega arith)))
+    by (no p) (yes q) = rw q (omega (arith, but-last-length (s .bytes), row-facts (s .row) (f .sound) .apart (omega arith) (omega arith)))
     by (no p) (no q) = rw (ne-eqb _ _ p, ne-eqb _ _ q) (some-bytes f)
 
 -- the characters that a side gives beside another are those of its part that is compared, without the sign of kind 4

@@ -34,7 +34,7 @@ abbrev pub valueOf : Side → ℤ
 valueOf s = value (s .row .kind) (s .bytes)
 
 -- "A numeric side beside a kind 1 or 2 operand gives its digits as characters, without sign. A numeric item beside a group gives
--- its bytes as they lie, unchecked. A numeric literal gives its digits in both cases."
+-- its bytes as they lie, unchecked. A numeric literal gives its digits in both cases." Document 02, b): kind 7 is "compared .. as a group".
 abbrev pub givesDigits : Side → Side → Bool
 givesDigits s other = numeric s && not (s .item && group other)
 
@@ -58,6 +58,7 @@ abbrev pub wrongByte : Side → Wrong
 wrongByte s = cond (s .item) (moved (s .row .offset) (firstWrong (s .row .kind) (s .bytes))) Nowhere
 
 -- The fault of a side of a relation, beside a row: "a numeric item's value or digits with invalid content", "a kind 1 item against
--- anything but a group". Beside a group nothing is looked at; kinds 0 and 2 have no wrong byte.
+-- anything but a group". Beside a group, of kind 0 or 7, nothing is looked at; groups and kind 2 have no wrong
+-- byte.
 abbrev pub fault : Side → Row → Wrong
 fault s other = cond (isGroup other) Nowhere (wrongByte s)

@@ -83,7 +83,7 @@ impl Facts {
     }
 
     fn numeric(&self) -> bool {
-        self.kind >= 3
+        (3..=6).contains(&self.kind)
     }
 
     /// Whether this may stand in a relation with that side.
@@ -96,12 +96,12 @@ impl Facts {
 
     /// Whether a class or sign word may stand behind this.
     fn bears(&self, word: u32) -> bool {
-        let kinds = match word {
-            10 => 2..=6,
-            11..=13 => 0..=2,
-            _ => 3..=6,
+        let fits = match word {
+            10 => self.kind >= 2,
+            11..=13 => matches!(self.kind, 0..=2 | 7),
+            _ => self.numeric(),
         };
-        !self.literal && kinds.contains(&self.kind)
+        !self.literal && fits
     }
 }
 

@@ -118,7 +118,7 @@ mod tests {
             rows_room: 9,
             places_room: 2,
         };
-        let rows = checksum(&[0, 0, 1, 0, 2, 0, 1, 0, 3_000_000_008]);
+        let rows = checksum(&[7, 0, 1, 0, 2, 0, 1, 0, 3_000_000_008]);
         let line = format!("0 0 8 {rows} 2 {}", checksum(&[3, 9]));
         assert_eq!(case.answer().to_string(), line);
         case.places_room = 1;

@@ -21,7 +21,7 @@ pub fn rows(text: &[u8], entries: &[Entry]) -> Vec<Row> {
     for entry in entries {
         let row = match &entry.form {
             Form::Group => Row {
-                kind: 0,
+                kind: 7,
                 offset: free.clone(),
                 size: Big::default(),
                 scale: Big::default(),
@@ -35,7 +35,11 @@ pub fn rows(text: &[u8], entries: &[Entry]) -> Vec<Row> {
     }
     for group in 0..entries.len() {
         if matches!(entries[group].form, Form::Group) {
-            rows[group].size = size_of_members(entries, &rows, group);
+            let members = elementary_members(entries, group);
+            let sum = |sum: Big, &place: &usize| sum.plus(&rows[place].size);
+            rows[group].size = members.iter().fold(Big::default(), sum);
+            let signed = members.iter().any(|&place| rows[place].is_signed());
+            rows[group].kind = if signed { 0 } else { 7 };
         }
     }
     rows
@@ -54,13 +58,14 @@ fn elementary(kind: u32, picture: &[u8], offset: Big) -> Row {
     }
 }
 
-/// The sum over "its complete members" at any depth: the entries behind it up to
-/// the first whose level is not greater, or is 77.
-fn size_of_members(entries: &[Entry], rows: &[Row], group: usize) -> Big {
+/// The elementary ones of a group's "complete members" at any depth: the entries
+/// behind it up to the first whose level is not greater, or is 77.
+fn elementary_members(entries: &[Entry], group: usize) -> Vec<usize> {
     let inside = |entry: &Entry| entry.level > entries[group].level && entry.level != 77;
     let members = (group + 1..entries.len()).take_while(|&place| inside(&entries[place]));
-    let elementary = members.filter(|&place| !matches!(entries[place].form, Form::Group));
-    elementary.fold(Big::default(), |sum, place| sum.plus(&rows[place].size))
+    members
+        .filter(|&place| !matches!(entries[place].form, Form::Group))
+        .collect()
 }
 
 /// The first "whose row passes an upper limit of 01 [...], or is its table's
@@ -70,12 +75,18 @@ pub fn first_beyond_limits(rows: &[Row]) -> Option<usize> {
 }
 
 impl Row {
+    /// Described with S: "kind 7, a group with no signed item at any depth [...].
+    /// The reader of a) gives 7 where it holds and 0 otherwise" (02, b).
+    fn is_signed(&self) -> bool {
+        matches!(self.kind, 4..=6)
+    }
+
     /// "Kind 0: size 1 to 65,535. Kinds 1, 2: size 1 to 256. Kinds 3, 4: size 1
     /// to 18. Kinds 5, 6: size 2 to 19. Offset at most 65,535." (01). A scale is
     /// never above its digits.
     fn is_beyond_limits(&self) -> bool {
         let largest = match self.kind {
-            0 => 65_535,
+            0 | 7 => 65_535,
             1 | 2 => 256,
             3 | 4 => 18,
             _ => 19,

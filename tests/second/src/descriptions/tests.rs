@@ -174,15 +174,38 @@ fn rows_of_an_entry_tree() {
 fn levels_of_members() {
     check(
         "01 A. 49 B PIC X. 49 C PIC X.",
-        &[0, 0, 2, 0, 2, 0, 1, 0, 2, 1, 1, 0],
+        &[7, 0, 2, 0, 2, 0, 1, 0, 2, 1, 1, 0],
         &[3, 9, 21],
     );
     // Other groups may have other member levels.
     check(
         "01 A. 05 B. 10 C PIC X. 05 D. 07 E PIC 9.",
-        &[0, 0, 2, 0, 0, 0, 1, 0, 2, 0, 1, 0, 0, 1, 1, 0, 3, 1, 1, 0],
+        &[7, 0, 2, 0, 7, 0, 1, 0, 2, 0, 1, 0, 7, 1, 1, 0, 3, 1, 1, 0],
         &[3, 9, 15, 27, 33],
     );
+}
+
+/// "Kind 7, a group with no signed item at any depth" (02, b).
+#[test]
+fn groups_without_signs() {
+    let kinds = |text: &str| -> Vec<u32> {
+        let (rows, _) = read(text.as_bytes()).unwrap();
+        rows.chunks(4).map(|row| row[0]).collect()
+    };
+    assert_eq!(kinds("01 A. 02 B PIC 9. 02 C PIC X."), [7, 3, 2]);
+    assert_eq!(kinds("01 A. 02 B PIC 9. 02 C PIC S9."), [0, 3, 4]);
+    assert_eq!(
+        kinds("01 A. 02 B. 03 C PIC 9. 02 D. 03 E PIC SV9."),
+        [0, 7, 3, 0, 4]
+    );
+    assert_eq!(
+        kinds("01 A. 02 B PIC A. 77 C PIC S9. 01 D. 02 E PIC 9."),
+        [7, 1, 4, 7, 3]
+    );
+    let deep = "01 A. 02 B. 03 C. 04 D PIC S9 SIGN LEADING SEPARATE. 03 E PIC 9. 02 F. 05 G PIC X.";
+    assert_eq!(kinds(deep), [0, 0, 0, 5, 3, 7, 2]);
+    let trailing = "01 A. 02 B. 03 C PIC X. 02 D. 03 E PIC S9 SIGN TRAILING SEPARATE.";
+    assert_eq!(kinds(trailing), [0, 7, 2, 0, 6]);
 }
 
 #[test]
@@ -288,5 +311,5 @@ fn rooms() {
     assert_eq!(output, [7; 12]);
     let (rows, places) = output.split_at_mut(8);
     assert_eq!(describe(text, rows, &mut places[..2]), Ok([8, 2]));
-    assert_eq!(output, [0, 0, 1, 0, 2, 0, 1, 0, 3, 9, 7, 7]);
+    assert_eq!(output, [7, 0, 1, 0, 2, 0, 1, 0, 3, 9, 7, 7]);
 }

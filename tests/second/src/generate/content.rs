@@ -65,7 +65,8 @@ impl Theme {
 pub fn put(random: &mut Random, theme: &Theme, kind: u32, scale: u32, bytes: &mut [u8]) {
     match kind {
         1 => put_letters(random, theme, bytes),
-        0 | 2 => put_text(random, theme, bytes),
+        7 if random.chance(500) => bytes.fill_with(|| random.pick(b"0123456789")),
+        0 | 2 | 7 => put_text(random, theme, bytes),
         _ => put_number(random, theme, kind, scale, bytes),
     }
 }

@@ -150,18 +150,18 @@ fn break_item_row(random: &mut Random, case: &mut Case) {
 /// Breaks one of a row's own limits by one, or wildly.
 fn break_row(random: &mut Random, row: &mut [u32]) {
     let (largest, smallest) = match row[0] {
-        0 => (65_535, 1),
+        0 | 7 => (65_535, 1),
         1 | 2 => (256, 1),
         3 | 4 => (18, 1),
         _ => (19, 2),
     };
     let largest_scale = match row[0] {
-        0..=2 => 0,
+        0..=2 | 7 => 0,
         3 | 4 => row[2],
         _ => row[2].saturating_sub(1),
     };
     match random.below(7) {
-        0 => row[0] = 7,
+        0 => row[0] = 8,
         1 => row[1] = 65_536,
         2 => row[2] = largest + 1,
         3 => row[2] = smallest - 1,
@@ -183,8 +183,13 @@ fn break_literal_row(random: &mut Random, case: &mut Case) {
     match random.below(6) {
         0 => break_row(random, row),
         1 => {
-            let (kind, content) =
-                random.pick(&[(0, b"AB1"), (1, b"AB "), (4, b"12E"), (6, b"12+")]);
+            let (kind, content) = random.pick(&[
+                (0, b"AB1"),
+                (1, b"AB "),
+                (4, b"12E"),
+                (6, b"12+"),
+                (7, b"123"),
+            ]);
             row.copy_from_slice(&[kind, case.bytes.len() as u32, 3, 0]);
             case.bytes.extend(content);
         }

@@ -20,10 +20,10 @@ fn fill_items(random: &mut Random, case: &mut Case) {
         _ => random.between(62, 64),
     };
     let kinds: &[u32] = match random.below(4) {
-        0 => &[0, 1, 2, 3, 4, 5, 6],
+        0 => &[0, 1, 2, 3, 4, 5, 6, 7],
         1 => &[3, 3, 4, 4, 5, 6, 2],
-        2 => &[0, 1, 2, 2, 2, 3, 4],
-        _ => &[1, 1, 0, 2, 3, 4, 5, 6],
+        2 => &[0, 1, 2, 2, 2, 3, 4, 7],
+        _ => &[1, 1, 0, 7, 2, 3, 4, 5, 6],
     };
     let mut end = 0;
     for _ in 0..rows {
@@ -39,9 +39,9 @@ fn fill_items(random: &mut Random, case: &mut Case) {
 fn measures(random: &mut Random, kind: u32) -> (u32, u32) {
     let wide = random.chance(40);
     match kind {
-        0 if wide && random.chance(10) => (65_535, 0),
-        0 if wide => (random.between(1, 300), 0),
-        0 => (random.between(1, 8), 0),
+        0 | 7 if wide && random.chance(10) => (65_535, 0),
+        0 | 7 if wide => (random.between(1, 300), 0),
+        0 | 7 => (random.between(1, 8), 0),
         1 | 2 if wide => (random.between(250, 256), 0),
         1 | 2 => (random.between(1, 6), 0),
         _ => {
@@ -94,7 +94,7 @@ fn fill_record(random: &mut Random, theme: &Theme, case: &mut Case) {
         let bytes = &mut case.record[span(row)];
         match row[0] {
             1 if random.chance(theme.rot / 2) => content::spoil_letters(random, bytes),
-            3.. if random.chance(theme.rot) => content::spoil(random, bytes),
+            3..=6 if random.chance(theme.rot) => content::spoil(random, bytes),
             _ => {}
         }
     }

@@ -3,6 +3,7 @@
 use super::*;
 use crate::answers;
 use crate::rules::content::{first_no_letter, first_wrong};
+use crate::rules::{VERDICT_FALSE, VERDICT_TRUE};
 use std::collections::HashSet;
 
 /// The content of the item that a token names, if it is one, with its row.
@@ -167,4 +168,36 @@ fn same_seed_same_case() {
     }
     assert_ne!(case(3, 0), case(4, 0));
     assert_ne!(case(3, 0), case(3, 1));
+}
+
+/// Class words on groups of kind 7 and comparisons with every kind of item, both
+/// true and false.
+#[test]
+fn groups_of_kind_7() {
+    let mut seen = HashSet::new();
+    for index in 0..40_000 {
+        let case = case(31, index);
+        let Ok(_) = answers::answer(&case).run.answer else {
+            continue;
+        };
+        for row in case.plan.chunks(5) {
+            let Some((item, _)) = item(&case, row[0]).filter(|(item, _)| item[0] == 7) else {
+                continue;
+            };
+            assert_eq!(item[3], 0);
+            let beside = match row[1] % 32 {
+                5..=9 => 20 + Facts::of(&case, row[2]).kind,
+                word => word,
+            };
+            let alone = [row[0], row[1], row[2], VERDICT_TRUE, VERDICT_FALSE];
+            let judged = rules::run(&case.tables(), &alone, &case.record, case.switches);
+            seen.insert((beside, judged.answer.map_err(|refusal| refusal.number)));
+        }
+    }
+    for wanted in [10, 11, 12, 13, 20, 21, 22, 23, 24, 25, 26, 27] {
+        for answer in [Ok(true), Ok(false)] {
+            assert!(seen.contains(&(wanted, answer)), "{wanted} {answer:?}");
+        }
+    }
+    assert_eq!(seen.len(), 24);
 }

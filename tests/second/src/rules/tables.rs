@@ -36,12 +36,18 @@ impl Row {
         (3..=6).contains(&self.kind)
     }
 
+    /// "Add row kind 7, a group with no signed item at any depth [...]; it is
+    /// sized, compared and tested for letters as a group" (02, b).
+    pub fn is_group(&self) -> bool {
+        matches!(self.kind, 0 | 7)
+    }
+
     /// "Kind 0: size 1 to 65,535, scale 0. Kinds 1, 2: size 1 to 256, scale 0.
     /// Kinds 3, 4: size 1 to 18, scale 0 to size. Kinds 5, 6: size 2 to 19,
     /// scale 0 to size − 1. Offset at most 65,535."
     pub fn keeps_rules(&self) -> bool {
         let measures = match self.kind {
-            0 => (1..=65_535).contains(&self.size) && self.scale == 0,
+            0 | 7 => (1..=65_535).contains(&self.size) && self.scale == 0,
             1 | 2 => (1..=256).contains(&self.size) && self.scale == 0,
             3 | 4 => (1..=18).contains(&self.size) && self.scale <= self.size,
             5 | 6 => (2..=19).contains(&self.size) && self.scale < self.size,

@@ -510,6 +510,37 @@ fn class_words() {
     check_judged(&items, record, "c NUMERIC AND d NOT ALPHABETIC", true);
 }
 
+/// "Add row kind 7 [...]; it is sized, compared and tested for letters as a
+/// group, and NUMERIC on it means all digits" (02, b).
+#[test]
+fn counters_kept_in_groups() {
+    // a and b kind 7, c kind 0 over a, d kind 4, e alphabetic with a digit.
+    let items = [7, 0, 4, 0, 7, 4, 4, 0, 0, 0, 4, 0, 4, 2, 2, 0, 1, 8, 2, 0];
+    let record = b"1234 Az x7";
+    let tables = items_only(&items);
+    for (text, answer) in [
+        ("a NUMERIC", true),
+        ("b NUMERIC", false),
+        ("b ALPHABETIC", true),
+        (
+            "b ALPHABETIC-UPPER OR b ALPHABETIC-LOWER OR a ALPHABETIC",
+            false,
+        ),
+        ("a = c AND a > b", true),
+        ("d < a AND a > e AND e > b", false),
+        ("e > b AND a < e", true),
+    ] {
+        assert_eq!(judged(&tables, text, record, 0), Ok(answer), "{text}");
+    }
+    // A numeric item beside it gives its bytes as they lie.
+    let record = b"12 E*   12";
+    assert_eq!(judged(&tables, "d < a AND d < c", record, 0), Ok(true));
+    for text in ["a ZERO", "a POSITIVE", "c NUMERIC"] {
+        let refusal = judged(&tables, text, record, 0);
+        assert_eq!(refusal, Err(Refusal::at(9, 0)), "{text}");
+    }
+}
+
 #[test]
 fn table_refusals() {
     let refusal = |items: &[u32], literals: &[u32], bytes: &[u8]| {
@@ -529,7 +560,7 @@ fn table_refusals() {
     assert_eq!(refusal(&[0; 3], &[], &[]), (1, 0));
     assert_eq!(refusal(&[0; 260], &[], &[]), (1, 0));
     let fine = [3, 0, 1, 0];
-    let bad_rows: [[u32; 4]; 14] = [
+    let bad_rows: [[u32; 4]; 17] = [
         [0, 0, 0, 0],
         [0, 0, 65_536, 0],
         [0, 0, 1, 1],
@@ -543,7 +574,10 @@ fn table_refusals() {
         [5, 0, 1, 0],
         [6, 0, 20, 0],
         [6, 0, 5, 5],
-        [7, 0, 1, 0],
+        [7, 0, 65_536, 0],
+        [7, 0, 0, 0],
+        [7, 0, 1, 1],
+        [8, 0, 1, 0],
     ];
     for row in bad_rows {
         assert_eq!(refusal(&[fine, row].concat(), &[], &[]), (2, 1));
@@ -553,7 +587,7 @@ fn table_refusals() {
     assert_eq!(refusal(&[], &[3, 0, 2, 0], b"0"), (4, 0));
     assert_eq!(refusal(&[], &[3, 0, 2, 0], b"0 "), (4, 0));
     assert_eq!(refusal(&[], &[5, 0, 2, 0], b"00"), (4, 0));
-    for kind in [0, 1, 4, 6] {
+    for kind in [0, 1, 4, 6, 7] {
         assert_eq!(refusal(&[], &[kind, 0, 2, 0], b"0+"), (4, 0));
     }
 }

@@ -20,16 +20,16 @@ pub fn check_typing(tables: &Tables, tokens: &[u32]) -> Result<usize, Refusal> {
 
 /// "Typing of a simple condition, over kinds": "class: the operand is an item;
 /// NUMERIC for kinds 2 to 6, the alphabetic tests for 0 to 2"; "sign: an item
-/// of kinds 3 to 6". A switch has no typing.
+/// of kinds 3 to 6". Both class tests take kind 7, a group: "NUMERIC on it means
+/// all digits" (02, b). A switch has no typing.
 pub fn typed(tables: &Tables, simple: &Simple) -> bool {
     let subject = simple.subject;
-    let item_of =
-        |low, high| is_item(subject) && (low..=high).contains(&row_of(tables, subject).kind);
+    let kind = || is_item(subject).then(|| row_of(tables, subject).kind);
     match simple.relation % WITH_NOT {
         5..=9 => relation_typed(tables, subject, simple.object),
-        10 => item_of(2, 6),
-        11..=13 => item_of(0, 2),
-        14..=16 => item_of(3, 6),
+        10 => matches!(kind(), Some(2..=7)),
+        11..=13 => matches!(kind(), Some(0..=2 | 7)),
+        14..=16 => matches!(kind(), Some(3..=6)),
         _ => true,
     }
 }

@@ -92,10 +92,11 @@ fn relation_holds(word: u32, order: Ordering) -> bool {
     }
 }
 
-/// "NUMERIC on kind 2 means all digits; on 3 to 6, valid content."
+/// "NUMERIC on kind 2 means all digits; on 3 to 6, valid content." On kind 7
+/// "NUMERIC means all digits" (02, b).
 fn numeric_holds(operand: &Operand) -> bool {
     match operand.row.kind {
-        2 => all_digits(operand.bytes),
+        2 | 7 => all_digits(operand.bytes),
         kind => valid_content(kind, operand.bytes),
     }
 }
@@ -164,7 +165,7 @@ impl Characters<'_> {
 /// without sign. A numeric item beside a group gives its bytes as they lie,
 /// unchecked. A numeric literal gives its digits in both cases."
 fn characters<'a>(side: &Operand<'a>, beside: &Operand) -> Result<Characters<'a>, Stop> {
-    let as_they_lie = !side.row.numeric() || (side.item && beside.row.kind == 0);
+    let as_they_lie = !side.row.numeric() || (side.item && beside.row.is_group());
     if as_they_lie {
         check_letters(side, beside)?;
         return Ok(Characters::Lent(side.bytes));
@@ -174,7 +175,7 @@ fn characters<'a>(side: &Operand<'a>, beside: &Operand) -> Result<Characters<'a>
 
 /// 17, which literals cannot give: none is of kind 1.
 fn check_letters(side: &Operand, beside: &Operand) -> Result<(), Stop> {
-    if side.row.kind != 1 || beside.row.kind == 0 {
+    if side.row.kind != 1 || beside.row.is_group() {
         return Ok(());
     }
     match first_no_letter(side.bytes) {

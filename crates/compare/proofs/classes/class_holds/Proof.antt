@@ -1,24 +1,43 @@
 -- Rests on the word and the kind, which pick their case of `classHolds`, on kind 3 having all digits, and on what each test of the bytes returns.
+use Prim.Native.Nat.{ℕ}
+use mathlib.Core.Path.{_≡_, _∙_}
+use mathlib.Core.Bool.{true, false, _||_}
+use mathlib.Core.List.{List}
+use lib.Dec.{eqb}
+use denote.Ref.{now}
 use borrow.Author.Tests.{ne-eqb}
 use borrow.Author.Needs.{needs}
+use Rattle.content.specs.WrongByte.{validContent}
 use Rattle.content.proofs.WrongByte.{valid-digits}
 use Rattle.compare.specs.Classes.{classHolds}
 use Rattle.compare.proofs.classes.class_holds.Statement.{statement}
 use Rattle.compare.proofs.classes.class_holds.Tie as tie
 
+-- NUMERIC by kind: as kind 3 has it, or valid content
+module _ (word kind : ℕ) (bytes : List ℕ) (numeric : word ≡ 10) where
+  as-digits : eqb kind 2 || eqb kind 7 ≡ true → validContent 3 bytes ≡ classHolds word kind bytes
+  unfolding classHolds
+  as-digits e = rw (numeric, e) (valid-digits bytes)
+
+  as-content : eqb kind 2 || eqb kind 7 ≡ false → validContent kind bytes ≡ classHolds word kind bytes
+  unfolding classHolds
+  as-content e = rw (numeric, e)
+
 valid-content-requires : tie.Need-valid-content-requires
 valid-content-requires c κs = search needs
 
 returns : tie.Need-returns
-unfolding classHolds
-returns c = rw (c .before .before .if1 .taken, c .before .if2 .taken) (rw valid-digits at (c .valid-content .ensures))
+returns c =
+    let a = c .before .before .before .before .args in
+    c .valid-content .ensures ∙ as-digits (a .word) (a .kind) (now (a .bytes)) (c .before .before .if1 .taken) (c .before .if2 .taken)
 
 valid-content-requires-2 : tie.Need-valid-content-requires-2
 valid-content-requires-2 c κs = search needs
 
 returns-2 : tie.Need-returns-2
-unfolding classHolds
-returns-2 c = rw (c .before .before .if1 .taken, ne-eqb _ 2 (c .before .if2 .left)) (c .valid-content2 .ensures)
+returns-2 c =
+    let a = c .before .before .before .before .args in
+    c .valid-content2 .ensures ∙ as-content (a .word) (a .kind) (now (a .bytes)) (c .before .before .if1 .taken) (c .before .if2 .left)
 
 all-in-alphabet-requires : tie.Need-all-in-alphabet-requires
 all-in-alphabet-requires c κs = search needs

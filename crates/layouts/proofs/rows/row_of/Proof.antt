@@ -23,15 +23,19 @@ mul-level c = search needs
 shared-slice-read-level : tie.Need-shared-slice-read-level
 shared-slice-read-level c = search needs
 
-add-size-below : tie.Need-add-size-below
-add-size-below c = search needs
+add-sum-below : tie.Need-add-sum-below
+add-sum-below c = search needs
 
-size-below-requires : tie.Need-size-below-requires
-size-below-requires c κs = search needs
+sum-below-requires : tie.Need-sum-below-requires
+sum-below-requires c κs = search needs
+
+group-kind-requires : tie.Need-group-kind-requires
+group-kind-requires c κs = search needs
 
 returns : tie.Need-returns
-returns c = row-group (now (c .before .before .before .before .before .args .entries)) (c .before .before .before .before .before .args .i)
-    (c .before .before .before .before .before .args .n) (c .before .before .before .before .before .args .offset) (c .before .before .if1 .taken) (c .size-below .ensures)
+returns c = row-group (now (c .before .before .before .before .before .before .args .entries)) (c .before .before .before .before .before .before .args .i)
+    (c .before .before .before .before .before .before .args .n) (c .before .before .before .before .before .before .args .offset) (c .before .before .before .if1 .taken)
+    (c .before .sum-below .ensures) (c .group-kind .ensures)
 
 add-wide : tie.Need-add-wide
 add-wide c = search needs
@@ -69,8 +73,9 @@ row-of-spec =
     shared-slice-read-kind
     mul-level
     shared-slice-read-level
-    add-size-below
-    size-below-requires
+    add-sum-below
+    sum-below-requires
+    group-kind-requires
     returns
     add-wide
     mul-wide

@@ -1,4 +1,4 @@
--- What `row_of` and `is_item` ensure, at each outcome of the test of the word.
+-- What `row_of`, `is_item` and `is_group` ensure, at each outcome of the test of the word.
 use borrow.Author.Tests.{eq-eqb, ne-eqb}
 use borrow.Author.Needs.{needs}
 use Rattle.typing.proofs.shape.class_typed.Statement.{statement}
@@ -16,9 +16,18 @@ returns c = rw (c .before .before .before .before .row-of .ensures, c .before .b
 is-item-requires-2 : tie.Need-is-item-requires-2
 is-item-requires-2 c κs = search needs
 
+is-group-requires : tie.Need-is-group-requires
+is-group-requires c κs = search needs
+
 returns-2 : tie.Need-returns-2
-returns-2 c = rw (c .before .before .before .row-of .ensures, c .before .is-item2 .ensures, ne-eqb _ _ (c .before .before .if1 .left))
+returns-2 c =
+    rw (
+      c .before .before .is-group .ensures,
+      c .before .before .before .before .before .row-of .ensures,
+      c .before .before .before .is-item2 .ensures,
+      ne-eqb _ _ (c .before .before .before .before .if1 .left),
+    )
 
 pub class-typed-spec : {M : Type 1} → statement M
 class-typed-spec =
-    tie.close (tie.spec row-of-requires is-item-requires returns is-item-requires-2 returns-2)
+    tie.close (tie.spec row-of-requires is-item-requires returns is-item-requires-2 is-group-requires returns-2)
