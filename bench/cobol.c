@@ -14,14 +14,17 @@ static void write_item(const struct item *i)
         printf("%c(%u).\n", i->kind == 1 ? 'A' : 'X', i->size);
         return;
     }
-    uint32_t whole = i->size - i->scale - (i->kind >= 5);
+    uint32_t whole = digits_of(i->kind, i->size) - i->scale;
     if (i->kind >= 4)
         printf("S");
     if (whole)
         printf("9(%u)", whole);
     if (i->scale)
         printf("V9(%u)", i->scale);
-    printf("%s.\n", i->kind == 5 ? " SIGN LEADING SEPARATE" : i->kind == 6 ? " SIGN TRAILING SEPARATE" : "");
+    printf("%s.\n", i->kind == 5 ? " SIGN LEADING SEPARATE"
+                    : i->kind == 6 ? " SIGN TRAILING SEPARATE"
+                    : i->kind == 8 ? " COMP-3"
+                                   : "");
 }
 
 static void write_program(int number, const struct condition *c)

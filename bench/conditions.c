@@ -28,6 +28,11 @@ static const struct item long_numbers[] = {{"A", 3, 18, 18, "000000000000000001"
                                            {"C", 5, 19, 18, "-000000000000000001"},
                                            {"D", 6, 19, 17, "000000000000000001+"},
                                            {0}};
+static const struct item amounts[] = {{"A", 8, 7, 2, "0012550"},
+                                      {"B", 8, 7, 2, "0090000"},
+                                      {"C", 8, 5, 0, "-00125"},
+                                      {"D", 4, 7, 2, "0012550"},
+                                      {0}};
 static const struct item groups[] = {{"A", 0, 65535, 0, "LOGBOOK "}, {"B", 0, 65535, 0, "LOGBOOK "}, {0}};
 static const struct item blank[] = {{"A", 3, 18, 0, " "}, {0}};
 static struct item texts[65]; /* A and T1 to T63, all the same */
@@ -37,11 +42,18 @@ static struct item texts[65]; /* A and T1 to T63, all the same */
 static const char *const words[] = {"(", ")", "NOT", "AND", "OR", ">", "<", "=", ">=", "<=", "NUMERIC", "ALPHABETIC",
                                     "ALPHABETIC-LOWER", "ALPHABETIC-UPPER", "POSITIVE", "NEGATIVE", "ZERO"};
 
-static void put_row(uint32_t *table, size_t *numbers, uint32_t kind, size_t offset, size_t size, uint32_t scale)
+size_t bytes_of(const struct item *i) { return i->kind == 8 ? i->size / 2 + 1 : i->size; }
+
+uint32_t digits_of(uint32_t kind, uint32_t size)
 {
-    uint32_t row[] = {kind, (uint32_t)offset, (uint32_t)size, scale};
+    return kind == 5 || kind == 6 ? size - 1 : kind == 3 || kind == 4 || kind == 8 ? size : 0;
+}
+
+static void put_row(uint32_t *table, size_t *numbers, uint32_t kind, size_t offset, size_t size, uint32_t scale, uint32_t digits)
+{
+    uint32_t row[] = {kind, (uint32_t)offset, (uint32_t)size, scale, digits};
     memcpy(table + *numbers, row, sizeof row);
-    *numbers += 4;
+    *numbers += 5;
 }
 
 /* A new row of the literal table: 'text', 12.5 or -12.5. */
@@ -54,8 +66,9 @@ static uint32_t literal(struct condition *c, const char *word)
             scale = (uint32_t)strlen(s + 1);
         else if (*s != '\'')
             c->bytes[c->byte_count++] = (uint8_t)*s;
-    put_row(c->literals, &c->literal_numbers, kind, start, c->byte_count - start, scale);
-    return 65536 + (uint32_t)c->literal_numbers / 4 - 1;
+    size_t size = c->byte_count - start;
+    put_row(c->literals, &c->literal_numbers, kind, start, size, scale, digits_of(kind, (uint32_t)size));
+    return 65536 + (uint32_t)c->literal_numbers / 5 - 1;
 }
 
 static uint32_t token(struct condition *c, const char *word)
@@ -71,6 +84,18 @@ static uint32_t token(struct condition *c, const char *word)
     return literal(c, word);
 }
 
+/* Digits in halves from the right, before the sign. */
+static void pack(const struct item *i, uint8_t *field)
+{
+    int minus = *i->content == '-';
+    size_t halves = 2 * bytes_of(i);
+    for (size_t h = 0; h < halves; h++) {
+        size_t after = halves - 2 - h; /* digits after this one; of the sign's half, past all */
+        uint8_t half = h + 1 == halves ? 3 + minus : after < i->size ? (uint8_t)(i->content[minus + i->size - 1 - after] - '0') : 0;
+        field[h / 2] = (uint8_t)(h % 2 ? field[h / 2] | half : half << 4);
+    }
+}
+
 static struct condition *add(struct condition *list, const char *name, const struct item *given, const char *text)
 {
     struct condition *c = list;
@@ -80,10 +105,14 @@ static struct condition *add(struct condition *list, const char *name, const str
     c->given = given;
     c->text = text;
     for (const struct item *i = given; i->name; i++) {
-        put_row(c->items, &c->item_numbers, i->kind, c->record_size, i->size, i->scale);
-        c->record = realloc(c->record, c->record_size + i->size);
-        for (size_t k = 0; k < i->size; k++)
-            c->record[c->record_size++] = (uint8_t)i->content[k % strlen(i->content)];
+        put_row(c->items, &c->item_numbers, i->kind, c->record_size, bytes_of(i), i->scale, digits_of(i->kind, i->size));
+        c->record = realloc(c->record, c->record_size + bytes_of(i));
+        if (i->kind == 8)
+            pack(i, c->record + c->record_size);
+        else
+            for (size_t k = 0; k < i->size; k++)
+                c->record[c->record_size + k] = (uint8_t)i->content[k % strlen(i->content)];
+        c->record_size += bytes_of(i);
     }
     char *rest = strdup(text);
     for (char *word = strtok(rest, " "); word; word = strtok(NULL, " "))
@@ -95,9 +124,9 @@ static struct condition *add(struct condition *list, const char *name, const str
 /* Rows that are not used, up to 64 in both tables. */
 static void fill_tables(struct condition *c)
 {
-    while (c->item_numbers < 256)
-        put_row(c->items, &c->item_numbers, 0, 0, c->record_size, 0);
-    while (c->literal_numbers < 256)
+    while (c->item_numbers < 320)
+        put_row(c->items, &c->item_numbers, 0, 0, c->record_size, 0, 0);
+    while (c->literal_numbers < 320)
         literal(c, "-123456789012345678");
 }
 
@@ -131,6 +160,10 @@ static void add_measured(void)
     add(measured, "typical: logbook rule, 6 rows", logbook,
         "TAG = 'REPAIR' AND HOURS NUMERIC AND HOURS > 100.5 AND < WARRANTY AND ( BALANCE NEGATIVE OR DRIFT > -2.5 )");
     add(measured, "typical: one text and ALPHABETIC", logbook, "TAG NOT = 'ENTRY' AND KEEPER ALPHABETIC");
+    add(measured, "packed: two of one size", amounts, "A < B");
+    add(measured, "packed: two of other sizes", amounts, "A > C");
+    add(measured, "packed beside display", amounts, "A = D");
+    add(measured, "packed: NUMERIC, sign, limit", amounts, "A NUMERIC AND A POSITIVE AND A < 900.00 AND C NEGATIVE");
 
     /* From here on nearly all simple conditions are judged. Where GnuCOBOL compares by memcmp, the objects differ: else the C
      * compiler behind it would judge one relation for all that are the same. */

@@ -57,17 +57,17 @@ static void make_texts(void)
     texts[3].bytes[texts[3].size - 3] = '?';
 }
 
-static uint32_t rows[2][256], places[2][64];
+static uint32_t rows[2][320], places[2][64];
 static oboecurlew_answer said[2];
 
 static uint32_t library(const struct text *t)
 {
-    return oboecurlew_describe((const uint8_t *)t->bytes, t->size, rows[0], 256, places[0], 64, &said[0]);
+    return oboecurlew_describe((const uint8_t *)t->bytes, t->size, rows[0], 320, places[0], 64, &said[0]);
 }
 
 static uint32_t second(const struct text *t)
 {
-    return second_describe((const uint8_t *)t->bytes, t->size, rows[1], 256, places[1], 64, &said[1]);
+    return second_describe((const uint8_t *)t->bytes, t->size, rows[1], 320, places[1], 64, &said[1]);
 }
 
 static double least(uint32_t (*side)(const struct text *), const struct text *t, int times)

@@ -68,6 +68,18 @@ REPEATED(rust_plan, second_plan(TABLES(c), TOKENS(c), output, 640, &said))
 REPEATED(rust_judge, second_judge(TABLES(c), TOKENS(c), RECORD(c), &said))
 REPEATED(rust_run, second_run(TABLES(c), PLAN(c), RECORD(c), &said))
 
+/* The record as GnuCOBOL takes it: the sign of a packed item is C or D there, and 3 or 4 here (document 001). */
+static void as_cobol(const struct condition *c, uint8_t *lent)
+{
+    memcpy(lent, c->record, c->record_size);
+    uint8_t *end = lent;
+    for (const struct item *i = c->given; i->name; i++) {
+        end += bytes_of(i);
+        if (i->kind == 8)
+            end[-1] = (uint8_t)((end[-1] & 0xf0) | (end[-1] % 16 == 4 ? 0xd : 0xc));
+    }
+}
+
 static uint64_t cobol(const struct condition *c, uint64_t times)
 {
     static int (*programs[CONDITIONS])(uint64_t *, char *, uint8_t *);
@@ -77,8 +89,10 @@ static uint64_t cobol(const struct condition *c, uint64_t times)
         snprintf(name, sizeof name, "CONDITION%d", number);
         *(void **)&programs[number] = dlsym(RTLD_DEFAULT, name);
     }
+    static uint8_t lent[1 << 18];
+    as_cobol(c, lent);
     char truth;
-    programs[number](&times, &truth, c->record);
+    programs[number](&times, &truth, lent);
     return truth == '1';
 }
 
@@ -102,16 +116,32 @@ static int all_judge_alike(const struct condition *c)
     return !c->plan_numbers || library_run(c, 1) == truth;
 }
 
+/* A digit changed, or the sign. */
+static void change_packed(const struct item *i, uint8_t *field)
+{
+    uint32_t after = (uint32_t)rand() % i->size; /* digits after the one that is changed */
+    uint8_t *byte = field + bytes_of(i) - 1 - (after + 1) / 2;
+    uint8_t digit = (uint8_t)(rand() % 3);
+    *byte = (uint8_t)(after % 2 ? (*byte & 0xf0) | digit : (*byte & 0x0f) | digit << 4);
+    field[bytes_of(i) - 1] = (uint8_t)((field[bytes_of(i) - 1] & 0xf0) | (3 + rand() % 2));
+}
+
 /* Other valid contents, such that equal ones come up too. A sign in the last byte stays plus. */
 static void change_record(const struct condition *c)
 {
     uint8_t *byte = c->record;
-    for (const struct item *i = c->given; i->name; i++)
+    for (const struct item *i = c->given; i->name; i++) {
+        if (i->kind == 8) {
+            change_packed(i, byte);
+            byte += bytes_of(i);
+            continue;
+        }
         for (uint32_t k = 0; k < i->size; k++, byte++)
             if ((i->kind == 5 && k == 0) || (i->kind == 6 && k == i->size - 1))
                 *byte = "+-"[rand() % 2];
             else if (rand() % 4 == 0)
                 *byte = (uint8_t)(i->kind < 3 ? "AB z"[rand() % 4] : '0' + rand() % 3);
+    }
 }
 
 static void demand(int same, const struct condition *c)

@@ -1,4 +1,5 @@
-/* Oboecurlew: COBOL conditions, expanded, planned, judged and run; record descriptions, read.
+/* Oboecurlew: COBOL conditions, read and printed, expanded, planned, judged and run; record descriptions, read; records, compared and
+ * mended.
  *
  * Build the archive with `rt staticlib conditions_c` (target/staticlib/libconditions_c.a) and link it.
  *
@@ -7,7 +8,7 @@
  * any numbers and bytes may be passed. A pointer is not null, also where its length is 0; lengths count numbers, or bytes for
  * uint8_t. Output and answer overlap none of the other arguments.
  *
- * items, literals  tables of rows of four numbers: kind, offset, size in bytes, scale
+ * items, literals  tables of rows of five numbers: kind, offset, size in bytes, scale, digits (0 where the kind is not numeric)
  * bytes            the literal bytes
  * tokens           the condition, each made by OBOECURLEW_TOKEN or one of the macros over it
  * output           room for at least 634 numbers holds every expanded form, 640 every plan
@@ -36,7 +37,7 @@ typedef struct {
 /* Refusals, and the place that each gives. */
 enum oboecurlew_refusal {
     OBOECURLEW_OK = 0,
-    OBOECURLEW_ITEM_TABLE = 1,    /* item table length not a multiple of 4, or over 256: 0 */
+    OBOECURLEW_ITEM_TABLE = 1,    /* item table length not a multiple of 5, or over 320: 0 */
     OBOECURLEW_ITEM_ROW = 2,      /* an item row breaks its rules: the first such row */
     OBOECURLEW_LITERAL_TABLE = 3, /* as 1 */
     OBOECURLEW_LITERAL_ROW = 4,   /* as 2 */
@@ -50,11 +51,14 @@ enum oboecurlew_refusal {
     OBOECURLEW_RECORD = 12,       /* the record ends before an item does: the first such item row */
     OBOECURLEW_DATA = 13,         /* invalid numeric data reached: its simple condition; for run, its row; with the byte */
     OBOECURLEW_TEXT = 14,         /* no valid description: the first faulty byte, or the entry that passes a limit */
-    OBOECURLEW_LETTERS = 17       /* invalid alphabetic data reached: as 13 */
+    OBOECURLEW_SPELLING = 15,     /* a faulty word of a condition text: its first byte */
+    OBOECURLEW_NAME = 16,         /* read: an unknown or doubled name, its first byte; print: an item without a name of its own, its token */
+    OBOECURLEW_LETTERS = 17,      /* invalid alphabetic data reached: as 13 */
+    OBOECURLEW_OVERLAP = 19       /* two elementary items share a byte: the first row that overlaps an earlier one */
 };
 
 /* Row kinds: group, alphabetic, alphanumeric, unsigned numeric, sign in the last byte, sign leading or trailing separate, group with no
- * signed item at any depth, which may be tested NUMERIC. */
+ * signed item at any depth, which may be tested NUMERIC, packed with a sign and without. */
 enum oboecurlew_kind {
     OBOECURLEW_GROUP = 0,
     OBOECURLEW_ALPHABETIC_ITEM = 1,
@@ -63,7 +67,9 @@ enum oboecurlew_kind {
     OBOECURLEW_SIGNED = 4,
     OBOECURLEW_SIGN_LEADING = 5,
     OBOECURLEW_SIGN_TRAILING = 6,
-    OBOECURLEW_NUMERIC_GROUP = 7
+    OBOECURLEW_NUMERIC_GROUP = 7,
+    OBOECURLEW_PACKED = 8,
+    OBOECURLEW_PACKED_UNSIGNED = 9
 };
 
 /* A token is kind * 65536 + v. */
@@ -119,10 +125,33 @@ uint32_t oboecurlew_run(const uint32_t *items, size_t item_numbers, const uint32
                         const uint8_t *bytes, size_t byte_count, const uint32_t *plan, size_t plan_numbers,
                         const uint8_t *record, size_t record_size, uint8_t switches, oboecurlew_answer *answer);
 
-/* Reads a record description, upper-case COBOL entries of at most 4,096 bytes, into item rows of four numbers and, for each row, the
- * place of its name or FILLER in the text. 256 numbers and 64 places hold every description. Refusals 14, 10. */
+/* Lists each elementary item whose bytes differ between two copies of a record, in row order: its row, and 'V' where the values differ,
+ * 'B' where numeric values are equal, 'I' where numeric content is invalid in either. 128 numbers hold every list. Refusals 1, 2, 12 (of
+ * either record), 10. */
+uint32_t oboecurlew_differ(const uint32_t *items, size_t item_numbers, const uint8_t *first, size_t first_size, const uint8_t *second,
+                           size_t second_size, uint32_t *output, size_t output_numbers, oboecurlew_answer *answer);
+
+/* Mends a record in place: in each item of kinds 3 to 6, spaces that lead its digits become 0 and a blank separate sign +, where the
+ * item is valid then. Lists each changed byte, three numbers: offset, old, new, by rising offset. Three numbers for each byte of the
+ * record hold every list. Refusals 1, 2, 19, 12, 10, which change neither the record nor the list. */
+uint32_t oboecurlew_mend(const uint32_t *items, size_t item_numbers, uint8_t *record, size_t record_size, uint32_t *changes,
+                         size_t change_numbers, oboecurlew_answer *answer);
+
+/* Reads a record description, upper-case COBOL entries of at most 4,096 bytes, into item rows and, for each row, the place of
+ * its name or FILLER in the text. 320 numbers and 64 places hold every description. Refusals 14, 10. */
 uint32_t oboecurlew_describe(const uint8_t *text, size_t text_size, uint32_t *rows, size_t row_numbers, uint32_t *places,
                              size_t place_count, oboecurlew_answer *answer);
+
+/* A condition as printed, with the names of a description: its tokens, literal rows and literal bytes. 256 tokens, 320 numbers and 2,304
+ * bytes hold what any text gives. */
+uint32_t oboecurlew_read(const uint8_t *description, size_t description_size, const uint8_t *text, size_t text_size,
+                         uint32_t *tokens, size_t token_numbers, uint32_t *literals, size_t literal_numbers, uint8_t *bytes,
+                         size_t byte_count, oboecurlew_answer *answer);
+
+/* Tokens written back as text, one space between words. */
+uint32_t oboecurlew_print(const uint8_t *description, size_t description_size, const uint32_t *literals, size_t literal_numbers,
+                          const uint8_t *bytes, size_t byte_count, const uint32_t *tokens, size_t token_count, uint8_t *text,
+                          size_t text_size, oboecurlew_answer *answer);
 
 #ifdef __cplusplus
 }

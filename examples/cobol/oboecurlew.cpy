@@ -15,8 +15,17 @@
       *> record's bytes in the output's place and then, BY VALUE, the
       *> switch byte; oboecurlew_run the same with a plan in the
       *> tokens' place. oboecurlew_describe takes a text, item rows and
-      *> places, each with its length, and the answer. Numbers are BINARY-LONG UNSIGNED, lengths
-      *> BINARY-DOUBLE UNSIGNED, the switch byte BINARY-CHAR UNSIGNED.
+      *> places, each with its length, and the answer;
+      *> oboecurlew_read a description, a condition's text, tokens,
+      *> literal numbers and literal bytes; oboecurlew_print a
+      *> description, literal numbers, literal bytes, tokens and a
+      *> text; oboecurlew_differ item rows, two records and the output
+      *> for rows and marks; oboecurlew_mend item rows, the record,
+      *> which it mends in place, and the output for offsets, old and
+      *> new bytes. A row is five numbers: kind, offset, size, scale,
+      *> digits. Numbers are
+      *> BINARY-LONG UNSIGNED, lengths BINARY-DOUBLE UNSIGNED, the
+      *> switch byte BINARY-CHAR UNSIGNED.
        01  OBOECURLEW-REFUSAL       BINARY-LONG UNSIGNED.
            88  REFUSED              VALUE 1 THRU 4294967295.
            88  ITEM-TABLE-UNSOUND   VALUE 1.
@@ -33,11 +42,15 @@
            88  RECORD-TOO-SHORT     VALUE 12.
            88  NUMERIC-DATA-INVALID VALUE 13.
            88  TEXT-FAULTY          VALUE 14.
+           88  WORD-FAULTY          VALUE 15.
+           88  NAME-UNKNOWN         VALUE 16.
            88  LETTERS-INVALID      VALUE 17.
+           88  ITEMS-OVERLAP        VALUE 19.
       *> The refusal's place, or 1 for true and 0 for false (judge,
       *> run); for refusals 13 and 17 the item's first wrong byte,
-      *> counted from 0 in the record; how many simple conditions were judged; the
-      *> numbers written to each output. What a call has nothing to say of is 0.
+      *> counted from 0 in the record; how many simple conditions were
+      *> judged; the numbers written to each output. What a call has
+      *> nothing to say of is 0.
        01  OBOECURLEW-ANSWER.
            05  ANSWER-VALUE         BINARY-LONG UNSIGNED.
                88  ANSWER-TRUE      VALUE 1.
@@ -53,6 +66,8 @@
        78  SIGN-LEADING-ROW         VALUE 5.
        78  SIGN-TRAILING-ROW        VALUE 6.
        78  NUMERIC-GROUP-ROW        VALUE 7.
+       78  PACKED-ROW               VALUE 8.
+       78  PACKED-UNSIGNED-ROW      VALUE 9.
       *> Tokens: an item is its row, a literal FIRST-LITERAL plus its
       *> row, a switch FIRST-ON or FIRST-OFF plus its number.
        78  FIRST-ITEM               VALUE 0.

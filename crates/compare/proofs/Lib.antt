@@ -1,2 +1,2 @@
-pub mod NumberLaws
-pub mod CharacterLaws
+pub mod FilledLaws
+pub mod OrderLaws

@@ -6,15 +6,15 @@ ghost use Rattle.compare.specs.Classes.{classHolds};
 use content::fields::valid_content;
 use content::letters::all_in_alphabet;
 
-pub fn class_holds(word: u32, kind: u32, bytes: &[u8]) -> bool
+pub fn class_holds(word: u32, kind: u32, digits: u32, bytes: &[u8]) -> bool
     requires { ⌜ 1 ≤ length (now bytes) ⌝ }
-    ensures { λ r. ⌜ r ≡ classHolds word kind (now (bytes .entry)) ⌝ }
+    ensures { λ r. ⌜ r ≡ classHolds word kind digits (now (bytes .entry)) ⌝ }
 {
     if word == 10 {
         if (kind == 2) | (kind == 7) {
-            return valid_content(3, bytes); // all digits, as kind 3
+            return valid_content(3, digits, bytes); // all digits, as kind 3
         }
-        return valid_content(kind, bytes);
+        return valid_content(kind, digits, bytes);
     }
     all_in_alphabet(word, bytes)
 }

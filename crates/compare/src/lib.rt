@@ -1,8 +1,6 @@
 // Comparisons and tests of plain bytes and numbers.
 
-pub mod characters; // comparison by characters
 pub mod classes; // class tests
-pub mod numbers; // what a numeric field holds, comparison by value
 pub mod orders; // what relation and sign words accept
 pub mod switches; // switches
 

@@ -7,6 +7,8 @@ ghost use Rattle.tables.specs.declared.Verdict.the-variants.{Refused as Unjudge
 ghost use Rattle.tables.specs.Operands.{lend};
 ghost use Rattle.grammar.specs.Judging.{walk};
 ghost use Rattle.rules.specs.Calls.{expandGives, planGives, told, judgeGives, runGives, Leaves};
+use checks::lent::check_record;
+use checks::lent::check_tables;
 use expander::expand::expanded_length;
 use expander::expand::write_expanded;
 use plans::checks::check_plan;
@@ -18,8 +20,6 @@ use tables::Judged;
 use tables::Refusal;
 use tables::Verdict;
 use tables::Written;
-use tables::checks::check_record;
-use tables::checks::check_tables;
 
 // The expanded form of a condition, written from the start of the output.
 pub fn expand(

@@ -4,7 +4,7 @@ ghost use Rattle.descriptions.specs.Calls.{number};
 ghost use Rattle.conditions_c.specs.Description.{narrowed, describedNumbers, Describes};
 use descriptions::Described;
 
-fn narrow(x: usize) -> u32
+pub fn narrow(x: usize) -> u32
     ensures { λ r. ⌜ r ≡ narrowed x ⌝ }
 {
     if x <= 4294967295 {

@@ -6,13 +6,14 @@ use native.Mathlib.Nat.{zero-add}
 use native.Mathlib.Decide.{ℕ-discrete, decLt}
 use mathlib.Core.Path.{_≡_, refl, sym, ap, ap₂, _∙_}
 use mathlib.Core.List.{List, [], _∷_, _++_}
-use mathlib.Core.Bool.{Bool, true, false, cond, _&&_, and-false, false≢true}
+use mathlib.Core.Bool.{Bool, true, false, cond, not, _&&_, _||_, and-false, and-true, false≢true}
 use lib.ListN.{length, getD, take, drop, drop-of-length-le}
 use lib.Seq.{take-suc, drop-cons, take-all}
 use lib.Dec.{eqb, leb}
-use borrow.Author.Tests.{ne-eqb, eq-eqb, lt-leb}
+use borrow.Author.Tests.{ne-eqb, eq-eqb, eqb-true, lt-leb}
 use Rattle.content.specs.Content.{all, isDigit, isSign, isSignedDigit, firstByte, butFirst, butLast, lastByte}
 use Rattle.content.specs.Letters.{inAlphabet}
+use Rattle.content.specs.Packed.{isPacked, twoDigits, digitAndSign, leads}
 use Rattle.content.specs.WrongByte.{Wrong, Nowhere, At, rightByte, rightAt, firstFrom, firstWrong, nowhere, validContent}
 use Rattle.content.proofs.Bytes.{but-last-length}
 
@@ -89,15 +90,15 @@ split-last bytes h =
     let e : suc (length bytes - 1) ≡ length bytes = omega arith in
     sym (take-all (length bytes) bytes (omega arith)) ∙ ap (λ n. take n bytes) (sym e) ∙ take-suc bytes (length bytes - 1) 0 (omega arith)
 
--- all digits but the last byte, which has a test of its own
-clean-last : (right : ℕ → ℕ → Bool) (test : ℕ → Bool) (bytes : List ℕ) → 1 ≤ length bytes
-    → ((i : ℕ) → i < length bytes - 1 → (b : ℕ) → right i b ≡ isDigit b) → ((b : ℕ) → right (length bytes - 1) b ≡ test b)
-    → nowhere (firstFrom right 0 bytes) ≡ all isDigit (butLast bytes) && test (lastByte bytes)
-clean-last right test bytes h each last =
+-- all bytes by one test but the last, which has a test of its own
+clean-last : (right : ℕ → ℕ → Bool) (other test : ℕ → Bool) (bytes : List ℕ) → 1 ≤ length bytes
+    → ((i : ℕ) → i < length bytes - 1 → (b : ℕ) → right i b ≡ other b) → ((b : ℕ) → right (length bytes - 1) b ≡ test b)
+    → nowhere (firstFrom right 0 bytes) ≡ all other (butLast bytes) && test (lastByte bytes)
+clean-last right other test bytes h each last =
     ap (λ w. nowhere (firstFrom right 0 w)) (split-last bytes h)
     ∙ clean-append right 0 (butLast bytes) (lastByte bytes ∷ [])
     ∙ ap₂ _&&_
-    (clean-all right isDigit 0 (butLast bytes) (λ i l m. each i (omega (arith, but-last-length bytes))))
+    (clean-all right other 0 (butLast bytes) (λ i l m. each i (omega (arith, but-last-length bytes))))
     (clean-one right (0 + length (butLast bytes)) (lastByte bytes)
     ∙ (let e : 0 + length (butLast bytes) ≡ length bytes - 1 = omega (arith, but-last-length bytes) in rw e (last (lastByte bytes))))
 
@@ -122,46 +123,91 @@ any [] = refl
 any (b ∷ bytes) = any bytes
 
 -- valid content by the parts of a field, as the code tests it
-pub valid-digits : (bytes : List ℕ) → validContent 3 bytes ≡ all isDigit bytes
+pub valid-digits : (digits : ℕ) (bytes : List ℕ) → validContent 3 digits bytes ≡ all isDigit bytes
 unfolding validContent
-valid-digits bytes = clean-all (rightAt 3 (length bytes)) isDigit 0 bytes (λ i l m b. refl)
+valid-digits digits bytes = clean-all (rightAt 3 digits (length bytes)) isDigit 0 bytes (λ i l m b. refl)
 
-pub valid-signed : (bytes : List ℕ) → 1 ≤ length bytes → validContent 4 bytes ≡ all isDigit (butLast bytes) && isSignedDigit (lastByte bytes)
+pub valid-signed : (digits : ℕ) (bytes : List ℕ) → 1 ≤ length bytes → validContent 4 digits bytes ≡ all isDigit (butLast bytes) && isSignedDigit (lastByte bytes)
 unfolding validContent
-valid-signed bytes h =
-    clean-last (rightAt 4 (length bytes)) isSignedDigit bytes h
+valid-signed digits bytes h =
+    clean-last (rightAt 4 digits (length bytes)) isDigit isSignedDigit bytes h
     (λ i l b. rw (ne-eqb (i + 1) (length bytes) (omega arith)))
     (λ b. rw (eq-eqb (length bytes - 1 + 1) (length bytes) (omega arith)))
 
-pub valid-leading : (bytes : List ℕ) → 1 ≤ length bytes → validContent 5 bytes ≡ isSign (firstByte bytes) && all isDigit (butFirst bytes)
+pub valid-leading : (digits : ℕ) (bytes : List ℕ) → 1 ≤ length bytes → validContent 5 digits bytes ≡ isSign (firstByte bytes) && all isDigit (butFirst bytes)
 unfolding validContent
-valid-leading bytes h = clean-first (rightAt 5 (length bytes)) isSign bytes h (λ b. refl) (λ i l b. rw (ne-eqb i 0 (omega arith)))
+valid-leading digits bytes h = clean-first (rightAt 5 digits (length bytes)) isSign bytes h (λ b. refl) (λ i l b. rw (ne-eqb i 0 (omega arith)))
 
-pub valid-trailing : (bytes : List ℕ) → 1 ≤ length bytes → validContent 6 bytes ≡ all isDigit (butLast bytes) && isSign (lastByte bytes)
+pub valid-trailing : (digits : ℕ) (bytes : List ℕ) → 1 ≤ length bytes → validContent 6 digits bytes ≡ all isDigit (butLast bytes) && isSign (lastByte bytes)
 unfolding validContent
-valid-trailing bytes h =
-    clean-last (rightAt 6 (length bytes)) isSign bytes h
+valid-trailing digits bytes h =
+    clean-last (rightAt 6 digits (length bytes)) isDigit isSign bytes h
     (λ i l b. rw (ne-eqb (i + 1) (length bytes) (omega arith)))
     (λ b. rw (eq-eqb (length bytes - 1 + 1) (length bytes) (omega arith)))
 
-pub valid-letters : (bytes : List ℕ) → validContent 1 bytes ≡ all (inAlphabet 11) bytes
+pub valid-letters : (digits : ℕ) (bytes : List ℕ) → validContent 1 digits bytes ≡ all (inAlphabet 11) bytes
 unfolding validContent
-valid-letters bytes = clean-all (rightAt 1 (length bytes)) (inAlphabet 11) 0 bytes (λ i l m b. refl)
+valid-letters digits bytes = clean-all (rightAt 1 digits (length bytes)) (inAlphabet 11) 0 bytes (λ i l m b. refl)
 
-pub valid-other : (kind : ℕ) (bytes : List ℕ) → ¬ (kind ≡ 3) → ¬ (kind ≡ 4) → ¬ (kind ≡ 5) → ¬ (kind ≡ 6) → ¬ (kind ≡ 1) → validContent kind bytes ≡ true
+pub valid-other : (kind digits : ℕ) (bytes : List ℕ) → ¬ (kind ≡ 3) → ¬ (kind ≡ 4) → ¬ (kind ≡ 5) → ¬ (kind ≡ 6) → ¬ (kind ≡ 1)
+    → isPacked kind ≡ false → validContent kind digits bytes ≡ true
 unfolding validContent
-valid-other kind bytes p q r s t =
-    clean-all (rightAt kind (length bytes)) (λ _. true) 0 bytes
-    (λ i l m b. rw (ne-eqb kind 1 t, ne-eqb kind 4 q, ne-eqb kind 5 r, ne-eqb kind 6 s, outside kind p q r s))
+valid-other kind digits bytes p q r s t u =
+    clean-all (rightAt kind digits (length bytes)) (λ _. true) 0 bytes
+    (λ i l m b. rw (ne-eqb kind 1 t, ne-eqb kind 4 q, ne-eqb kind 5 r, ne-eqb kind 6 s, outside kind p q r s, u))
     ∙ any bytes
 
--- content that is not valid has a first wrong byte, which stands inside the field
-pub some-wrong : (kind : ℕ) (bytes : List ℕ) → validContent kind bytes ≡ false → nowhere (firstWrong kind bytes) ≡ false
-unfolding validContent
-some-wrong kind bytes e = e
+-- a packed field: its pairs of digits, its last byte, and the half that leads
+clean-both : (p q : ℕ → ℕ → Bool) (at : ℕ) (bytes : List ℕ)
+    → nowhere (firstFrom (λ i b. p i b && q i b) at bytes) ≡ nowhere (firstFrom p at bytes) && nowhere (firstFrom q at bytes)
+unfolding firstFrom
+clean-both p q at [] = refl
+clean-both p q at (b ∷ bytes) = by (p at b) (q at b) (clean-both p q (suc at) bytes)
+  where
+    by : (s t : Bool)
+        → nowhere (firstFrom (λ i b. p i b && q i b) (suc at) bytes) ≡ nowhere (firstFrom p (suc at) bytes) && nowhere (firstFrom q (suc at) bytes)
+        → nowhere (cond (s && t) (firstFrom (λ i b. p i b && q i b) (suc at) bytes) (At at))
+        ≡ nowhere (cond s (firstFrom p (suc at) bytes) (At at)) && nowhere (cond t (firstFrom q (suc at) bytes) (At at))
+    by true true e = e
+    by true false e = sym (and-false (nowhere (firstFrom p (suc at) bytes)))
+    by false t e = refl
 
-pub wrong-within : (kind : ℕ) (bytes : List ℕ) {i : ℕ} → firstWrong kind bytes ≡ At i → i < length bytes
-wrong-within kind bytes {i} e = omega (arith, wrong-inside (rightAt kind (length bytes)) 0 bytes i e)
+clean-lead : (test : ℕ → Bool) (bytes : List ℕ) → 1 ≤ length bytes
+    → nowhere (firstFrom (λ i b. not (eqb i 0) || test b) 0 bytes) ≡ test (firstByte bytes)
+clean-lead test [] h = absurd (omega arith)
+clean-lead test (b ∷ bytes) h =
+    clean-append (λ i c. not (eqb i 0) || test c) 0 (b ∷ []) bytes
+    ∙ ap₂ _&&_ (clean-one (λ i c. not (eqb i 0) || test c) 0 b)
+    (clean-all (λ i c. not (eqb i 0) || test c) (λ _. true) 1 bytes (λ i l m c. rw (ne-eqb i 0 (omega arith))) ∙ any bytes)
+    ∙ and-true (test b)
+
+module _ (kind digits : ℕ) (bytes : List ℕ) (h : 1 ≤ length bytes) where
+  packed-parts : nowhere (firstFrom (λ i b. (not (eqb (i + 1) (length bytes)) || digitAndSign kind b) && (eqb (i + 1) (length bytes) || twoDigits b) && (not (eqb i 0) || leads digits b)) 0 bytes)
+      ≡ all twoDigits (butLast bytes) && digitAndSign kind (lastByte bytes) && leads digits (firstByte bytes)
+  packed-parts =
+      clean-both (λ i b. (not (eqb (i + 1) (length bytes)) || digitAndSign kind b) && (eqb (i + 1) (length bytes) || twoDigits b)) (λ i b. not (eqb i 0) || leads digits b) 0 bytes
+      ∙ ap₂ _&&_
+      (clean-last (λ i b. (not (eqb (i + 1) (length bytes)) || digitAndSign kind b) && (eqb (i + 1) (length bytes) || twoDigits b)) twoDigits (digitAndSign kind) bytes h
+      (λ i l b. rw (ne-eqb (i + 1) (length bytes) (omega arith)))
+      (λ b. rw (eq-eqb (length bytes - 1 + 1) (length bytes) (omega arith)) (and-true (digitAndSign kind b))))
+      (clean-lead (leads digits) bytes h)
+
+pub valid-packed : (kind digits : ℕ) (bytes : List ℕ) → 1 ≤ length bytes → isPacked kind ≡ true
+    → validContent kind digits bytes ≡ all twoDigits (butLast bytes) && digitAndSign kind (lastByte bytes) && leads digits (firstByte bytes)
+unfolding validContent
+valid-packed kind digits bytes h e = by (ℕ-discrete kind 8)
+  where
+    by : Dec (kind ≡ 8) → nowhere (firstWrong kind digits bytes) ≡ all twoDigits (butLast bytes) && digitAndSign kind (lastByte bytes) && leads digits (firstByte bytes)
+    by (yes p) = rw p (packed-parts 8 digits bytes h)
+    by (no n) = rw (eqb-true kind 9 (rw (ne-eqb kind 8 n) at e)) (packed-parts 9 digits bytes h)
+
+-- content that is not valid has a first wrong byte, which stands inside the field
+pub some-wrong : (kind digits : ℕ) (bytes : List ℕ) → validContent kind digits bytes ≡ false → nowhere (firstWrong kind digits bytes) ≡ false
+unfolding validContent
+some-wrong kind digits bytes e = e
+
+pub wrong-within : (kind digits : ℕ) (bytes : List ℕ) {i : ℕ} → firstWrong kind digits bytes ≡ At i → i < length bytes
+wrong-within kind digits bytes {i} e = omega (arith, wrong-inside (rightAt kind digits (length bytes)) 0 bytes i e)
 
 -- What "first wrong byte" says: byte i breaks its rule and none before it does; or no byte does.
 module _ (right : ℕ → ℕ → Bool) (bytes : List ℕ) where

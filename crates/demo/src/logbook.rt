@@ -9,8 +9,8 @@ use crate::tokens::LIMIT;
 use crate::words::word;
 use tables::rows::row_at;
 
-// A row for each field: kind, offset, size, digits after the point. Kind 2 is characters, 3 digits, 4 digits with a sign.
-pub const FIELDS: [u32; 16] = [2, 0, 6, 0, 3, 6, 5, 1, 3, 11, 4, 0, 4, 15, 2, 0];
+// A row for each field: kind, offset, size, digits after the point, digits in all. Kind 2 is characters, 3 digits, 4 digits with a sign.
+pub const FIELDS: [u32; 20] = [2, 0, 6, 0, 0, 3, 6, 5, 1, 5, 3, 11, 4, 0, 4, 4, 15, 2, 0, 2];
 
 pub const FIELD_COUNT: usize = 4;
 

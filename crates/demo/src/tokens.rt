@@ -40,7 +40,7 @@ pub const NUMERIC: u32 = WORD + 10;
 pub const NEGATIVE: u32 = WORD + 15;
 
 // A row for each literal: kind, offset, size, digits after the point. Kind 2 is characters, 3 digits.
-pub const LITERALS: [u32; 12] = [2, 0, 5, 0, 2, 5, 5, 0, 3, 10, 4, 0];
+pub const LITERALS: [u32; 15] = [2, 0, 5, 0, 0, 2, 5, 5, 0, 0, 3, 10, 4, 0, 4];
 
 pub const LITERAL_BYTES: [u8; 14] = *b"TU-55TU-569000";
 

@@ -106,7 +106,7 @@ module _ (text flat stack : List ℕ) (depth waiting count at : ℕ) (G : Going 
       pub y : Noted
       pub is : entryAt stack depth waiting text p ≡ Whole y d k
       pub capped : x ≡ capNoted y
-      pub scale : y .scale ≤ y .size
+      pub scale : y .scale ≤ y .digits
       pub ends : (p + 5 ≤ k) × (k ≤ length text)
       pub near : (d ≤ depth + 1) × (y .level ≤ 99)
 
@@ -129,14 +129,14 @@ module _ (text flat stack : List ℕ) (depth waiting count at : ℕ) (G : Going 
             }
         by (Fault m) j i w n = let z : _≡_ {A = ℕ} 0 1 = cc in absurd (omega arith)
 
-    module _ {x : Noted} {d k : ℕ} (g : r ≡ Whole x d k) (room : 4926 ≤ length flat) where
+    module _ {x : Noted} {d k : ℕ} (g : r ≡ Whole x d k) (room : 5747 ≤ length flat) where
       abbrev X : Exact x d k
       X = exactly g
 
       abbrev after : List ℕ
-      after = sets flat (count * 6) (numbersOf x)
+      after = sets flat (count * 7) (numbersOf x)
 
-      pub fits : count * 6 + 5 < length flat
+      pub fits : count * 7 + 6 < length flat
       fits = omega (arith, G .few, G .inside)
 
       pub fits-stack : d ≤ length stack

@@ -1,4 +1,4 @@
--- Entries in a buffer, six numbers each, and what reading a text leaves there.
+-- Entries in a buffer, seven numbers each, and what reading a text leaves there.
 use mathlib.Core.Path.{_≡_}
 use mathlib.Core.Bool.{Bool, true, false, cond}
 use mathlib.Core.List.{List, [], _∷_, map}
@@ -12,11 +12,13 @@ use Rattle.entries.specs.Entries.{noted, capNoted, entryOf}
 use Rattle.describer.specs.declared.Found.{Found}
 
 abbrev pub numbersOf : Noted → List ℕ
-numbersOf x = x .level ∷ x .place ∷ x .named ∷ x .kind ∷ x .size ∷ x .scale ∷ []
+numbersOf x = x .level ∷ x .place ∷ x .named ∷ x .kind ∷ x .size ∷ x .scale ∷ x .digits ∷ []
 
 -- the entry at index i
 abbrev pub notedAt : List ℕ → ℕ → Noted
-notedAt flat i = noted (getD flat (i * 6) 0) (getD flat (i * 6 + 1) 0) (getD flat (i * 6 + 2) 0) (getD flat (i * 6 + 3) 0) (getD flat (i * 6 + 4) 0) (getD flat (i * 6 + 5) 0)
+notedAt flat i =
+    noted (getD flat (i * 7) 0) (getD flat (i * 7 + 1) 0) (getD flat (i * 7 + 2) 0) (getD flat (i * 7 + 3) 0) (getD flat (i * 7 + 4) 0) (getD flat (i * 7 + 5) 0)
+    (getD flat (i * 7 + 6) 0)
 
 -- n entries from index i on
 unfoldable pub notedFrom : List ℕ → ℕ → ℕ → List Noted
@@ -31,10 +33,10 @@ pushed stack (suc d) l = set stack d l
 abbrev pub waitingAfter : Noted → ℕ
 waitingAfter x = cond (eqb (x .kind) 0) (x .level + 1) 0
 
--- No scale is above its size.
+-- No scale is above its digits.
 abbrev pub Scaled : List Noted → Type 0
 Scaled [] = Unit {0}
-Scaled (y ∷ ys) = (y .scale ≤ y .size) × Scaled ys
+Scaled (y ∷ ys) = (y .scale ≤ y .digits) × Scaled ys
 
 abbrev pub readingOf : Bool → List Entry → ℕ → Reading
 readingOf true es place = read (record { rows = layout 0 es; entries = es })

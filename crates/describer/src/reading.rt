@@ -23,9 +23,9 @@ fn parted_at(text: &[u8], k: usize) -> bool
     is_blank(text[k])
 }
 
-// The entries of a text of at most 4,096 bytes, each in six numbers. `stack` is for the open groups.
+// The entries of a text of at most 4,096 bytes, each in seven numbers. `stack` is for the open groups.
 pub fn read_entries(text: &[u8], entries: &mut [u32], stack: &mut [u32]) -> Found
-    requires { ⌜ (length (now text) ≤ 4096) × ((4926 ≤ length (now entries)) × (821 ≤ length (now stack))) ⌝ }
+    requires { ⌜ (length (now text) ≤ 4096) × ((5747 ≤ length (now entries)) × (821 ≤ length (now stack))) ⌝ }
     ensures { λ r. ⌜ Reads (now (text .entry)) (now (entries .exit)) r ⌝ }
 {
     let mut depth: usize = 0;

@@ -1,4 +1,4 @@
-// Entries in a lent buffer, six numbers each.
+// Entries in a lent buffer, seven numbers each.
 ghost use mathlib.Core.Path.{_≡_};
 ghost use Prim.Native.Nat.{_+_, _*_, _<_, _≤_};
 ghost use lib.ListN.{length};
@@ -7,16 +7,17 @@ ghost use Rattle.describer.specs.Stored.{numbersOf, pushed, waitingAfter
 use entries::Noted;
 
 pub fn store(entries: &mut [u32], i: usize, x: Noted)
-    requires { ⌜ i * 6 + 5 < length (now entries) ⌝ }
-    ensures { λ _. ⌜ now (entries .exit) ≡ sets (now (entries .entry)) (i * 6) (numbersOf x) ⌝ }
+    requires { ⌜ i * 7 + 6 < length (now entries) ⌝ }
+    ensures { λ _. ⌜ now (entries .exit) ≡ sets (now (entries .entry)) (i * 7) (numbersOf x) ⌝ }
 {
-    let at = i * 6;
+    let at = i * 7;
     entries[at] = x.level;
     entries[at + 1] = x.place;
     entries[at + 2] = x.named;
     entries[at + 3] = x.kind;
     entries[at + 4] = x.size;
     entries[at + 5] = x.scale;
+    entries[at + 6] = x.digits;
 }
 
 // The level number of the innermost group's members, where a group is open.

@@ -212,8 +212,8 @@ pictures-end = record { closed = closed; goes-on = goes-on; once = λ u. rw (no-
 
 -- what a picture leads to
 abbrev pub onPictured : List ℕ → Started → ℕ → Pictured → Reading
-onPictured text h n (Pictured.Ended kind size scale k) = joined text k (finished h n (item kind size scale))
-onPictured text h n (Pictured.Signed i j k) = joined text k (sign h n i j)
+onPictured text h n (Pictured.Ended kind size scale digits k) = joined text k (finished h n (item kind size scale digits))
+onPictured text h n (Pictured.Number s i j k) = joined text k (sign h n s i j)
 onPictured text h n (Pictured.Fault k) = faulty (h .earlier) k
 
 module _ (text : List ℕ) (e : ℕ) (h : Started) (n : ℕ) where
@@ -228,8 +228,7 @@ module _ (text : List ℕ) (e : ℕ) (h : Started) (n : ℕ) where
 
   open-leads : (k : ℕ) (s : Shape) → leads text (orElse (unfinished h n s) none) (picture h n) k ≡ onPictured text h n (openPicture k s)
   open-leads k (characters c m) = refl
-  open-leads k (number false i j) = refl
-  open-leads k (number true i j) = refl
+  open-leads k (number s i j) = refl
 
   picture-decided : (p m : ℕ) (bs : List ℕ) → unended (take m bs) ≡ none → (o : Option Shape) (d : Bool) → result pictures nothing (take m bs) ≡ o → eqb (getD (drop m bs) 0 0) 0x2e ≡ d →
       leads text (next (picture h n) p (take (cond (d && isSome o) (suc m) m) bs)) (picture h n) (p + cond (d && isSome o) (suc m) m) ≡ onPictured text h n (pictured (p + m) o d)

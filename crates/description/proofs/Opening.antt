@@ -5,14 +5,15 @@ use mathlib.Core.Option.{Option, none, some}
 use mathlib.Core.List.{List, [], _∷_, _++_, append-nil}
 use Prim.Native.Nat.{ℕ, zero, suc, _+_, _*_, _-_, _≤_, _<_}
 use native.Mathlib.Omega.{arith}
+use borrow.Author.Tests.{eqb-true}
 use lib.Dec.{eqb, leb}
 use lib.ListN.{length, getD, take, drop, length-drop, drop-of-length-le}
 use lib.Seq.{getD-drop, drop-drop, drop-cons}
 use Rattle.description.specs.Machine.{bind, closed, run}
 use Rattle.description.specs.Words.{mid, pause}
-use Rattle.description.specs.Grammar.{bytes, ended, isBlank, isDigit, item, Entry, Table}
+use Rattle.description.specs.Grammar.{bytes, ended, isBlank, isDigit, item, packed, Entry, Table}
 use Rattle.description.specs.Reader.{isSome, given, readLevel, Groups, enter, enters, beginsLevel, Started, State, level, name, pic, picture, sign, side, separate, finished, next, begins, ends, descriptions, entriesOf, layout, Reading, read, faulty, reading}
-use Rattle.description.specs.Stages.{blanks, inked, reach, literalAt, sideAt, pictureAt, signAt, clausesAt, afterPic, afterPicture, afterSign, afterSide, afterSeparate, leveled, levelAt, onward, joined}
+use Rattle.description.specs.Stages.{blanks, inked, reach, literalAt, sideAt, pictureAt, signAt, packedAt, usageAt, clausesAt, afterPic, afterPicture, afterSign, afterSide, afterSeparate, afterPacked, leveled, levelAt, onward, joined}
 use Rattle.description.specs.declared.Reached.{Reached}
 use Rattle.description.specs.declared.Reached.the-variants as Reached
 use Rattle.description.specs.declared.Sided.{Sided}
@@ -27,17 +28,17 @@ use Rattle.description.proofs.Bytes.{apart, is-some, bind-some}
 use Rattle.description.proofs.Takes.{started, level-read}
 use Rattle.description.proofs.Fit.{begins-level}
 use Rattle.description.proofs.Stages.{from-word, onward-inked, inked-blanks, arrive, after-word}
-use Rattle.description.proofs.Phases.{onReached, onSided, pic-leads, sign-leads, side-leads, separate-leads}
+use Rattle.description.proofs.Phases.{onReached, onSided, pic-leads, sign-leads, packed-leads, side-leads, separate-leads}
 use Rattle.description.proofs.Ended.{onPictured, picture-leads}
 
 -- What follows an item's name.
 abbrev pub onClauses : List ℕ → Started → ℕ → Clauses → Reading
-onClauses text h n (Clauses.Ended kind size scale k) = joined text k (finished h n (item kind size scale))
+onClauses text h n (Clauses.Ended kind size scale digits k) = joined text k (finished h n (item kind size scale digits))
 onClauses text h n (Clauses.Fault k) = faulty (h .earlier) k
 
 module _ (text : List ℕ) (h : Started) (n : ℕ) where
   after-separate : (c i j : ℕ) (x : Reached) →
-      onReached text (separate h n c i j) (finished h n (item c (i + j + 1) j)) x ≡ onClauses text h n (afterSeparate c i j x)
+      onReached text (separate h n c i j) (finished h n (item c (i + j + 1) j (i + j))) x ≡ onClauses text h n (afterSeparate c i j x)
   after-separate c i j (Reached.Word k) = refl
   after-separate c i j (Reached.Fault k) = refl
 
@@ -45,14 +46,27 @@ module _ (text : List ℕ) (h : Started) (n : ℕ) where
   after-side i j (Sided.Side c k) = separate-leads text k h n c i j ∙ after-separate c i j (literalAt (ended (bytes "SEPARATE")) text k)
   after-side i j (Sided.Fault k) = refl
 
-  after-sign : (i j : ℕ) (x : Reached) → onReached text (sign h n i j) (side h n i j) x ≡ onClauses text h n (afterSign text i j x)
+  after-sign : (i j : ℕ) (x : Reached) → onReached text (sign h n true i j) (side h n i j) x ≡ onClauses text h n (afterSign text i j x)
   after-sign i j (Reached.Word k) = side-leads text k h n i j ∙ after-side i j (sideAt text k)
   after-sign i j (Reached.Fault k) = refl
 
+  after-packed : (s : Bool) (i j : ℕ) (x : Reached) →
+      onReached text (sign h n s i j) (finished h n (packed s i j)) x ≡ onClauses text h n (afterPacked s i j x)
+  after-packed s i j (Reached.Word k) = refl
+  after-packed s i j (Reached.Fault k) = refl
+
+  usage-leads : (s : Bool) (i j k : ℕ) → joined text k (sign h n s i j) ≡ onClauses text h n (usageAt s i j text k)
+  unfolding usageAt signAt packedAt
+  usage-leads s i j k = by s (eqb (getD text (inked text k) 0) 0x53) refl
+    where
+      by : (s t : Bool) → eqb (getD text (inked text k) 0) 0x53 ≡ t → joined text k (sign h n s i j) ≡ onClauses text h n (cond (s && t) (signAt i j text k) (packedAt s i j text k))
+      by true true e = sign-leads text k h n i j (eqb-true (getD text (inked text k) 0) 0x53 e) ∙ after-sign i j (literalAt (bytes "SIGN") text k)
+      by true false e = packed-leads text k h n true i j e ∙ after-packed true i j (literalAt (ended (bytes "COMP-3")) text k)
+      by false t e = packed-leads text k h n false i j refl ∙ after-packed false i j (literalAt (ended (bytes "COMP-3")) text k)
+
   after-picture : (x : Pictured) → onPictured text h n x ≡ onClauses text h n (afterPicture text x)
-  unfolding signAt
-  after-picture (Pictured.Ended kind size scale k) = refl
-  after-picture (Pictured.Signed i j k) = sign-leads text k h n i j ∙ after-sign i j (literalAt (bytes "SIGN") text k)
+  after-picture (Pictured.Ended kind size scale digits k) = refl
+  after-picture (Pictured.Number s i j k) = usage-leads s i j k
   after-picture (Pictured.Fault k) = refl
 
   after-pic : (x : Reached) → onReached text (pic h n) (picture h n) x ≡ onClauses text h n (afterPic text x)

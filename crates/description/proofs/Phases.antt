@@ -11,7 +11,7 @@ use lib.Dec.{eqb, leb}
 use lib.ListN.{length, getD, take, drop, length-take}
 use lib.Seq.{append-snoc, drop-drop, getD-drop}
 use Rattle.description.specs.Machine.{bind, after, result}
-use Rattle.description.specs.Grammar.{bytes, same, ended, Entry, item}
+use Rattle.description.specs.Grammar.{bytes, same, ended, Entry, item, packed}
 use Rattle.description.specs.Reader.{given, orElse, prefix, unended, Started, State, name, pic, picture, sign, side, separate, finished, opened, next, begins, ends, entriesOf, Reading, faulty}
 use Rattle.description.specs.Stages.{inked, reach, common, met, literalAt, sided, sideAt, joined}
 use Rattle.description.specs.declared.Reached.{Reached}
@@ -103,24 +103,18 @@ module _ (text : List ℕ) (e : ℕ) (q r : State) (M : Middle q) (word : List �
           word-leads text e q M (eqb-false (inked text e) e h)
           ∙ rw (reaches, g (common word rest), same-common word rest) (literal-met (common word rest) (eqb (common word rest) (length word)) refl)
 
--- PIC, SIGN and SEPARATE.
+-- PIC and SEPARATE.
 pub pic-leads : (text : List ℕ) (e : ℕ) (h : Started) (n : ℕ) →
     joined text e (pic h n) ≡ onReached text (pic h n) (picture h n) (literalAt (bytes "PIC") text e)
 unfolding next begins same
 pic-leads text e h n = literal-leads text e (pic h n) (picture h n) (record { unended = refl; asks = λ p. refl }) (bytes "PIC") (λ k. refl) (λ k. refl)
 
-pub sign-leads : (text : List ℕ) (e : ℕ) (h : Started) (n i j : ℕ) →
-    joined text e (sign h n i j) ≡ onReached text (sign h n i j) (side h n i j) (literalAt (bytes "SIGN") text e)
-unfolding next begins same
-sign-leads text e h n i j =
-    literal-leads text e (sign h n i j) (side h n i j) (record { unended = refl; asks = λ p. refl }) (bytes "SIGN") (λ k. refl) (λ k. refl)
-
 pub separate-leads : (text : List ℕ) (e : ℕ) (h : Started) (n c i j : ℕ) →
     joined text e (separate h n c i j)
-    ≡ onReached text (separate h n c i j) (finished h n (item c (i + j + 1) j)) (literalAt (ended (bytes "SEPARATE")) text e)
+    ≡ onReached text (separate h n c i j) (finished h n (item c (i + j + 1) j (i + j))) (literalAt (ended (bytes "SEPARATE")) text e)
 unfolding next begins same
 separate-leads text e h n c i j =
-    literal-leads text e (separate h n c i j) (finished h n (item c (i + j + 1) j)) (record { unended = refl; asks = λ p. refl }) (ended (bytes "SEPARATE"))
+    literal-leads text e (separate h n c i j) (finished h n (item c (i + j + 1) j (i + j))) (record { unended = refl; asks = λ p. refl }) (ended (bytes "SEPARATE"))
     (λ k. refl) (λ k. refl)
 
 -- LEADING or TRAILING: the first byte tells which.
@@ -133,14 +127,18 @@ sided-leads : (text : List ℕ) (h : Started) (n i j c : ℕ) (x : Reached) →
 sided-leads text h n i j c (Reached.Word k) = refl
 sided-leads text h n i j c (Reached.Fault k) = refl
 
+or-nothing : (o : Option State) → orElse o none ≡ o
+or-nothing none = refl
+or-nothing (some r) = refl
+
+-- the byte at which a word begins
+first : (text : List ℕ) (e : ℕ) → getD (drop (inked text e) text) 0 0 ≡ getD text (inked text e) 0
+first text e = let z : inked text e + 0 ≡ inked text e = omega arith in getD-drop (inked text e) text 0 0 ∙ rw z
+
 module _ (h : Started) (n i j p : ℕ) where
   side-middle : Middle (side h n i j)
   unfolding next same
   side-middle = record { unended = refl; asks = λ p. refl }
-
-  or-nothing : (o : Option State) → orElse o none ≡ o
-  or-nothing none = refl
-  or-nothing (some r) = refl
 
   -- every beginning of a text, by its first byte
   trailing-begins : (bs : List ℕ) (k : ℕ) → getD bs 0 0 ≡ 0x54 → begins (side h n i j) (take (suc k) bs) ≡ prefix (take (suc k) bs) (bytes "TRAILING")
@@ -168,18 +166,61 @@ module _ (h : Started) (n i j p : ℕ) where
 pub side-leads : (text : List ℕ) (e : ℕ) (h : Started) (n i j : ℕ) → joined text e (side h n i j) ≡ onSided text h n i j (sideAt text e)
 side-leads text e h n i j = by (eqb (getD text (inked text e) 0) 0x54) refl
   where
-    first : getD (drop (inked text e) text) 0 0 ≡ getD text (inked text e) 0
-    first = let z : inked text e + 0 ≡ inked text e = omega arith in getD-drop (inked text e) text 0 0 ∙ rw z
-
     by : (t : Bool) → eqb (getD text (inked text e) 0) 0x54 ≡ t →
         joined text e (side h n i j) ≡ onSided text h n i j (cond t (sided 6 (literalAt (bytes "TRAILING") text e)) (sided 5 (literalAt (bytes "LEADING") text e)))
     by true k =
-        let f : getD (drop (inked text e) text) 0 0 ≡ 0x54 = first ∙ eqb-true (getD text (inked text e) 0) 0x54 k in
+        let f : getD (drop (inked text e) text) 0 0 ≡ 0x54 = first text e ∙ eqb-true (getD text (inked text e) 0) 0x54 k in
         literal-leads text e (side h n i j) (separate h n 6 i j) (side-middle h n i j 0) (bytes "TRAILING")
         (λ x. trailing-begins h n i j 0 (drop (inked text e) text) x f) (λ x. trailing-next h n i j (inked text e) (drop (inked text e) text) x f)
         ∙ sided-leads text h n i j 6 (literalAt (bytes "TRAILING") text e)
     by false k =
-        let f : eqb (getD (drop (inked text e) text) 0 0) 0x54 ≡ false = rw first k in
+        let f : eqb (getD (drop (inked text e) text) 0 0) 0x54 ≡ false = rw (first text e) k in
         literal-leads text e (side h n i j) (separate h n 5 i j) (side-middle h n i j 0) (bytes "LEADING")
         (λ x. leading-begins h n i j 0 (drop (inked text e) text) x f) (λ x. leading-next h n i j (inked text e) (drop (inked text e) text) x f)
         ∙ sided-leads text h n i j 5 (literalAt (bytes "LEADING") text e)
+
+-- SIGN or COMP-3: the first byte tells which, and without an S in the picture it is COMP-3.
+module _ (h : Started) (n i j p : ℕ) where
+  sign-middle : (s : Bool) → Middle (sign h n s i j)
+  unfolding next same
+  sign-middle true = record { unended = refl; asks = λ p. refl }
+  sign-middle false = record { unended = refl; asks = λ p. refl }
+
+  sign-begins : (bs : List ℕ) (k : ℕ) → getD bs 0 0 ≡ 0x53 → begins (sign h n true i j) (take (suc k) bs) ≡ prefix (take (suc k) bs) (bytes "SIGN")
+  unfolding begins prefix
+  sign-begins [] k e = absurd (omega arith)
+  sign-begins (b ∷ bs) k e = rw e (or-false (prefix (0x53 ∷ take k bs) (bytes "SIGN")))
+
+  sign-next : (bs : List ℕ) (k : ℕ) → getD bs 0 0 ≡ 0x53 → next (sign h n true i j) p (take k bs) ≡ given (same (take k bs) (bytes "SIGN")) (side h n i j)
+  unfolding next same
+  sign-next bs zero e = refl
+  sign-next [] (suc k) e = absurd (omega arith)
+  sign-next (b ∷ bs) (suc k) e = rw e (or-nothing (given (same (0x53 ∷ take k bs) (bytes "SIGN")) (side h n i j)))
+
+  packed-begins : (s : Bool) (bs : List ℕ) (k : ℕ) → s && eqb (getD bs 0 0) 0x53 ≡ false →
+      begins (sign h n s i j) (take (suc k) bs) ≡ prefix (take (suc k) bs) (ended (bytes "COMP-3"))
+  unfolding begins prefix
+  packed-begins false bs k e = refl
+  packed-begins true [] k e = refl
+  packed-begins true (b ∷ bs) k e = rw e
+
+  packed-next : (s : Bool) (bs : List ℕ) (k : ℕ) → s && eqb (getD bs 0 0) 0x53 ≡ false →
+      next (sign h n s i j) p (take k bs) ≡ given (same (take k bs) (ended (bytes "COMP-3"))) (finished h n (packed s i j))
+  unfolding next same
+  packed-next false bs k e = refl
+  packed-next true bs zero e = refl
+  packed-next true [] (suc k) e = refl
+  packed-next true (b ∷ bs) (suc k) e = rw e
+
+pub sign-leads : (text : List ℕ) (e : ℕ) (h : Started) (n i j : ℕ) → getD text (inked text e) 0 ≡ 0x53 →
+    joined text e (sign h n true i j) ≡ onReached text (sign h n true i j) (side h n i j) (literalAt (bytes "SIGN") text e)
+sign-leads text e h n i j k =
+    literal-leads text e (sign h n true i j) (side h n i j) (sign-middle h n i j 0 true) (bytes "SIGN")
+    (λ x. sign-begins h n i j 0 (drop (inked text e) text) x (first text e ∙ k)) (λ x. sign-next h n i j (inked text e) (drop (inked text e) text) x (first text e ∙ k))
+
+pub packed-leads : (text : List ℕ) (e : ℕ) (h : Started) (n : ℕ) (s : Bool) (i j : ℕ) → s && eqb (getD text (inked text e) 0) 0x53 ≡ false →
+    joined text e (sign h n s i j) ≡ onReached text (sign h n s i j) (finished h n (packed s i j)) (literalAt (ended (bytes "COMP-3")) text e)
+packed-leads text e h n s i j k =
+    let f : s && eqb (getD (drop (inked text e) text) 0 0) 0x53 ≡ false = rw (first text e) k in
+    literal-leads text e (sign h n s i j) (finished h n (packed s i j)) (sign-middle h n i j 0 s) (ended (bytes "COMP-3"))
+    (λ x. packed-begins h n i j 0 s (drop (inked text e) text) x f) (λ x. packed-next h n i j (inked text e) s (drop (inked text e) text) x f)

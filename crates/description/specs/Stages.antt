@@ -3,12 +3,12 @@
 use mathlib.Core.Bool.{Bool, true, false, cond, _&&_}
 use mathlib.Core.Option.{Option, none, some}
 use mathlib.Core.List.{List, [], _∷_, _++_}
-use Prim.Native.Nat.{ℕ, suc, _+_, _*_, _-_}
+use Prim.Native.Nat.{ℕ, suc, _+_, _*_, _-_, _/_}
 use lib.Dec.{eqb, leb}
 use lib.ListN.{length, getD, take, drop}
 use Rattle.description.specs.Machine.{run, after, result}
 use Rattle.description.specs.Words.{mid, machine}
-use Rattle.description.specs.Grammar.{bytes, isBlank, ended, Shape, characters, number, Entry}
+use Rattle.description.specs.Grammar.{bytes, isBlank, ended, Shape, characters, number, packedKind, Entry}
 use Rattle.description.specs.Reader.{isSome, Groups, enters, beginsLevel, beginsName, isCalled, nothing, pictures, State, descriptions, entriesOf, Reading, read, faulty, reading}
 use Rattle.description.specs.declared.Reached.{Reached}
 use Rattle.description.specs.declared.Reached.the-variants as Reached
@@ -76,14 +76,13 @@ abbrev pub shapeFrom : List ℕ → ℕ → Option Shape
 shapeFrom text p = result pictures nothing (take (pictureReach text p) (drop p text))
 
 abbrev pub endedPicture : ℕ → Shape → Pictured
-endedPicture k (characters c n) = Pictured.Ended c n 0 k
-endedPicture k (number false i j) = Pictured.Ended 3 (i + j) j k
-endedPicture k (number true i j) = Pictured.Ended 4 (i + j) j k
+endedPicture k (characters c n) = Pictured.Ended c n 0 0 k
+endedPicture k (number false i j) = Pictured.Ended 3 (i + j) j (i + j) k
+endedPicture k (number true i j) = Pictured.Ended 4 (i + j) j (i + j) k
 
 abbrev pub openPicture : ℕ → Shape → Pictured
 openPicture k (characters c n) = Pictured.Fault k
-openPicture k (number false i j) = Pictured.Fault k
-openPicture k (number true i j) = Pictured.Signed i j k
+openPicture k (number s i j) = Pictured.Number s i j k
 
 abbrev pub pictured : ℕ → Option Shape → Bool → Pictured
 pictured k none period = Pictured.Fault k
@@ -106,7 +105,7 @@ sideAt text n =
     cond (eqb (getD text (inked text n) 0) 0x54) (sided 6 (literalAt (bytes "TRAILING") text n)) (sided 5 (literalAt (bytes "LEADING") text n))
 
 abbrev pub afterSeparate : ℕ → ℕ → ℕ → Reached → Clauses
-afterSeparate kind i j (Reached.Word k) = Clauses.Ended kind (i + j + 1) j k
+afterSeparate kind i j (Reached.Word k) = Clauses.Ended kind (i + j + 1) j (i + j) k
 afterSeparate kind i j (Reached.Fault k) = Clauses.Fault k
 
 abbrev pub afterSide : List ℕ → ℕ → ℕ → Sided → Clauses
@@ -121,9 +120,21 @@ afterSign text i j (Reached.Fault k) = Clauses.Fault k
 unfoldable pub signAt : ℕ → ℕ → List ℕ → ℕ → Clauses
 signAt i j text n = afterSign text i j (literalAt (bytes "SIGN") text n)
 
+abbrev pub afterPacked : Bool → ℕ → ℕ → Reached → Clauses
+afterPacked s i j (Reached.Word k) = Clauses.Ended (packedKind s) ((i + j) / 2 + 1) j (i + j) k
+afterPacked s i j (Reached.Fault k) = Clauses.Fault k
+
+-- COMP-3 after a picture of i and j digits, signed or not.
+unfoldable pub packedAt : Bool → ℕ → ℕ → List ℕ → ℕ → Clauses
+packedAt s i j text n = afterPacked s i j (literalAt (ended (bytes "COMP-3")) text n)
+
+-- "COMP-3 .. in SIGN's place, with or without S": no word begins as both
+unfoldable pub usageAt : Bool → ℕ → ℕ → List ℕ → ℕ → Clauses
+usageAt s i j text n = cond (s && eqb (getD text (inked text n) 0) 0x53) (signAt i j text n) (packedAt s i j text n)
+
 abbrev pub afterPicture : List ℕ → Pictured → Clauses
-afterPicture text (Pictured.Ended kind size scale k) = Clauses.Ended kind size scale k
-afterPicture text (Pictured.Signed i j k) = signAt i j text k
+afterPicture text (Pictured.Ended kind size scale digits k) = Clauses.Ended kind size scale digits k
+afterPicture text (Pictured.Number s i j k) = usageAt s i j text k
 afterPicture text (Pictured.Fault k) = Clauses.Fault k
 
 abbrev pub afterPic : List ℕ → Reached → Clauses

@@ -58,13 +58,13 @@ unfolding notedFrom
 named-none flat before = refl
 
 pub named-more : (flat before : List ℕ) (i : ℕ) {to : List ℕ} → i < length before → to ≡ map namedOf (notedFrom flat 0 i) ++ drop i before →
-    set to i (getD flat (i * 6 + 2) 0) ≡ map namedOf (notedFrom flat 0 (i + 1)) ++ drop (i + 1) before
+    set to i (getD flat (i * 7 + 2) 0) ≡ map namedOf (notedFrom flat 0 (i + 1)) ++ drop (i + 1) before
 named-more flat before i l e =
     let z : 0 + i ≡ i = omega arith in
     let m : notedFrom flat 0 (i + 1) ≡ notedFrom flat 0 i ++ notedAt flat i ∷ [] = rw (add-one i, noted-snoc flat 0 i, z) in
-    let k : map namedOf (notedFrom flat 0 (i + 1)) ≡ map namedOf (notedFrom flat 0 i) ++ getD flat (i * 6 + 2) 0 ∷ [] =
+    let k : map namedOf (notedFrom flat 0 (i + 1)) ≡ map namedOf (notedFrom flat 0 i) ++ getD flat (i * 7 + 2) 0 ∷ [] =
     ap (map namedOf) m ∙ map-snoc (notedFrom flat 0 i) (notedAt flat i) in
-    rw (e, k) (put (map namedOf (notedFrom flat 0 i)) before i (getD flat (i * 6 + 2) 0) (named-length flat i) l)
+    rw (e, k) (put (map namedOf (notedFrom flat 0 i)) before i (getD flat (i * 7 + 2) 0) (named-length flat i) l)
 
 -- Byte 4,096.
 pub within-short : (text flat : List ℕ) (r : Found) → length text ≤ 4096 → Reads text flat r → ReadsWithin text flat r
@@ -94,18 +94,18 @@ within-cut text flat r l R w =
 
 -- Room.
 module _ (laid flat : List ℕ) (n : ℕ) (rows places : List ℕ) where
-  pub no-rows : length rows < n * 4 → Given laid flat n rows places (Room (n * 4)) rows places
-  no-rows h = record { answered = rw (leb-no (n * 4) (length rows) h); rows-written = refl; places-written = refl }
+  pub no-rows : length rows < n * 5 → Given laid flat n rows places (Room (n * 5)) rows places
+  no-rows h = record { answered = rw (leb-no (n * 5) (length rows) h); rows-written = refl; places-written = refl }
 
-  pub no-places : n * 4 ≤ length rows → length places < n → Given laid flat n rows places (Room n) rows places
+  pub no-places : n * 5 ≤ length rows → length places < n → Given laid flat n rows places (Room n) rows places
   no-places h k = record { answered = rw (leb-so h, leb-no n (length places) k); rows-written = refl; places-written = refl }
 
-  pub gives : {a b : List ℕ} → n * 4 ≤ length rows → n ≤ length places → n * 4 ≤ length laid → a ≡ take (n * 4) laid ++ drop (n * 4) rows →
-      b ≡ map namedOf (notedFrom flat 0 n) ++ drop n places → Given laid flat n rows places (Counts (n * 4) n) a b
+  pub gives : {a b : List ℕ} → n * 5 ≤ length rows → n ≤ length places → n * 5 ≤ length laid → a ≡ take (n * 5) laid ++ drop (n * 5) rows →
+      b ≡ map namedOf (notedFrom flat 0 n) ++ drop n places → Given laid flat n rows places (Counts (n * 5) n) a b
   gives h k l e f =
       record {
         answered = rw (leb-so h, leb-so k);
-        rows-written = rw (length-take-le (n * 4) laid l) e;
+        rows-written = rw (length-take-le (n * 5) laid l) e;
         places-written = rw (named-length flat n) f;
       }
 
@@ -145,7 +145,7 @@ module _ (text flat laid rows places : List ℕ) (r : Found) (R : ReadsWithin te
       let i : firstOver 0 (map entryOf ys) (layout 0 (map entryOf ys)) ≡ none = limit-is ∙ ap overPlace e in
       faulty-answer (ap judged (R .reading) ∙ judged-faulty (r .whole) (map entryOf ys) (r .place) w i)
 
-  module _ (e : x ≡ Fine) (w : r .whole ≡ true) {d : Described} {a b : List ℕ} (g : Given laid flat (r .count) rows places d a b) (room-laid : r .count * 4 ≤ length laid) where
+  module _ (e : x ≡ Fine) (w : r .whole ≡ true) {d : Described} {a b : List ℕ} (g : Given laid flat (r .count) rows places d a b) (room-laid : r .count * 5 ≤ length laid) where
     none-over : firstOver 0 (map entryOf ys) (layout 0 (map entryOf ys)) ≡ none
     none-over = limit-is ∙ ap overPlace e
 
@@ -155,7 +155,7 @@ module _ (text flat laid rows places : List ℕ) (r : Found) (R : ReadsWithin te
     described : Limits.describe text ≡ table t
     described = ap judged (R .reading) ∙ judged-whole (r .whole) (map entryOf ys) (r .place) w none-over
 
-    rows-are : rowsOf t ≡ take (r .count * 4) laid
+    rows-are : rowsOf t ≡ take (r .count * 5) laid
     rows-are =
         let f : layout 0 (map entryOf ys) ≡ layout 0 (entriesIn flat 0 (r .count)) = rows-same 0 0 ys (R .scaled) none-over ∙ ap (layout 0) (sym entries-are) in
         ap rowNumbers f ∙ sym (L .laid e)
@@ -170,7 +170,7 @@ module _ (text flat laid rows places : List ℕ) (r : Found) (R : ReadsWithin te
     pub answers-given : DescribedBy text rows places d a b
     answers-given =
         record {
-          answered = rw (described, rows-are, places-are, length-take-le (r .count * 4) laid room-laid, named-length flat (r .count)) (g .answered);
+          answered = rw (described, rows-are, places-are, length-take-le (r .count * 5) laid room-laid, named-length flat (r .count)) (g .answered);
           rows-written = rw (described, rows-are) (g .rows-written);
           places-written = rw (described, places-are) (g .places-written);
         }

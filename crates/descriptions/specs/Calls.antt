@@ -79,6 +79,6 @@ namedOf x = x .named
 
 -- Rows and places of n entries, where both outputs have room.
 pub record Given (laid flat : List ℕ) (n : ℕ) (rows places : List ℕ) (r : Described) (rows-after places-after : List ℕ) : Type 0 where
-  pub answered : r ≡ room (n * 4) n (length rows) (length places)
-  pub rows-written : rows-after ≡ written r (take (n * 4) laid) rows
+  pub answered : r ≡ room (n * 5) n (length rows) (length places)
+  pub rows-written : rows-after ≡ written r (take (n * 5) laid) rows
   pub places-written : places-after ≡ written r (map namedOf (notedFrom flat 0 n)) places

@@ -12,11 +12,11 @@ use layouts::Laid;
 use layouts::rows::lay_rows;
 
 // The numbers of a row.
-const WIDTH: usize = 4;
+const WIDTH: usize = 5;
 
 // The entries of a text: byte 4,096 is faulty.
 fn read_within(text: &[u8], entries: &mut [u32], stack: &mut [u32]) -> Found
-    requires { ⌜ (4926 ≤ length (now entries)) × (821 ≤ length (now stack)) ⌝ }
+    requires { ⌜ (5747 ≤ length (now entries)) × (821 ≤ length (now stack)) ⌝ }
     ensures { λ r. ⌜ ReadsWithin (now (text .entry)) (now (entries .exit)) r ⌝ }
 {
     if text.len() <= 4096 {
@@ -35,7 +35,7 @@ fn read_within(text: &[u8], entries: &mut [u32], stack: &mut [u32]) -> Found
 
 // Rows and places, where both outputs have room.
 fn give(laid: &[u32], entries: &[u32], n: usize, rows: &mut [u32], places: &mut [u32]) -> Described
-    requires { ⌜ (n * 4 ≤ length (now laid)) × ((n * 6 ≤ length (now entries)) × (n ≤ 64)) ⌝ }
+    requires { ⌜ (n * 5 ≤ length (now laid)) × ((n * 7 ≤ length (now entries)) × (n ≤ 64)) ⌝ }
     ensures { λ r. ⌜ Given (now (laid .entry)) (now (entries .entry)) n (now (rows .entry)) (now (places .entry)) r (now (rows .exit)) (now (places .exit)) ⌝ }
 {
     if rows.len() < n * WIDTH {
@@ -58,7 +58,7 @@ fn describe_with(
     rows: &mut [u32],
     places: &mut [u32],
 ) -> Described
-    requires { ⌜ (4926 ≤ length (now entries)) × ((821 ≤ length (now stack)) × (256 ≤ length (now laid))) ⌝ }
+    requires { ⌜ (5747 ≤ length (now entries)) × ((821 ≤ length (now stack)) × (320 ≤ length (now laid))) ⌝ }
     ensures { λ r. ⌜ DescribedBy (now (text .entry)) (now (rows .entry)) (now (places .entry)) r (now (rows .exit)) (now (places .exit)) ⌝ }
 {
     let found = read_within(text, entries, stack);
@@ -74,13 +74,13 @@ fn describe_with(
     }
 }
 
-// Reads a record description into item rows, four numbers each, and the place of each row's name or
+// Reads a record description into item rows, five numbers each, and the place of each row's name or
 // FILLER. A refusal changes neither output.
 pub fn describe(text: &[u8], rows: &mut [u32], places: &mut [u32]) -> Described
     ensures { λ r. ⌜ DescribedBy (now (text .entry)) (now (rows .entry)) (now (places .entry)) r (now (rows .exit)) (now (places .exit)) ⌝ }
 {
-    let mut entries = [0u32; 4926];
+    let mut entries = [0u32; 5747];
     let mut stack = [0u32; 821];
-    let mut laid = [0u32; 256];
+    let mut laid = [0u32; 320];
     describe_with(text, &mut entries, &mut stack, &mut laid, rows, places)
 }

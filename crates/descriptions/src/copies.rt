@@ -19,12 +19,12 @@ pub fn copy_numbers(from: &[u32], n: usize, to: &mut [u32])
 
 // The place of each entry's name or FILLER.
 pub fn copy_named(entries: &[u32], n: usize, to: &mut [u32])
-    requires { ⌜ (n * 6 ≤ length (now entries)) × (n ≤ length (now to)) ⌝ }
+    requires { ⌜ (n * 7 ≤ length (now entries)) × (n ≤ length (now to)) ⌝ }
     ensures { λ _. ⌜ now (to .exit) ≡ map namedOf (notedFrom (now (entries .entry)) 0 n) ++ drop n (now (to .entry)) ⌝ }
 {
     let mut i: usize = 0;
     while i < n {
-        let at = i * 6;
+        let at = i * 7;
         to[i] = entries[at + 2];
         i += 1;
     }

@@ -12,7 +12,7 @@ use lib.ListN.{length, getD, take, drop, length-drop, List·getD-eq-default}
 use Rattle.description.specs.Grammar.{all, any, same, bytes, ended, Picture, Shape, characters, number}
 use Rattle.description.specs.Reader.{isName, isCalled, beginsName, isSome, nothing, pictures, enters, beginsLevel, Groups}
 use Rattle.description.specs.Machine.{after, result}
-use Rattle.description.specs.Stages.{inked, common, met, literalAt, isPeriod, nameReach, nameFrom, nameAt, calledAt, pictureReach, shapeFrom, endedPicture, openPicture, pictured, pictureFrom, pictureAt, sided, sideAt, afterSeparate, afterSide, afterSign, signAt, afterPicture, afterPic, clausesAt, leveled, levelAt, reach}
+use Rattle.description.specs.Stages.{inked, common, met, literalAt, isPeriod, nameReach, nameFrom, nameAt, calledAt, pictureReach, shapeFrom, endedPicture, openPicture, pictured, pictureFrom, pictureAt, sided, sideAt, afterSeparate, afterSide, afterSign, signAt, afterPacked, packedAt, usageAt, afterPicture, afterPic, clausesAt, leveled, levelAt, reach}
 use Rattle.description.specs.declared.Reached.{Reached}
 use Rattle.description.specs.declared.Reached.the-variants as Reached
 use Rattle.description.specs.declared.Called.{Called}
@@ -35,7 +35,7 @@ use Rattle.entries.specs.Entries.{itemOf, itemAt, calledOf, namedAt}
 use Rattle.entries.specs.declared.EntryRead.{EntryRead}
 use Rattle.entries.specs.declared.EntryRead.the-variants.{Whole, Fault}
 
--- A word that was looked for from n on ends within the text, and after n where it is one. A kind is not 0, and no scale is above its size.
+-- A word that was looked for from n on ends within the text, and after n where it is one. A kind is not 0, and no scale is above its digits.
 abbrev pub Reaches : List ℕ → ℕ → Reached → Type 0
 Reaches text n (Reached.Word k) = (n < k) × (k ≤ length text)
 Reaches text n (Reached.Fault k) = k ≤ length text
@@ -45,12 +45,12 @@ SidesAt text n (Sided.Side c k) = (0 < c) × ((n < k) × (k ≤ length text))
 SidesAt text n (Sided.Fault k) = k ≤ length text
 
 abbrev pub Ends : List ℕ → ℕ → Clauses → Type 0
-Ends text n (Clauses.Ended c s d k) = ((0 < c) × (d ≤ s)) × ((n < k) × (k ≤ length text))
+Ends text n (Clauses.Ended c s d t k) = ((0 < c) × (d ≤ t)) × ((n < k) × (k ≤ length text))
 Ends text n (Clauses.Fault k) = k ≤ length text
 
 abbrev pub Draws : List ℕ → ℕ → Pictured → Type 0
-Draws text n (Pictured.Ended c s d k) = ((0 < c) × (d ≤ s)) × ((n < k) × (k ≤ length text))
-Draws text n (Pictured.Signed i j k) = (n < k) × (k ≤ length text)
+Draws text n (Pictured.Ended c s d t k) = ((0 < c) × (d ≤ t)) × ((n < k) × (k ≤ length text))
+Draws text n (Pictured.Number s i j k) = (n < k) × (k ≤ length text)
 Draws text n (Pictured.Fault k) = k ≤ length text
 
 abbrev pub Names : List ℕ → ℕ → Called → Type 0
@@ -59,7 +59,7 @@ Names text n (Called.Group k) = (n + 2 < k) × (k ≤ length text)
 Names text n (Called.Fault k) = k ≤ length text
 
 abbrev pub Wholes : List ℕ → ℕ → EntryRead → Type 0
-Wholes text p (Whole x d k) = (x .scale ≤ x .size) × ((p + 5 ≤ k) × (k ≤ length text))
+Wholes text p (Whole x d k) = (x .scale ≤ x .digits) × ((p + 5 ≤ k) × (k ≤ length text))
 Wholes text p (Fault k) = k ≤ length text
 
 -- the byte at a place in the text that is no 0
@@ -146,8 +146,7 @@ module _ (text : List ℕ) (n : ℕ) (l : n ≤ length text) where
 
       opens : (k : ℕ) (s : Shape) → n < k → k ≤ length text → Draws text n (openPicture k s)
       opens k (characters c m) a b = b
-      opens k (number false i j) a b = b
-      opens k (number true i j) a b = (a, b)
+      opens k (number s i j) a b = (a, b)
 
       at : ¬ (inked text n ≡ n) → (o : Option Shape) (d : Bool) → shapeFrom text (inked text n) ≡ o → isPeriod text (inked text n + pictureReach text (inked text n)) ≡ d →
           Draws text n (pictured (inked text n + pictureReach text (inked text n)) o d)
@@ -164,7 +163,7 @@ module _ (text : List ℕ) (n : ℕ) (l : n ≤ length text) where
 
 -- Clauses end after where they begin.
 further : (text : List ℕ) (n k : ℕ) (x : Clauses) → n < k → Ends text k x → Ends text n x
-further text n k (Clauses.Ended c s d e) h r = (r .0, (omega (arith, r .1 .0), r .1 .1))
+further text n k (Clauses.Ended c s d t e) h r = (r .0, (omega (arith, r .1 .0), r .1 .1))
 further text n k (Clauses.Fault e) h r = r
 
 module _ (text : List ℕ) where
@@ -182,11 +181,22 @@ module _ (text : List ℕ) where
   sign-word-ends i j n (Reached.Word k) r = further text n k (afterSide text i j (sideAt text k)) (r .0) (side-ends i j k (sideAt text k) (side-reaches text k (r .1)))
   sign-word-ends i j n (Reached.Fault k) r = r
 
+  packed-ends : (s : Bool) (i j n : ℕ) (x : Reached) → Reaches text n x → Ends text n (afterPacked s i j x)
+  packed-ends true i j n (Reached.Word k) r = ((omega arith, omega arith), r)
+  packed-ends false i j n (Reached.Word k) r = ((omega arith, omega arith), r)
+  packed-ends s i j n (Reached.Fault k) r = r
+
+  usage-ends : (s : Bool) (i j n : ℕ) → n ≤ length text → Ends text n (usageAt s i j text n)
+  unfolding usageAt signAt packedAt
+  usage-ends s i j n l = by (s && eqb (getD text (inked text n) 0) 0x53)
+    where
+      by : (t : Bool) → Ends text n (cond t (signAt i j text n) (packedAt s i j text n))
+      by true = sign-word-ends i j n (literalAt (bytes "SIGN") text n) (literal-reaches text n l (bytes "SIGN"))
+      by false = packed-ends s i j n (literalAt (ended (bytes "COMP-3")) text n) (literal-reaches text n l (ended (bytes "COMP-3")))
+
   picture-ends : (n : ℕ) (x : Pictured) → Draws text n x → Ends text n (afterPicture text x)
-  unfolding signAt
-  picture-ends n (Pictured.Ended c s d k) r = r
-  picture-ends n (Pictured.Signed i j k) r =
-      further text n k (signAt i j text k) (r .0) (sign-word-ends i j k (literalAt (bytes "SIGN") text k) (literal-reaches text k (r .1) (bytes "SIGN")))
+  picture-ends n (Pictured.Ended c s d t k) r = r
+  picture-ends n (Pictured.Number s i j k) r = further text n k (usageAt s i j text k) (r .0) (usage-ends s i j k (r .1))
   picture-ends n (Pictured.Fault k) r = r
 
   pic-ends : (n : ℕ) (x : Reached) → Reaches text n x → Ends text n (afterPic text x)
@@ -198,7 +208,7 @@ module _ (text : List ℕ) where
   clauses-end n l = pic-ends n (literalAt (bytes "PIC") text n) (literal-reaches text n l (bytes "PIC"))
 
   item-whole : (l d p n k : ℕ) (x : Clauses) → p + 4 ≤ k → Ends text k x → Wholes text p (itemOf l d p n x)
-  item-whole l d p n k (Clauses.Ended c s t e) h r = (r .0 .1, (omega (arith, r .1 .0), r .1 .1))
+  item-whole l d p n k (Clauses.Ended c s t u e) h r = (r .0 .1, (omega (arith, r .1 .0), r .1 .1))
   item-whole l d p n k (Clauses.Fault e) h r = r
 
   called-whole : (l d p : ℕ) (x : Called) → Names text (p + 2) x → Wholes text p (calledOf text l d p x)
@@ -241,10 +251,10 @@ leveled-le g text p k l e = by (enters g (getD text p 0 ∷ getD text (p + 1) 0 
     by false false e = let i : p ≡ k = cc in omega arith
 
 -- With counts that stop, the same place.
-pub signed-le : (text : List ℕ) (n : ℕ) {i j k : ℕ} {x : Pictured} (y : Pictured) → x ≡ capPictured y → x ≡ Pictured.Signed i j k → Draws text n y → k ≤ length text
-signed-le text n {i} {j} {k} y e f r = by y (sym f ∙ e) r
+pub number-le : (text : List ℕ) (n : ℕ) {s : Bool} {i j k : ℕ} {x : Pictured} (y : Pictured) → x ≡ capPictured y → x ≡ Pictured.Number s i j k → Draws text n y → k ≤ length text
+number-le text n {s} {i} {j} {k} y e f r = by y (sym f ∙ e) r
   where
-    by : (y : Pictured) → Pictured.Signed i j k ≡ capPictured y → Draws text n y → k ≤ length text
-    by (Pictured.Ended c′ s′ d′ k′) h r = let z : _≡_ {A = ℕ} 0 1 = cc in absurd (omega arith)
-    by (Pictured.Signed a b k′) h r = let q : k ≡ k′ = cc in omega (arith, r .1)
+    by : (y : Pictured) → Pictured.Number s i j k ≡ capPictured y → Draws text n y → k ≤ length text
+    by (Pictured.Ended c′ s′ d′ t′ k′) h r = let z : _≡_ {A = ℕ} 0 1 = cc in absurd (omega arith)
+    by (Pictured.Number s′ a b k′) h r = let q : k ≡ k′ = cc in omega (arith, r .1)
     by (Pictured.Fault k′) h r = let z : _≡_ {A = ℕ} 0 1 = cc in absurd (omega arith)

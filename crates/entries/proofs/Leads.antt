@@ -40,7 +40,7 @@ onEntry stack text es (Fault k) = faulty es k
 
 module _ (stack text : List ℕ) (es : List Entry) where
   item-leads : (l d p n k : ℕ) (x : Clauses) → Ends text k x → onClauses text (started (topped stack l d) l p es) n x ≡ onEntry stack text es (itemOf l d p n x)
-  item-leads l d p n k (Clauses.Ended c s t e) r = rw (eqb-no c 0 (λ h. omega (arith, r .0 .0)))
+  item-leads l d p n k (Clauses.Ended c s t u e) r = rw (eqb-no c 0 (λ h. omega (arith, r .0 .0)))
   item-leads l d p n k (Clauses.Fault e) r = refl
 
   called-leads : (l d p : ℕ) (x : Called) → Names text (p + 2) x →
@@ -92,7 +92,7 @@ module _ (stack text : List ℕ) (es : List Entry) where
     Deep (Fault k) = Unit {0}
 
     clauses-deep : (l d p n : ℕ) → (d ≤ depth + 1) × (l ≤ 99) → (x : Clauses) → Deep (itemOf l d p n x)
-    clauses-deep l d p n h (Clauses.Ended c s t k) = h
+    clauses-deep l d p n h (Clauses.Ended c s t u k) = h
     clauses-deep l d p n h (Clauses.Fault k) = tt
 
     called-deep : (l d p : ℕ) → (d ≤ depth + 1) × (l ≤ 99) → (x : Called) → Deep (calledOf text l d p x)

@@ -32,14 +32,14 @@ abbrev pub pictureClause : List ℕ → ℕ → Clauses
 pictureClause text n = afterPicture text (pictureAt text n)
 
 abbrev pub capClauses : Clauses → Clauses
-capClauses (Clauses.Ended kind size scale k) = Clauses.Ended kind (cap size) (cap scale) k
+capClauses (Clauses.Ended kind size scale digits k) = Clauses.Ended kind (cap size) (cap scale) (cap digits) k
 capClauses (Clauses.Fault k) = Clauses.Fault k
 
-abbrev pub noted : ℕ → ℕ → ℕ → ℕ → ℕ → ℕ → Noted
-noted l p n k s c = record { level = l; place = p; named = n; kind = k; size = s; scale = c }
+abbrev pub noted : ℕ → ℕ → ℕ → ℕ → ℕ → ℕ → ℕ → Noted
+noted l p n k s c t = record { level = l; place = p; named = n; kind = k; size = s; scale = c; digits = t }
 
 abbrev pub itemOf : ℕ → ℕ → ℕ → ℕ → Clauses → EntryRead
-itemOf l d p n (Clauses.Ended kind size scale k) = Whole (noted l p n kind size scale) d k
+itemOf l d p n (Clauses.Ended kind size scale digits k) = Whole (noted l p n kind size scale digits) d k
 itemOf l d p n (Clauses.Fault k) = Fault k
 
 -- an item whose name ends at k
@@ -48,7 +48,7 @@ itemAt text l d p n k = itemOf l d p n (clausesAt text k)
 
 abbrev pub calledOf : List ℕ → ℕ → ℕ → ℕ → Called → EntryRead
 calledOf text l d p (Called.Item k) = itemAt text l d p (inked text (p + 2)) k
-calledOf text l d p (Called.Group k) = Whole (noted l p (inked text (p + 2)) 0 0 0) d k
+calledOf text l d p (Called.Group k) = Whole (noted l p (inked text (p + 2)) 0 0 0 0) d k
 calledOf text l d p (Called.Fault k) = Fault k
 
 -- an entry of level l, in the innermost of d groups, at p
@@ -68,15 +68,15 @@ abbrev pub entryAt : List ℕ → ℕ → ℕ → List ℕ → ℕ → EntryRead
 entryAt stack depth waiting text p = leveledAt stack depth waiting text p (levelAt (groupsOf stack depth waiting) text p)
 
 abbrev pub capNoted : Noted → Noted
-capNoted x = noted (x .level) (x .place) (x .named) (x .kind) (cap (x .size)) (cap (x .scale))
+capNoted x = noted (x .level) (x .place) (x .named) (x .kind) (cap (x .size)) (cap (x .scale)) (cap (x .digits))
 
 abbrev pub capEntry : EntryRead → EntryRead
 capEntry (Whole x d k) = Whole (capNoted x) d k
 capEntry (Fault k) = Fault k
 
 -- The entry that was noted: kind 0 is a group.
-abbrev pub contentOf : ℕ → ℕ → ℕ → Content
-contentOf kind size scale = cond (eqb kind 0) group (item kind size scale)
+abbrev pub contentOf : ℕ → ℕ → ℕ → ℕ → Content
+contentOf kind size scale digits = cond (eqb kind 0) group (item kind size scale digits)
 
 abbrev pub entryOf : Noted → Entry
-entryOf x = entry (x .level) (x .place) (x .named) (contentOf (x .kind) (x .size) (x .scale))
+entryOf x = entry (x .level) (x .place) (x .named) (contentOf (x .kind) (x .size) (x .scale) (x .digits))

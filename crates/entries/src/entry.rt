@@ -28,7 +28,7 @@ fn item_at(text: &[u8], level: u32, depth: usize, place: u32, named: u32, k: usi
     ensures { λ r. ⌜ r ≡ capEntry (itemAt (now (text .entry)) level depth place named k) ⌝ }
 {
     match clauses_at(text, k) {
-        Clauses::Ended(kind, size, scale, end) => {
+        Clauses::Ended(kind, size, scale, digits, end) => {
             let noted = Noted {
                 level,
                 place,
@@ -36,6 +36,7 @@ fn item_at(text: &[u8], level: u32, depth: usize, place: u32, named: u32, k: usi
                 kind,
                 size,
                 scale,
+                digits,
             };
             EntryRead::Whole(noted, depth, end)
         }
@@ -60,6 +61,7 @@ fn named_at(text: &[u8], level: u32, depth: usize, p: usize) -> EntryRead
                 kind: 0,
                 size: 0,
                 scale: 0,
+                digits: 0,
             };
             EntryRead::Whole(noted, depth, k)
         }

@@ -3,7 +3,7 @@
 pub mod clauses; // what follows an item's name
 pub mod entry; // a whole entry
 
-// An entry as read: kind 0 is a group, and sizes and scales stop at 65,536.
+// An entry as read: kind 0 is a group, and sizes, scales and counts of digits stop at 65,536.
 pub struct Noted {
     pub level: u32,
     pub place: u32,
@@ -11,6 +11,7 @@ pub struct Noted {
     pub kind: u32,
     pub size: u32,
     pub scale: u32,
+    pub digits: u32,
 }
 
 // A whole entry, how many groups are open at it, and where its period ends; or the first faulty byte.

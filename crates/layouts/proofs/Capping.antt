@@ -28,7 +28,7 @@ own y = sizeOf (entryOf y .content)
 own-caps : (y : Noted) → cap (own y) ≡ cap (own (capNoted y))
 own-caps y = by (eqb (y .kind) 0)
   where
-    by : (t : Bool) → cap (sizeOf (cond t group (item (y .kind) (y .size) (y .scale)))) ≡ cap (sizeOf (cond t group (item (y .kind) (cap (y .size)) (cap (y .scale)))))
+    by : (t : Bool) → cap (sizeOf (cond t group (item (y .kind) (y .size) (y .scale) (y .digits)))) ≡ cap (sizeOf (cond t group (item (y .kind) (cap (y .size)) (cap (y .scale)) (cap (y .digits)))))
     by true = refl
     by false = omega arith
 
@@ -49,7 +49,7 @@ below-caps l (y ∷ ys) = by (ltb l (y .level) && leb (y .level) 49) (below-caps
 signed-own : (y : Noted) → isSigned (entryOf y .content) ≡ isSigned (entryOf (capNoted y) .content)
 signed-own y = by (eqb (y .kind) 0)
   where
-    by : (t : Bool) → isSigned (cond t group (item (y .kind) (y .size) (y .scale))) ≡ isSigned (cond t group (item (y .kind) (cap (y .size)) (cap (y .scale))))
+    by : (t : Bool) → isSigned (cond t group (item (y .kind) (y .size) (y .scale) (y .digits))) ≡ isSigned (cond t group (item (y .kind) (cap (y .size)) (cap (y .scale)) (cap (y .digits))))
     by true = refl
     by false = refl
 
@@ -65,21 +65,24 @@ leb-caps a b m l e = by (leb a m) refl
     by true h = sym (le-leb b m (omega (arith, leb-true a m h)))
     by false h = sym (lt-leb b m (omega (arith, leb-false a m h)))
 
+cap-twice : (n : ℕ) → cap n ≡ cap (cap n)
+cap-twice n = omega arith
+
 abbrev rowOfNoted : ℕ → Noted → List Entry → Row
 rowOfNoted o y es = rowOf o (y .level) (entryOf y .content) es
 
-over-row : (n k o p s t c d : ℕ) → cap o ≡ cap p → cap s ≡ cap t → over n (row k o s c) ≡ over n (row k p t d)
-over-row n k o p s t c d e f = rw (leb-caps s t (most k) (most-le k) f, leb-caps o p 65535 (omega arith) e)
+over-row : (n k o p s t c d u v : ℕ) → cap o ≡ cap p → cap s ≡ cap t → cap u ≡ cap v → over n (row k o s c u) ≡ over n (row k p t d v)
+over-row n k o p s t c d u v e f g = rw (leb-caps s t (most k) (most-le k) f, leb-caps o p 65535 (omega arith) e, leb-caps u v 18 (omega arith) g)
 
 over-caps : (n o p : ℕ) (y : Noted) (ys : List Noted) → cap o ≡ cap p → over n (rowOfNoted o y (exact ys)) ≡ over n (rowOfNoted p (capNoted y) (capped ys))
 over-caps n o p y ys e = by (eqb (y .kind) 0)
   where
-    by : (t : Bool) → over n (rowOf o (y .level) (cond t group (item (y .kind) (y .size) (y .scale))) (exact ys))
-        ≡ over n (rowOf p (y .level) (cond t group (item (y .kind) (cap (y .size)) (cap (y .scale)))) (capped ys))
+    by : (t : Bool) → over n (rowOf o (y .level) (cond t group (item (y .kind) (y .size) (y .scale) (y .digits))) (exact ys))
+        ≡ over n (rowOf p (y .level) (cond t group (item (y .kind) (cap (y .size)) (cap (y .scale)) (cap (y .digits)))) (capped ys))
     by true =
         rw (signed-caps (y .level) ys)
-        (over-row n (groupKind (signedBelow (y .level) (capped ys))) o p (below (y .level) (exact ys)) (below (y .level) (capped ys)) 0 0 e (below-caps (y .level) ys))
-    by false = over-row n (y .kind) o p (y .size) (cap (y .size)) (y .scale) (cap (y .scale)) e (omega arith)
+        (over-row n (groupKind (signedBelow (y .level) (capped ys))) o p (below (y .level) (exact ys)) (below (y .level) (capped ys)) 0 0 0 0 e (below-caps (y .level) ys) refl)
+    by false = over-row n (y .kind) o p (y .size) (cap (y .size)) (y .scale) (cap (y .scale)) (y .digits) (cap (y .digits)) e (cap-twice (y .size)) (cap-twice (y .digits))
 
 -- The first entry over a limit is the same.
 pub first-caps : (n o p : ℕ) (ys : List Noted) → cap o ≡ cap p → firstOver n (exact ys) (layout o (exact ys)) ≡ firstOver n (capped ys) (layout p (capped ys))
@@ -96,21 +99,23 @@ first-caps n o p (y ∷ ys) e =
     by false f = f
 
 -- A row that keeps the limits is exact.
-row-same : (n o : ℕ) (y : Noted) (ys : List Noted) → y .scale ≤ y .size → over n (rowOfNoted o y (exact ys)) ≡ false →
+row-same : (n o : ℕ) (y : Noted) (ys : List Noted) → y .scale ≤ y .digits → over n (rowOfNoted o y (exact ys)) ≡ false →
     (rowOfNoted o y (exact ys) ≡ rowOfNoted o (capNoted y) (capped ys)) × (own y ≡ own (capNoted y))
 row-same n o y ys s h = by (eqb (y .kind) 0) (not-over n (rowOfNoted o y (exact ys)) h .1 .1)
   where
-    by : (t : Bool) → rowOf o (y .level) (cond t group (item (y .kind) (y .size) (y .scale))) (exact ys) .size ≤ 65535 →
-        (rowOf o (y .level) (cond t group (item (y .kind) (y .size) (y .scale))) (exact ys)
-        ≡ rowOf o (y .level) (cond t group (item (y .kind) (cap (y .size)) (cap (y .scale)))) (capped ys))
-        × (sizeOf (cond t group (item (y .kind) (y .size) (y .scale))) ≡ sizeOf (cond t group (item (y .kind) (cap (y .size)) (cap (y .scale)))))
+    by : (t : Bool) → (rowOf o (y .level) (cond t group (item (y .kind) (y .size) (y .scale) (y .digits))) (exact ys) .size ≤ 65535) ×
+        (rowOf o (y .level) (cond t group (item (y .kind) (y .size) (y .scale) (y .digits))) (exact ys) .digits ≤ 18) →
+        (rowOf o (y .level) (cond t group (item (y .kind) (y .size) (y .scale) (y .digits))) (exact ys)
+        ≡ rowOf o (y .level) (cond t group (item (y .kind) (cap (y .size)) (cap (y .scale)) (cap (y .digits)))) (capped ys))
+        × (sizeOf (cond t group (item (y .kind) (y .size) (y .scale) (y .digits))) ≡ sizeOf (cond t group (item (y .kind) (cap (y .size)) (cap (y .scale)) (cap (y .digits)))))
     by true l =
-        let i : below (y .level) (exact ys) ≡ below (y .level) (capped ys) = omega (arith, below-caps (y .level) ys) in
+        let i : below (y .level) (exact ys) ≡ below (y .level) (capped ys) = omega (arith, below-caps (y .level) ys, l .0) in
         (rw (i, signed-caps (y .level) ys), refl)
     by false l =
-        let i : y .size ≡ cap (y .size) = omega arith in
-        let j : y .scale ≡ cap (y .scale) = omega arith in
-        (rw (← i, ← j), i)
+        let i : y .size ≡ cap (y .size) = omega (arith, l .0) in
+        let j : y .scale ≡ cap (y .scale) = omega (arith, l .1) in
+        let k : y .digits ≡ cap (y .digits) = omega (arith, l .1) in
+        (rw (← i, ← j, ← k), i)
 
 pub rows-same : (n o : ℕ) (ys : List Noted) → Scaled ys → firstOver n (exact ys) (layout o (exact ys)) ≡ none → layout o (exact ys) ≡ layout o (capped ys)
 unfolding firstOver layout

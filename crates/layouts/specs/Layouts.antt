@@ -15,7 +15,7 @@ use Rattle.layouts.specs.declared.Laid.{Laid}
 use Rattle.layouts.specs.declared.Laid.the-variants.{Over, Fine}
 
 abbrev pub shownRow : ItemRow → Row
-shownRow r = row (r .kind) (r .offset) (r .size) (r .scale)
+shownRow r = row (r .kind) (r .offset) (r .size) (r .scale) (r .digits)
 
 -- the entries i to n
 abbrev pub entriesIn : List ℕ → ℕ → ℕ → List Entry
@@ -40,9 +40,9 @@ pub record Summed (flat : List ℕ) (i n l r : ℕ) (signed : Bool) : Type 0 whe
 abbrev pub rowIn : List ℕ → ℕ → ℕ → ℕ → Row
 rowIn flat i n o = rowOf o (entryOf (notedAt flat i) .level) (entryOf (notedAt flat i) .content) (entriesIn flat (suc i) n)
 
--- a row's numbers, in the order of document 01
+-- a row's numbers, in the order of document 01, and request f)'s fifth
 abbrev pub numbersOf : Row → List ℕ
-numbersOf r = r .kind ∷ r .offset ∷ r .size ∷ r .scale ∷ []
+numbersOf r = r .kind ∷ r .offset ∷ r .size ∷ r .scale ∷ r .digits ∷ []
 
 unfoldable pub rowNumbers : List Row → List ℕ
 rowNumbers [] = []
@@ -55,5 +55,5 @@ overPlace Fine = none
 -- The place of the first entry over a limit; where there is none, the rows.
 pub record LaidOut (flat : List ℕ) (n : ℕ) (r : Laid) (rows : List ℕ) : Type 0 where
   pub limit : firstOver 0 (entriesIn flat 0 n) (layout 0 (entriesIn flat 0 n)) ≡ overPlace r
-  pub laid : r ≡ Fine → take (n * 4) rows ≡ rowNumbers (layout 0 (entriesIn flat 0 n))
+  pub laid : r ≡ Fine → take (n * 5) rows ≡ rowNumbers (layout 0 (entriesIn flat 0 n))
   pub few : r ≡ Fine → n ≤ 64

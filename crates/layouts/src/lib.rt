@@ -9,6 +9,7 @@ pub struct ItemRow {
     pub offset: usize,
     pub size: usize,
     pub scale: u32,
+    pub digits: u32,
 }
 
 // What the entries of a group come to: its bytes, and whether a picture has an S.

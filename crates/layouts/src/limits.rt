@@ -24,5 +24,5 @@ pub fn is_over(i: usize, row: ItemRow) -> bool
     ensures { λ r. ⌜ r ≡ over i (shownRow row) ⌝ }
 {
     let most = most_of(row.kind);
-    (64 <= i) | (!(row.size <= most) | !(row.offset <= 65535))
+    (64 <= i) | (!(row.size <= most) | !(row.offset <= 65535) | !(row.digits <= 18))
 }

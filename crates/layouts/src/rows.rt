@@ -1,4 +1,4 @@
-// The rows of the entries that were read, six numbers each; four numbers a row.
+// The rows of the entries that were read, seven numbers each; five numbers a row.
 ghost use mathlib.Core.Path.{_≡_};
 ghost use mathlib.Core.List.{map};
 ghost use Prim.Native.Nat.{_+_, _*_, _-_, _<_, _≤_};
@@ -19,10 +19,10 @@ fn wide(n: u32) -> usize
 
 // How many bytes entry i takes by itself: a group, none.
 fn size_at(entries: &[u32], i: usize) -> usize
-    requires { ⌜ i * 6 + 5 < length (now entries) ⌝ }
+    requires { ⌜ i * 7 + 6 < length (now entries) ⌝ }
     ensures { λ r. ⌜ Sized (now (entries .entry)) i r ⌝ }
 {
-    let at = i * 6;
+    let at = i * 7;
     if entries[at + 3] == 0 {
         return 0;
     }
@@ -31,24 +31,24 @@ fn size_at(entries: &[u32], i: usize) -> usize
 
 // Whether entry i is an item whose picture has an S.
 fn signed_at(entries: &[u32], i: usize) -> bool
-    requires { ⌜ i * 6 + 5 < length (now entries) ⌝ }
+    requires { ⌜ i * 7 + 6 < length (now entries) ⌝ }
     ensures { λ r. ⌜ Signed (now (entries .entry)) i r ⌝ }
 {
-    let at = i * 6;
+    let at = i * 7;
     let kind = entries[at + 3];
-    (kind == 4) | (kind == 5) | (kind == 6)
+    (kind == 4) | (kind == 5) | (kind == 6) | (kind == 8)
 }
 
 // What a group of this level has by the entries from i on.
 fn sum_below(entries: &[u32], i: usize, n: usize, level: u32) -> Below
-    requires { ⌜ (i ≤ n) × ((n ≤ 820) × (n * 6 ≤ length (now entries))) ⌝ }
+    requires { ⌜ (i ≤ n) × ((n ≤ 820) × (n * 7 ≤ length (now entries))) ⌝ }
     ensures { λ r. ⌜ Summed (now (entries .entry)) i n level (r .size) (r .signed) ⌝ }
 {
     let mut size: usize = 0;
     let mut signed = false;
     let mut k = i;
     while k < n {
-        let l = entries[k * 6];
+        let l = entries[k * 7];
         if !((level < l) & (l <= 49)) {
             return Below { size, signed };
         }
@@ -71,10 +71,10 @@ fn group_kind(signed: bool) -> u32
 
 // The row of entry i at an offset.
 fn row_of(entries: &[u32], i: usize, n: usize, offset: usize) -> ItemRow
-    requires { ⌜ (i < n) × ((n ≤ 820) × (n * 6 ≤ length (now entries))) ⌝ }
+    requires { ⌜ (i < n) × ((n ≤ 820) × (n * 7 ≤ length (now entries))) ⌝ }
     ensures { λ r. ⌜ shownRow r ≡ rowIn (now (entries .entry)) i n offset ⌝ }
 {
-    let at = i * 6;
+    let at = i * 7;
     let kind = entries[at + 3];
     if kind == 0 {
         let level = entries[at];
@@ -84,6 +84,7 @@ fn row_of(entries: &[u32], i: usize, n: usize, offset: usize) -> ItemRow
             offset,
             size: below.size,
             scale: 0,
+            digits: 0,
         };
     }
     ItemRow {
@@ -91,23 +92,25 @@ fn row_of(entries: &[u32], i: usize, n: usize, offset: usize) -> ItemRow
         offset,
         size: wide(entries[at + 4]),
         scale: entries[at + 5],
+        digits: entries[at + 6],
     }
 }
 
 fn store_row(rows: &mut [u32], i: usize, row: ItemRow)
-    requires { ⌜ (i * 4 + 3 < length (now rows)) × ((row .offset ≤ 65535) × (row .size ≤ 65535)) ⌝ }
-    ensures { λ _. ⌜ now (rows .exit) ≡ sets (now (rows .entry)) (i * 4) (numbersOf (shownRow row)) ⌝ }
+    requires { ⌜ (i * 5 + 4 < length (now rows)) × ((row .offset ≤ 65535) × (row .size ≤ 65535)) ⌝ }
+    ensures { λ _. ⌜ now (rows .exit) ≡ sets (now (rows .entry)) (i * 5) (numbersOf (shownRow row)) ⌝ }
 {
-    let at = i * 4;
+    let at = i * 5;
     rows[at] = row.kind;
     rows[at + 1] = row.offset as u32;
     rows[at + 2] = row.size as u32;
     rows[at + 3] = row.scale;
+    rows[at + 4] = row.digits;
 }
 
 // The rows of n entries, up to the first that passes a limit.
 pub fn lay_rows(entries: &[u32], n: usize, rows: &mut [u32]) -> Laid
-    requires { ⌜ (n ≤ 820) × ((n * 6 ≤ length (now entries)) × (256 ≤ length (now rows))) ⌝ }
+    requires { ⌜ (n ≤ 820) × ((n * 7 ≤ length (now entries)) × (320 ≤ length (now rows))) ⌝ }
     ensures { λ r. ⌜ LaidOut (now (entries .entry)) n r (now (rows .exit)) ⌝ }
 {
     let mut offset: usize = 0;
@@ -115,7 +118,7 @@ pub fn lay_rows(entries: &[u32], n: usize, rows: &mut [u32]) -> Laid
     while i < n {
         let row = row_of(entries, i, n, offset);
         if is_over(i, row) {
-            let at = i * 6;
+            let at = i * 7;
             return Laid::Over(wide(entries[at + 1]));
         }
         store_row(rows, i, row);

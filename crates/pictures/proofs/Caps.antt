@@ -1,4 +1,4 @@
--- The code's step and end of a picture are the definition's, with counts that stop at 65,536.
+-- The code's step and end of a picture are the definition's, with counts that stop at 131,072.
 use mathlib.Core.Path.{_≡_, refl, sym, ap, _∙_}
 use mathlib.Core.Bool.{Bool, true, false, cond}
 use mathlib.Core.Option.{Option, none, some, Option·getD}
@@ -20,7 +20,7 @@ use Rattle.description.proofs.Bytes.{apart, eqb-no, eqb-same, is-some}
 use Rattle.description.proofs.Stages.{reach-le, reached}
 use Rattle.words.proofs.Laws.{part-from}
 use Rattle.pictures.specs.Steps.{cap, made, onTally, totalOf, Small}
-use Rattle.pictures.specs.Drawings.{drew, pointAfter, onLetters, onPointed, onPoint, onNumber, onFirst, onDrawn, SmallDrawn, numberEnd, numberKind, signedOnly, lettersEnd, endWith, drawnEnd, capPending, capTally, capDrawn, capPictured, draws, sketch}
+use Rattle.pictures.specs.Drawings.{drew, pointAfter, onLetters, onPointed, onPoint, onNumber, onFirst, onDrawn, SmallDrawn, numberEnd, numberKind, lettersEnd, endWith, drawnEnd, capPending, capTally, capDrawn, capPictured, draws, sketch}
 use Rattle.pictures.specs.declared.Pending.the-variants.{Settled, Last, Counting}
 use Rattle.pictures.specs.declared.Tally.{Tally}
 use Rattle.pictures.specs.declared.Tallied.{Tallied}
@@ -87,7 +87,7 @@ letters-caps : (c : R.Letter) (n k : ℕ) (p : Bool) → lettersEnd (R.letterByt
 letters-caps c zero k p = refl
 letters-caps c (suc n) k p = rw (eqb-no (cap (suc n)) 0 (λ e. omega arith)) (by c p)
   where
-    by : (c : R.Letter) (p : Bool) → cond p (Pictured.Ended (cond (eqb (R.letterByte c) 0x58) 2 1) (cap (suc n)) 0 (k + 1)) (Pictured.Fault k)
+    by : (c : R.Letter) (p : Bool) → cond p (Pictured.Ended (cond (eqb (R.letterByte c) 0x58) 2 1) (cap (suc n)) 0 0 (k + 1)) (Pictured.Fault k)
         ≡ capPictured (pictured k (some (characters (R.letterKind c) (suc n))) p)
     by R.letter-x true = refl
     by R.letter-x false = refl
@@ -100,7 +100,7 @@ digits-caps s m n (suc z) k p e =
     let i : cap (cap m + cap n) ≡ cap (m + n) = omega arith in
     rw (i, eqb-no (cap (m + n)) 0 (λ h. omega arith)) (by s p)
   where
-    by : (s p : Bool) → cond p (Pictured.Ended (numberKind s) (cap (m + n)) (cap n) (k + 1)) (signedOnly s (cap m) (cap n) k) ≡ capPictured (pictured k (some (number s m n)) p)
+    by : (s p : Bool) → cond p (Pictured.Ended (numberKind s) (cap (m + n)) (cap n) (cap (m + n)) (k + 1)) (Pictured.Number s (cap m) (cap n) k) ≡ capPictured (pictured k (some (number s m n)) p)
     by true true = refl
     by true false = refl
     by false true = refl

@@ -52,5 +52,5 @@ pending-last c t b r p e = rw p e
 pub pending-counting : (c : ℕ) (t : Tally) (v b : ℕ) (r : Tallied) → t .pending ≡ Counting v → r ≡ onCounting (t .count) v b → r ≡ onTally c t b
 pending-counting c t v b r p e = rw p e
 
-pub counting-small : (t : Tally) (v : ℕ) → t .pending ≡ Counting v → Small t → v ≤ 65536
+pub counting-small : (t : Tally) (v : ℕ) → t .pending ≡ Counting v → Small t → v ≤ 131072
 counting-small t v p s = rw p at (s .pending)

@@ -1,4 +1,4 @@
--- The code's step is the definition's, with counts that stop at 65,536.
+-- The code's step is the definition's, with counts that stop at 131,072.
 use mathlib.Core.Path.{_≡_, refl, sym, ap}
 use mathlib.Core.Bool.{Bool, true, false, cond, _&&_, not, and-false}
 use mathlib.Core.Option.{Option, none, some}

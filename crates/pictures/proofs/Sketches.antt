@@ -8,7 +8,7 @@ use Rattle.description.specs.declared.Pictured.{Pictured}
 use Rattle.description.specs.declared.Pictured.the-variants as Pictured
 use Rattle.description.proofs.Bytes.{eqb-no, eqb-same}
 use Rattle.pictures.specs.Steps.{cap, made, onTally, totalOf, totalOfPending, Small}
-use Rattle.pictures.specs.Drawings.{drew, pointAfter, onLetters, onPointed, onPoint, onNumber, onFirst, onDrawn, SmallDrawn, numberEnd, numberKind, signedOnly, lettersEnd, endWith, drawnEnd}
+use Rattle.pictures.specs.Drawings.{drew, pointAfter, onLetters, onPointed, onPoint, onNumber, onFirst, onDrawn, SmallDrawn, numberEnd, numberKind, lettersEnd, endWith, drawnEnd}
 use Rattle.pictures.specs.declared.Pending.{Pending}
 use Rattle.pictures.specs.declared.Pending.the-variants.{Settled, Last, Counting}
 use Rattle.pictures.specs.declared.Tally.{Tally}
@@ -30,10 +30,10 @@ total-last t m e h = rw (e, h)
 pub total-open : (t : Tally) {v : ℕ} → t .pending ≡ Counting v → Open ≡ totalOf t
 total-open t e = rw e
 
-pub total-small : (t : Tally) {x : Counted} {n : ℕ} → Small t → x ≡ totalOf t → x ≡ Times n → n ≤ 65536
+pub total-small : (t : Tally) {x : Counted} {n : ℕ} → Small t → x ≡ totalOf t → x ≡ Times n → n ≤ 131072
 total-small t {x} {n} s e h = by (t .pending) (sym h ∙ e)
   where
-    by : (p : Pending) → Times n ≡ totalOfPending (t .count) p → n ≤ 65536
+    by : (p : Pending) → Times n ≡ totalOfPending (t .count) p → n ≤ 131072
     by Settled i = let j : n ≡ t .count = cc in omega (arith, s .count)
     by Last i = let j : n ≡ cap (t .count + 1) = cc in omega arith
     by (Counting v) i = let z : _≡_ {A = ℕ} 0 1 = cc in absurd (omega arith)
@@ -86,10 +86,10 @@ module _ (s : Bool) (m n k : ℕ) (period : Bool) {z : ℕ} (e : z ≡ cap (m + 
   pub number-zero : z ≡ 0 → Pictured.Fault k ≡ numberEnd s m n k period
   number-zero h = let i : cap (m + n) ≡ 0 = sym e ∙ h in rw i
 
-  pub number-ended : ¬ (z ≡ 0) → period ≡ true → Pictured.Ended (numberKind s) z n (k + 1) ≡ numberEnd s m n k period
+  pub number-ended : ¬ (z ≡ 0) → period ≡ true → Pictured.Ended (numberKind s) z n z (k + 1) ≡ numberEnd s m n k period
   number-ended h p = rw (← e, eqb-no z 0 h, p)
 
-  pub number-open : ¬ (z ≡ 0) → period ≡ false → signedOnly s m n k ≡ numberEnd s m n k period
+  pub number-open : ¬ (z ≡ 0) → period ≡ false → Pictured.Number s m n k ≡ numberEnd s m n k period
   number-open h p = rw (← e, eqb-no z 0 h, p)
 
 module _ (c n k : ℕ) (period : Bool) where
@@ -99,8 +99,8 @@ module _ (c n k : ℕ) (period : Bool) where
   pub letters-open : ¬ (n ≡ 0) → period ≡ false → Pictured.Fault k ≡ lettersEnd c n k period
   letters-open h p = rw (eqb-no n 0 h, p)
 
-  pub letters-x : ¬ (n ≡ 0) → period ≡ true → c ≡ 0x58 → Pictured.Ended 2 n 0 (k + 1) ≡ lettersEnd c n k period
+  pub letters-x : ¬ (n ≡ 0) → period ≡ true → c ≡ 0x58 → Pictured.Ended 2 n 0 0 (k + 1) ≡ lettersEnd c n k period
   letters-x h p e = rw (eqb-no n 0 h, p, e)
 
-  pub letters-a : ¬ (n ≡ 0) → period ≡ true → ¬ (c ≡ 0x58) → Pictured.Ended 1 n 0 (k + 1) ≡ lettersEnd c n k period
+  pub letters-a : ¬ (n ≡ 0) → period ≡ true → ¬ (c ≡ 0x58) → Pictured.Ended 1 n 0 0 (k + 1) ≡ lettersEnd c n k period
   letters-a h p e = rw (eqb-no n 0 h, p, eqb-no c 0x58 e)

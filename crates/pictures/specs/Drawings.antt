@@ -1,4 +1,4 @@
--- The step of a picture with counts that stop at 65,536, and what a picture is where it ends.
+-- The step of a picture with counts that stop at 131,072, and what a picture is where it ends.
 use mathlib.Core.Bool.{Bool, true, false, cond}
 use mathlib.Core.Option.{Option, none, some, Option·getD}
 use mathlib.Core.List.{List, []}
@@ -62,23 +62,19 @@ abbrev pub SmallDrawn : Drawn → Type 0
 SmallDrawn Nothing = Unit {0}
 SmallDrawn (Letters c t) = Small t
 SmallDrawn (Whole s t) = Small t
-SmallDrawn (Pointed s m t) = (m ≤ 65536) × Small t
+SmallDrawn (Pointed s m t) = (m ≤ 131072) × Small t
 
 abbrev pub numberKind : Bool → ℕ
 numberKind true = 4
 numberKind false = 3
 
-abbrev pub signedOnly : Bool → ℕ → ℕ → ℕ → Pictured
-signedOnly true m n k = Pictured.Signed m n k
-signedOnly false m n k = Pictured.Fault k
-
 abbrev pub numberEnd : Bool → ℕ → ℕ → ℕ → Bool → Pictured
 numberEnd s m n k period =
-    cond (eqb (cap (m + n)) 0) (Pictured.Fault k) (cond period (Pictured.Ended (numberKind s) (cap (m + n)) n (k + 1)) (signedOnly s m n k))
+    cond (eqb (cap (m + n)) 0) (Pictured.Fault k) (cond period (Pictured.Ended (numberKind s) (cap (m + n)) n (cap (m + n)) (k + 1)) (Pictured.Number s m n k))
 
 abbrev pub lettersEnd : ℕ → ℕ → ℕ → Bool → Pictured
 lettersEnd c n k period =
-    cond (eqb n 0) (Pictured.Fault k) (cond period (Pictured.Ended (cond (eqb c 0x58) 2 1) n 0 (k + 1)) (Pictured.Fault k))
+    cond (eqb n 0) (Pictured.Fault k) (cond period (Pictured.Ended (cond (eqb c 0x58) 2 1) n 0 0 (k + 1)) (Pictured.Fault k))
 
 abbrev pub endWith : (ℕ → Pictured) → ℕ → Counted → Pictured
 endWith f k (Times n) = f n
@@ -90,7 +86,7 @@ drawnEnd (Letters c t) k period = endWith (λ n. lettersEnd c n k period) k (tot
 drawnEnd (Whole s t) k period = endWith (λ m. numberEnd s m 0 k period) k (totalOf t)
 drawnEnd (Pointed s m t) k period = endWith (λ n. numberEnd s m n k period) k (totalOf t)
 
--- The same of the definition's states: counts above 65,536 are taken as 65,536.
+-- The same of the definition's states: counts above 131,072 are taken as 131,072.
 abbrev pub capPending : R.Pending → Pending
 capPending R.settled = Settled
 capPending R.last = Last
@@ -106,8 +102,8 @@ capDrawn (R.whole s t) = Whole s (capTally t)
 capDrawn (R.pointed s m t) = Pointed s (cap m) (capTally t)
 
 abbrev pub capPictured : Pictured → Pictured
-capPictured (Pictured.Ended kind size scale k) = Pictured.Ended kind (cap size) (cap scale) k
-capPictured (Pictured.Signed i j k) = Pictured.Signed (cap i) (cap j) k
+capPictured (Pictured.Ended kind size scale digits k) = Pictured.Ended kind (cap size) (cap scale) (cap digits) k
+capPictured (Pictured.Number s i j k) = Pictured.Number s (cap i) (cap j) k
 capPictured (Pictured.Fault k) = Pictured.Fault k
 
 -- A picture as far as it goes on, and what has been read of it there.

@@ -1,4 +1,4 @@
--- The step of a tally with counts that stop at 65,536.
+-- The step of a tally with counts that stop at 131,072.
 use mathlib.Core.Bool.{Bool, cond, _&&_, not}
 use Prim.Native.Nat.{ℕ, _+_, _*_, _-_, _≤_, min}
 use lib.Dec.{eqb, leb}
@@ -12,7 +12,7 @@ use Rattle.pictures.specs.declared.Counted.{Counted}
 use Rattle.pictures.specs.declared.Counted.the-variants.{Times, Open}
 
 abbrev pub cap : ℕ → ℕ
-cap n = min n 65536
+cap n = min n 131072
 
 abbrev pub made : ℕ → Pending → Tally
 made n p = record { count = n; pending = p }
@@ -39,10 +39,10 @@ onTally c t b = onPending c (t .count) (t .pending) b
 abbrev pub SmallPending : Pending → Type 0
 SmallPending Settled = Unit {0}
 SmallPending Last = Unit {0}
-SmallPending (Counting v) = v ≤ 65536
+SmallPending (Counting v) = v ≤ 131072
 
 pub record Small (t : Tally) : Type 0 where
-  pub count : t .count ≤ 65536
+  pub count : t .count ≤ 131072
   pub pending : SmallPending (t .pending)
 
 -- how often the character stands, unless its count is being read

@@ -116,27 +116,24 @@ pub fn draw_byte(d: Drawn, b: u8) -> Drew
 }
 
 fn number_end(signed: bool, m: u32, n: u32, k: usize, period: bool) -> Pictured
-    requires { ⌜ (m ≤ 65536) × ((n ≤ 65536) × (k ≤ 65536)) ⌝ }
+    requires { ⌜ (m ≤ 131072) × ((n ≤ 131072) × (k ≤ 131072)) ⌝ }
     ensures { λ r. ⌜ r ≡ numberEnd signed m n k period ⌝ }
 {
-    let size = capped(m + n);
-    if size == 0 {
+    let digits = capped(m + n);
+    if digits == 0 {
         return Pictured::Fault(k);
     }
     if period {
         if signed {
-            return Pictured::Ended(4, size, n, k + 1);
+            return Pictured::Ended(4, digits, n, digits, k + 1);
         }
-        return Pictured::Ended(3, size, n, k + 1);
+        return Pictured::Ended(3, digits, n, digits, k + 1);
     }
-    if signed {
-        return Pictured::Signed(m, n, k);
-    }
-    Pictured::Fault(k)
+    Pictured::Number(signed, m, n, k)
 }
 
 fn letters_end(c: u8, n: u32, k: usize, period: bool) -> Pictured
-    requires { ⌜ k ≤ 65536 ⌝ }
+    requires { ⌜ k ≤ 131072 ⌝ }
     ensures { λ r. ⌜ r ≡ lettersEnd c n k period ⌝ }
 {
     if n == 0 {
@@ -146,14 +143,14 @@ fn letters_end(c: u8, n: u32, k: usize, period: bool) -> Pictured
         return Pictured::Fault(k);
     }
     if c == 0x58 {
-        return Pictured::Ended(2, n, 0, k + 1);
+        return Pictured::Ended(2, n, 0, 0, k + 1);
     }
-    Pictured::Ended(1, n, 0, k + 1)
+    Pictured::Ended(1, n, 0, 0, k + 1)
 }
 
 // What a picture is that goes on to place k, with or without a period there.
 pub fn drawn_end(d: Drawn, k: usize, period: bool) -> Pictured
-    requires { ⌜ (SmallDrawn d) × (k ≤ 65536) ⌝ }
+    requires { ⌜ (SmallDrawn d) × (k ≤ 131072) ⌝ }
     ensures { λ r. ⌜ r ≡ drawnEnd d k period ⌝ }
 {
     match d {

@@ -1,4 +1,4 @@
-// Pictures, byte by byte. Counts stop at 65,536, above every limit.
+// Pictures, byte by byte. Counts stop at 131,072: half of it, a packed item's size, is above every limit.
 
 mod drawings; // one byte of a picture, and what a picture is where it ends
 pub mod scan; // a picture in a text

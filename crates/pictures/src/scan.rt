@@ -33,7 +33,7 @@ fn sketched(rest: &[u8]) -> Sketch
     Sketch { len: k, drawn: d }
 }
 
-// The picture of an item, after a blank at n. Its counts stop at 65,536.
+// The picture of an item, after a blank at n. Its counts stop at 131,072.
 pub fn picture_at(text: &[u8], n: usize) -> Pictured
     requires { ⌜ (n ≤ length (now text)) × (length (now text) ≤ 4096) ⌝ }
     ensures { λ r. ⌜ r ≡ capPictured (pictureAt (now (text .entry)) n) ⌝ }

@@ -15,9 +15,9 @@ fn wide(b: u8) -> u32
 }
 
 pub fn capped(n: u32) -> u32
-    ensures { λ r. ⌜ r ≡ min n 65536 ⌝ }
+    ensures { λ r. ⌜ r ≡ min n 131072 ⌝ }
 {
-    if 65536 < n { 65536 } else { n }
+    if 131072 < n { 131072 } else { n }
 }
 
 fn settled(c: u8, n: u32, b: u8) -> Tallied
@@ -34,7 +34,7 @@ fn settled(c: u8, n: u32, b: u8) -> Tallied
 }
 
 fn last(c: u8, n: u32, b: u8) -> Tallied
-    requires { ⌜ n ≤ 65536 ⌝ }
+    requires { ⌜ n ≤ 131072 ⌝ }
     ensures { λ r. ⌜ r ≡ onLast c n b ⌝ }
 {
     if b == c {
@@ -56,15 +56,15 @@ fn last(c: u8, n: u32, b: u8) -> Tallied
 
 // the digit more
 fn counted(v: u32, b: u8) -> u32
-    requires { ⌜ (v ≤ 65536) × (0x30 ≤ b) ⌝ }
-    ensures { λ r. ⌜ r ≡ min (v * 10 + (b - 0x30)) 65536 ⌝ }
+    requires { ⌜ (v ≤ 131072) × (0x30 ≤ b) ⌝ }
+    ensures { λ r. ⌜ r ≡ min (v * 10 + (b - 0x30)) 131072 ⌝ }
 {
     let d = wide(b) - 0x30;
     capped(v * 10 + d)
 }
 
 fn counting(n: u32, v: u32, b: u8) -> Tallied
-    requires { ⌜ (n ≤ 65536) × (v ≤ 65536) ⌝ }
+    requires { ⌜ (n ≤ 131072) × (v ≤ 131072) ⌝ }
     ensures { λ r. ⌜ r ≡ onCounting n v b ⌝ }
 {
     if is_digit(b) {

@@ -11,15 +11,15 @@ ghost use Rattle.grammar.specs.Depth.{depthCheck};
 ghost use Rattle.rules.specs.Calls.{earlier, tokenLines};
 ghost use Rattle.preparer.specs.Prepared.{parseCheck, parsedTokens, Resolves, Prepares};
 use crate::Prepared;
+use checks::lent::check_tables;
+use checks::tokens::check_token_count;
+use checks::tokens::check_tokens;
 use parser::Parse;
 use parser::cycle::parse;
 use plans::checks::check_typing;
 use reader::depth::check_depth;
 use tables::Check;
 use tables::Refusal;
-use tables::checks::check_tables;
-use tables::checks::check_token_count;
-use tables::checks::check_tokens;
 use tables::refusals::place_of;
 
 // 1 to 6.

@@ -14,14 +14,14 @@ use Rattle.values.specs.Truth.{orStop}
 use Rattle.rules.specs.Groups.{sideAs, LikeAGroup}
 
 -- any byte may stand in a group, so that it has no fault beside any row
-no-wrong : (n at : ℕ) (bytes : List ℕ) → firstFrom (rightAt 7 n) at bytes ≡ Nowhere
+no-wrong : (digits n at : ℕ) (bytes : List ℕ) → firstFrom (rightAt 7 digits n) at bytes ≡ Nowhere
 unfolding firstFrom
-no-wrong n at [] = refl
-no-wrong n at (b ∷ bytes) = no-wrong n (suc at) bytes
+no-wrong digits n at [] = refl
+no-wrong digits n at (b ∷ bytes) = no-wrong digits n (suc at) bytes
 
 no-fault : (s : Side) (other : Row) → fault (sideAs 7 s) other ≡ Nowhere
 no-fault s other =
-    ap (λ w. cond (isGroup other) Nowhere (cond (s .item) (moved (s .row .offset) w) Nowhere)) (no-wrong (length (s .bytes)) 0 (s .bytes))
+    ap (λ w. cond (isGroup other) Nowhere (cond (s .item) (moved (s .row .offset) w) Nowhere)) (no-wrong (s .row .digits) (length (s .bytes)) 0 (s .bytes))
     ∙ go (isGroup other) (s .item)
   where
     go : (unseen item : Bool) → cond unseen Nowhere (cond item Nowhere Nowhere) ≡ Nowhere

@@ -3,6 +3,7 @@ pub mod Passing
 pub mod Deep
 pub mod Stops
 pub mod Groups
+pub mod Amounts
 pub mod Places
 pub mod Answers
 pub mod Demands

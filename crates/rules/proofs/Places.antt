@@ -76,7 +76,7 @@ low-last line h = rw (line-last line) h
 -- a table has at most 64 rows
 few-of : (table : List ℕ) (refusal : Refusal) → unless (lengthSound table) refusal ≡ Sound → rowCount table ≤ 64
 few-of table refusal e =
-    let l : length table ≤ 256 = leb-true _ _ (both (eqb (length table % 4) 0) (leb (length table) 256) (test-sound _ refusal e) .1) in
+    let l : length table ≤ 320 = leb-true _ _ (both (eqb (length table % 5) 0) (leb (length table) 320) (test-sound _ refusal e) .1) in
     omega arith
 
 -- 1 to 4, and lines after them

@@ -1,4 +1,4 @@
--- Worked examples of document 02, b), c), g), i), l), n), by computation.
+-- Worked examples of document 02, b), c), f), g), i), l), n), by computation.
 use mathlib.Core.Path.{_≡_, refl}
 use mathlib.Core.List.{List, [], _∷_}
 use Prim.Native.Nat.{ℕ}
@@ -6,12 +6,14 @@ use mathlib.Core.Bool.{true, false}
 use Rattle.tables.specs.declared.Refusal.the-variants.{ItemRow, Record, Token, Typing, PlanRow as PlanFault, Data, Letters}
 use Rattle.tables.specs.declared.Verdict.the-variants.{True, False, Refused}
 use Rattle.tables.specs.Operands.{Lent, under}
+use lib.IntN.{negsuc}
 use Rattle.content.specs.Content.{all, numberFrom}
+use Rattle.content.specs.Packed.{packedFrom}
 use Rattle.content.specs.WrongByte.{firstFrom, validContent}
 use Rattle.tables.specs.Refusals.{firstFailing, firstOf}
 use Rattle.typing.specs.Typing.{typed}
 use Rattle.compare.specs.Compared.{byteOrder}
-use Rattle.values.specs.Comparison.{comparison}
+use Rattle.values.specs.Comparison.{sideOf, valueOf, comparison}
 use Rattle.compare.specs.Classes.{classHolds}
 use Rattle.compare.specs.Switches.{switchHolds}
 use Rattle.values.specs.Truth.{outcome}
@@ -27,7 +29,7 @@ use Rattle.rules.specs.Footprint.{itemsAmong, footprint}
 
 -- four items of kind 3, one digit each: a, b, c, d are 0 to 3; of the record, c is blank
 abbrev digits : Lent
-digits = record { off = false; items = 3 ∷ 0 ∷ 1 ∷ 0 ∷ 3 ∷ 1 ∷ 1 ∷ 0 ∷ 3 ∷ 2 ∷ 1 ∷ 0 ∷ 3 ∷ 3 ∷ 1 ∷ 0 ∷ []; literals = []; bytes = [] }
+digits = record { off = false; items = 3 ∷ 0 ∷ 1 ∷ 0 ∷ 1 ∷ 3 ∷ 1 ∷ 1 ∷ 0 ∷ 1 ∷ 3 ∷ 2 ∷ 1 ∷ 0 ∷ 1 ∷ 3 ∷ 3 ∷ 1 ∷ 0 ∷ 1 ∷ []; literals = []; bytes = [] }
 
 abbrev c-blank : List ℕ
 c-blank = 0x31 ∷ 0x31 ∷ 0x20 ∷ 0x31 ∷ []
@@ -85,7 +87,7 @@ abbrev counters : Lent
 counters =
     record {
       off = false;
-      items = 3 ∷ 2 ∷ 3 ∷ 0 ∷ 4 ∷ 5 ∷ 3 ∷ 0 ∷ 5 ∷ 8 ∷ 3 ∷ 0 ∷ 6 ∷ 11 ∷ 3 ∷ 0 ∷ 2 ∷ 0 ∷ 2 ∷ 0 ∷ 0 ∷ 0 ∷ 2 ∷ 0 ∷ [];
+      items = 3 ∷ 2 ∷ 3 ∷ 0 ∷ 3 ∷ 4 ∷ 5 ∷ 3 ∷ 0 ∷ 3 ∷ 5 ∷ 8 ∷ 3 ∷ 0 ∷ 2 ∷ 6 ∷ 11 ∷ 3 ∷ 0 ∷ 2 ∷ 2 ∷ 0 ∷ 2 ∷ 0 ∷ 0 ∷ 0 ∷ 0 ∷ 2 ∷ 0 ∷ 0 ∷ [];
       literals = [];
       bytes = [];
     }
@@ -114,7 +116,7 @@ abbrev fields : Lent
 fields =
     record {
       off = false;
-      items = 1 ∷ 0 ∷ 3 ∷ 0 ∷ 2 ∷ 3 ∷ 3 ∷ 0 ∷ 0 ∷ 0 ∷ 6 ∷ 0 ∷ 4 ∷ 6 ∷ 3 ∷ 0 ∷ 1 ∷ 9 ∷ 2 ∷ 0 ∷ [];
+      items = 1 ∷ 0 ∷ 3 ∷ 0 ∷ 0 ∷ 2 ∷ 3 ∷ 3 ∷ 0 ∷ 0 ∷ 0 ∷ 0 ∷ 6 ∷ 0 ∷ 0 ∷ 4 ∷ 6 ∷ 3 ∷ 0 ∷ 3 ∷ 1 ∷ 9 ∷ 2 ∷ 0 ∷ 0 ∷ [];
       literals = [];
       bytes = [];
     }
@@ -141,7 +143,7 @@ abbrev groups : Lent
 groups =
     record {
       off = false;
-      items = 7 ∷ 0 ∷ 4 ∷ 0 ∷ 0 ∷ 0 ∷ 4 ∷ 0 ∷ 2 ∷ 0 ∷ 4 ∷ 0 ∷ 3 ∷ 4 ∷ 2 ∷ 0 ∷ 1 ∷ 6 ∷ 2 ∷ 0 ∷ 7 ∷ 4 ∷ 4 ∷ 0 ∷ [];
+      items = 7 ∷ 0 ∷ 4 ∷ 0 ∷ 0 ∷ 0 ∷ 0 ∷ 4 ∷ 0 ∷ 0 ∷ 2 ∷ 0 ∷ 4 ∷ 0 ∷ 0 ∷ 3 ∷ 4 ∷ 2 ∷ 0 ∷ 2 ∷ 1 ∷ 6 ∷ 2 ∷ 0 ∷ 0 ∷ 7 ∷ 4 ∷ 4 ∷ 0 ∷ 0 ∷ [];
       literals = [];
       bytes = [];
     }
@@ -150,7 +152,7 @@ abbrev counted : List ℕ
 counted = 0x31 ∷ 0x32 ∷ 0x33 ∷ 0x34 ∷ 0x31 ∷ 0x20 ∷ 0x41 ∷ 0x37 ∷ []
 
 -- NUMERIC: all digits, or not; 9 on kind 0. ALPHABETIC is typed on kind 7, POSITIVE is not. Kind 7 = kind 0. The counter and the owner beside
--- kind 7 are not looked at, on either side; beside the text they are. Kind 8 is none.
+-- kind 7 are not looked at, on either side; beside the text they are. Kind 10 is none.
 counters-in-groups : (judgeGives groups (0 ∷ 262154 ∷ []) counted 0 ≡ record { verdict = True; count = 1 })
     × (judgeGives groups (5 ∷ 262154 ∷ []) counted 0 ≡ record { verdict = False; count = 1 })
     × (judgeGives groups (1 ∷ 262154 ∷ []) counted 0 ≡ record { verdict = Refused (Typing 0); count = 0 })
@@ -161,7 +163,37 @@ counters-in-groups : (judgeGives groups (0 ∷ 262154 ∷ []) counted 0 ≡ reco
     × (judgeGives groups (0 ∷ 262150 ∷ 4 ∷ []) counted 0 ≡ record { verdict = True; count = 1 })
     × (judgeGives groups (3 ∷ 262150 ∷ 2 ∷ []) counted 0 ≡ record { verdict = Refused (Data 0 5); count = 1 })
     × (judgeGives groups (2 ∷ 262150 ∷ 4 ∷ []) counted 0 ≡ record { verdict = Refused (Letters 0 7); count = 1 })
-    × (judgeGives record { off = false; items = 8 ∷ 0 ∷ 4 ∷ 0 ∷ []; literals = []; bytes = [] } (0 ∷ 262154 ∷ []) counted 0
+    × (judgeGives record { off = false; items = 10 ∷ 0 ∷ 4 ∷ 0 ∷ 0 ∷ []; literals = []; bytes = [] } (0 ∷ 262154 ∷ []) counted 0
     ≡ record { verdict = Refused (ItemRow 0); count = 0 })
 unfolding all numberFrom firstFrom validContent firstFailing firstOf typed byteOrder comparison classHolds switchHolds outcome class on parse-condition read depthFrom typingFrom leaves when at judged visited judgeWalk
 counters-in-groups = (refl, refl, refl, refl, refl, refl, refl, refl, refl, refl, refl)
+
+-- f): 001's example, "PIC S9(5)V9(3) holding −23 is hex 0000230004", in bytes 0 to 4 as item 0; bytes 5 and 6 as items 1 and 2, kinds 8 and 9 of
+-- three digits; bytes 7 and 8 as items 3 and 4, kind 8 of two digits and a group; byte 9, one digit of kind 9. Literal 0 is −23, literal 1 a
+-- text.
+abbrev amounts : Lent
+amounts =
+    record {
+      off = false;
+      items = 8 ∷ 0 ∷ 5 ∷ 3 ∷ 8 ∷ 8 ∷ 5 ∷ 2 ∷ 0 ∷ 3 ∷ 9 ∷ 5 ∷ 2 ∷ 0 ∷ 3 ∷ 8 ∷ 7 ∷ 2 ∷ 0 ∷ 2 ∷ 0 ∷ 7 ∷ 2 ∷ 0 ∷ 0 ∷ 9 ∷ 9 ∷ 1 ∷ 1 ∷ 1 ∷ [];
+      literals = 5 ∷ 0 ∷ 3 ∷ 0 ∷ 2 ∷ 2 ∷ 1 ∷ 2 ∷ 0 ∷ 0 ∷ [];
+      bytes = 0x2d ∷ 0x32 ∷ 0x33 ∷ [];
+    }
+
+-- −123 in bytes 5 and 6; a half 1 that leads two digits in byte 7; 0.5 in byte 9
+abbrev ledger : List ℕ
+ledger = 0x00 ∷ 0x00 ∷ 0x23 ∷ 0x00 ∷ 0x04 ∷ 0x12 ∷ 0x34 ∷ 0x11 ∷ 0x23 ∷ 0x53 ∷ []
+
+-- its value is −23,000, at scale 3; it equals literal −23, and is NUMERIC and NEGATIVE. Item 1 is −123, less than it; kind 9 has no minus, so that
+-- item 2 is not NUMERIC, and stops at byte 6. Item 3's leading half stops at byte 7. 9 beside a group and beside a text.
+packed-amounts : (valueOf (sideOf amounts ledger 0) ≡ negsuc 22999)
+    × (judgeGives amounts (0 ∷ 262151 ∷ 65536 ∷ []) ledger 0 ≡ record { verdict = True; count = 1 })
+    × (judgeGives amounts (0 ∷ 262154 ∷ 262147 ∷ 0 ∷ 262159 ∷ []) ledger 0 ≡ record { verdict = True; count = 2 })
+    × (judgeGives amounts (1 ∷ 262150 ∷ 0 ∷ []) ledger 0 ≡ record { verdict = True; count = 1 })
+    × (judgeGives amounts (2 ∷ 262154 ∷ []) ledger 0 ≡ record { verdict = False; count = 1 })
+    × (judgeGives amounts (5 ∷ 262149 ∷ 2 ∷ []) ledger 0 ≡ record { verdict = Refused (Data 0 6); count = 1 })
+    × (judgeGives amounts (3 ∷ 262160 ∷ []) ledger 0 ≡ record { verdict = Refused (Data 0 7); count = 1 })
+    × (judgeGives amounts (0 ∷ 262151 ∷ 4 ∷ []) ledger 0 ≡ record { verdict = Refused (Typing 0); count = 0 })
+    × (judgeGives amounts (0 ∷ 262151 ∷ 65537 ∷ []) ledger 0 ≡ record { verdict = Refused (Typing 0); count = 0 })
+unfolding all numberFrom packedFrom firstFrom validContent firstFailing firstOf typed byteOrder comparison classHolds switchHolds outcome class on parse-condition read depthFrom typingFrom leaves when at judged visited judgeWalk
+packed-amounts = (refl, refl, refl, refl, refl, refl, refl, refl, refl)

@@ -92,19 +92,19 @@ module _ (bound : ℕ) where
     stops-test Switch a b h = stops-truth (switchHolds switches a)
     stops-test (Relation word flag) a b h = stops-relation word flag (sideOf lent content a) (sideOf lent content b) (h .0) (h .1)
     stops-test (Class word flag) a b h =
-        stops-truth (turned flag (classHolds word (sideOf lent content a .row .kind) (sideOf lent content a .bytes)))
+        stops-truth (turned flag (classHolds word (sideOf lent content a .row .kind) (sideOf lent content a .row .digits) (sideOf lent content a .bytes)))
     stops-test (Sign word flag) a b h = stops-sign word flag (sideOf lent content a) h
     stops-test Unknown a b h = tt
 
 -- an item's wrong byte is a byte of the record
 module _ (lent : Lent) (content : List ℕ) where
-  near-part : (row : Row) → Near (length content) (moved (row .offset) (firstWrong (row .kind) (part row content)))
-  near-part row = by (firstWrong (row .kind) (part row content)) refl
+  near-part : (row : Row) → Near (length content) (moved (row .offset) (firstWrong (row .kind) (row .digits) (part row content)))
+  near-part row = by (firstWrong (row .kind) (row .digits) (part row content)) refl
     where
-      by : (w : Wrong) → firstWrong (row .kind) (part row content) ≡ w → Near (length content) (moved (row .offset) w)
+      by : (w : Wrong) → firstWrong (row .kind) (row .digits) (part row content) ≡ w → Near (length content) (moved (row .offset) w)
       by Nowhere e = tt
       by (At i) e =
-          let inside = wrong-within (row .kind) (part row content) e in
+          let inside = wrong-within (row .kind) (row .digits) (part row content) e in
           omega (arith, inside, length-take (row .size) (drop (row .offset) content), length-drop (row .offset) content)
 
   near-side : (x : ℕ) → Near (length content) (wrongByte (sideOf lent content x))
@@ -128,11 +128,11 @@ module _ (lent : Lent) (content : List ℕ) where
 
 -- a fit side's is below 131,072
 near-fit : {s : Side} → Fit s → Near 131072 (wrongByte s)
-near-fit {s} f = by (s .item) (firstWrong (s .row .kind) (s .bytes)) refl
+near-fit {s} f = by (s .item) (firstWrong (s .row .kind) (s .row .digits) (s .bytes)) refl
   where
-    by : (b : Bool) (w : Wrong) → firstWrong (s .row .kind) (s .bytes) ≡ w → Near 131072 (cond b (moved (s .row .offset) w) Nowhere)
+    by : (b : Bool) (w : Wrong) → firstWrong (s .row .kind) (s .row .digits) (s .bytes) ≡ w → Near 131072 (cond b (moved (s .row .offset) w) Nowhere)
     by true Nowhere e = tt
-    by true (At i) e = omega (arith, wrong-within (s .row .kind) (s .bytes) e, fit-near f .offset, fit-near f .most)
+    by true (At i) e = omega (arith, wrong-within (s .row .kind) (s .row .digits) (s .bytes) e, fit-near f .offset, fit-near f .most)
     by false w e = tt
 
 pub stops-near : {lent : Lent} {content : List ℕ} {a r b : ℕ} → Readable lent content a r b → (switches : ℕ)

@@ -138,7 +138,7 @@ items rows = record { off = false; items = rows; literals = []; bytes = [] }
 
 -- four items of kind 3, one digit each
 abbrev digits : Lent
-digits = items (3 ∷ 0 ∷ 1 ∷ 0 ∷ 3 ∷ 1 ∷ 1 ∷ 0 ∷ 3 ∷ 2 ∷ 1 ∷ 0 ∷ 3 ∷ 3 ∷ 1 ∷ 0 ∷ [])
+digits = items (3 ∷ 0 ∷ 1 ∷ 0 ∷ 1 ∷ 3 ∷ 1 ∷ 1 ∷ 0 ∷ 1 ∷ 3 ∷ 2 ∷ 1 ∷ 0 ∷ 1 ∷ 3 ∷ 3 ∷ 1 ∷ 0 ∷ 1 ∷ [])
 
 abbrev case : Lent → List ℕ → Says → Case
 case lent tokens says = record { lent = lent; tokens = tokens; says = says }
@@ -149,7 +149,7 @@ first = 0 ∷ 262149 ∷ 1 ∷ 262147 ∷ 262146 ∷ 262150 ∷ 2 ∷ 262148 ∷
 
 -- 11. "31 32 33 34 45 as kind 4", "alphanumeric 12345" and "group 1234E"
 abbrev signs : Lent
-signs = items (4 ∷ 0 ∷ 5 ∷ 0 ∷ 2 ∷ 5 ∷ 5 ∷ 0 ∷ 0 ∷ 10 ∷ 5 ∷ 0 ∷ [])
+signs = items (4 ∷ 0 ∷ 5 ∷ 0 ∷ 5 ∷ 2 ∷ 5 ∷ 5 ∷ 0 ∷ 0 ∷ 0 ∷ 10 ∷ 5 ∷ 0 ∷ 0 ∷ [])
 
 abbrev minus-12345 : List ℕ
 minus-12345 =
@@ -157,18 +157,18 @@ minus-12345 =
 
 -- 12. "30 and 40 as kind 4"
 abbrev zeros : Lent
-zeros = items (4 ∷ 0 ∷ 1 ∷ 0 ∷ 4 ∷ 1 ∷ 1 ∷ 0 ∷ [])
+zeros = items (4 ∷ 0 ∷ 1 ∷ 0 ∷ 1 ∷ 4 ∷ 1 ∷ 1 ∷ 0 ∷ 1 ∷ [])
 
 abbrev plus-and-minus : List ℕ
 plus-and-minus = 0x30 ∷ 0x40 ∷ []
 
 -- 13. "150 at scale 2 equals 15 at scale 1."
 abbrev scales : Lent
-scales = items (3 ∷ 0 ∷ 3 ∷ 2 ∷ 3 ∷ 3 ∷ 2 ∷ 1 ∷ [])
+scales = items (3 ∷ 0 ∷ 3 ∷ 2 ∷ 3 ∷ 3 ∷ 3 ∷ 2 ∷ 1 ∷ 2 ∷ [])
 
 -- 14. "All of kind 2: BBB equals BBB and a space, is less than BBBA, greater than 42 42 42 00."
 abbrev letters : Lent
-letters = items (2 ∷ 0 ∷ 3 ∷ 0 ∷ 2 ∷ 3 ∷ 4 ∷ 0 ∷ 2 ∷ 7 ∷ 4 ∷ 0 ∷ 2 ∷ 11 ∷ 4 ∷ 0 ∷ [])
+letters = items (2 ∷ 0 ∷ 3 ∷ 0 ∷ 0 ∷ 2 ∷ 3 ∷ 4 ∷ 0 ∷ 0 ∷ 2 ∷ 7 ∷ 4 ∷ 0 ∷ 0 ∷ 2 ∷ 11 ∷ 4 ∷ 0 ∷ 0 ∷ [])
 
 abbrev BBB : List ℕ
 BBB =

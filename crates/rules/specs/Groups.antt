@@ -7,13 +7,13 @@ use Rattle.content.specs.Content.{all, isDigit}
 use Rattle.content.specs.WrongByte.{Nowhere}
 use Rattle.tables.specs.declared.Row.{Row}
 use Rattle.tables.specs.Rows.{rowSound}
-use Rattle.typing.specs.Typing.{scaleFits, mayBeNumeric, mayBeAlphabetic}
+use Rattle.typing.specs.Typing.{sideFits, mayBeNumeric, mayBeAlphabetic}
 use Rattle.values.specs.Comparison.{Side, side, fault}
 use Rattle.values.specs.Truth.{truth, turned, relationOutcome, classOutcome}
 
 -- a row and a side of another kind, the same for the rest
 abbrev pub rowAs : ℕ → Row → Row
-rowAs kind r = record { kind = kind; offset = r .offset; size = r .size; scale = r .scale }
+rowAs kind r = record { kind = kind; offset = r .offset; size = r .size; scale = r .scale; digits = r .digits }
 
 abbrev pub sideAs : ℕ → Side → Side
 sideAs kind s = side (s .item) (rowAs kind (s .row)) (s .bytes)
@@ -22,8 +22,8 @@ pub record LikeAGroup : Type 0 where
   -- "sized"
   pub sized : (r : Row) → rowSound (rowAs 7 r) ≡ rowSound (rowAs 0 r)
   -- "compared": typed beside any row, and come to the same truth or the same stop beside any side
-  pub besideTyped : (r other : Row) → scaleFits (rowAs 7 r) other ≡ scaleFits (rowAs 0 r) other
-  pub otherTyped : (r other : Row) → scaleFits other (rowAs 7 r) ≡ scaleFits other (rowAs 0 r)
+  pub besideTyped : (r other : Row) → sideFits (rowAs 7 r) other ≡ sideFits (rowAs 0 r) other
+  pub otherTyped : (r other : Row) → sideFits other (rowAs 7 r) ≡ sideFits other (rowAs 0 r)
   pub subject : (word : ℕ) (negated : Bool) (s o : Side)
       → relationOutcome word negated (sideAs 7 s) o ≡ relationOutcome word negated (sideAs 0 s) o
   pub object : (word : ℕ) (negated : Bool) (s o : Side)

@@ -4,5 +4,6 @@ pub mod Demands
 pub mod Places
 pub mod Stops
 pub mod Groups
+pub mod Amounts
 pub mod Footprint
 pub mod Converting

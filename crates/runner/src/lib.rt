@@ -13,7 +13,7 @@ use tables::Outcome;
 use tables::Refusal;
 use tables::Stop;
 use tables::Verdict;
-use values::truth::truth_of;
+use truth::conditions::truth_of;
 
 fn wide(x: u32) -> usize
     ensures { λ r. ⌜ r ≡ x ⌝ }

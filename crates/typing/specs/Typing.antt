@@ -5,25 +5,31 @@ use lib.Dec.{eqb, leb}
 use Rattle.tables.specs.declared.Row.{Row}
 use Rattle.typing.specs.declared.Test.{Test}
 use Rattle.typing.specs.declared.Test.the-variants.{Switch, Relation, Class, Sign, Unknown}
+use Rattle.content.specs.Packed.{isPacked}
 use Rattle.tables.specs.Tokens.{isItem, isLiteral}
 use Rattle.tables.specs.Rows.{isGroup, isNumeric}
 use Rattle.tables.specs.Operands.{Lent, rowOf}
 use Rattle.typing.specs.Tests.{testOf}
 
--- one side of a relation: numeric beside a side that is not, it has scale 0
-abbrev pub scaleFits : Row → Row → Bool
-scaleFits side other = not (isNumeric side) || isNumeric other || eqb (side .scale) 0
+-- a numeric side that may stand beside one that is not: "its scale is 0". Document 02, f), of packed items: "beside any nonnumeric operand they
+-- are refused with 9".
+abbrev pub fitsBeside : Row → Bool
+fitsBeside r = eqb (r .scale) 0 && not (isPacked (r .kind))
 
--- "relation: not two literals; if exactly one side is numeric (3 to 6), its scale is 0"
+abbrev pub sideFits : Row → Row → Bool
+sideFits side other = not (isNumeric side) || isNumeric other || fitsBeside side
+
+-- "relation: not two literals; if exactly one side is numeric (3 to 6), its scale is 0". Document 02, f), has two more numeric kinds.
 abbrev pub relationTyped : Lent → ℕ → ℕ → Bool
 relationTyped lent subject object =
     not (isLiteral subject && isLiteral object)
-    && scaleFits (rowOf lent subject) (rowOf lent object)
-    && scaleFits (rowOf lent object) (rowOf lent subject)
+    && sideFits (rowOf lent subject) (rowOf lent object)
+    && sideFits (rowOf lent object) (rowOf lent subject)
 
--- "NUMERIC for kinds 2 to 6": document 02, b), "corrects 01's typing rule", so that it is for kinds 2 to 7
+-- "NUMERIC for kinds 2 to 6": document 02, b), "corrects 01's typing rule", so that it is for kind 7 too; f): "NUMERIC .. and sign tests
+-- are allowed on packed items"
 abbrev pub mayBeNumeric : Row → Bool
-mayBeNumeric r = leb 2 (r .kind) && leb (r .kind) 7
+mayBeNumeric r = leb 2 (r .kind) && leb (r .kind) 9
 
 -- "the alphabetic tests for 0 to 2": for groups and kinds 1 and 2. Document 02, b): kind 7 is "tested for letters as a group".
 abbrev pub mayBeAlphabetic : Row → Bool
@@ -34,7 +40,7 @@ abbrev pub classTyped : Lent → ℕ → ℕ → Bool
 classTyped lent word subject =
     isItem subject && cond (eqb word 10) (mayBeNumeric (rowOf lent subject)) (mayBeAlphabetic (rowOf lent subject))
 
--- "sign: an item of kinds 3 to 6"
+-- "sign: an item of kinds 3 to 6", and of the packed kinds
 abbrev pub signTyped : Lent → ℕ → Bool
 signTyped lent subject = isItem subject && isNumeric (rowOf lent subject)
 

@@ -7,7 +7,7 @@ ghost use Rattle.tables.specs.Operands.{lend, operandSound};
 ghost use Rattle.tables.specs.Tokens.{isLiteral, isSwitch, indexOf};
 ghost use Rattle.typing.specs.Tests.{testOf};
 ghost use Rattle.typing.specs.Shape.{shapeSound};
-ghost use Rattle.typing.specs.Typing.{scaleFits, relationTyped, classTyped, signTyped, testTyped, typed};
+ghost use Rattle.typing.specs.Typing.{fitsBeside, sideFits, relationTyped, classTyped, signTyped, testTyped, typed};
 use crate::Test;
 use tables::Row;
 use tables::operands::row_of;
@@ -60,8 +60,8 @@ fn operand_exists(items: &[u32], literals: &[u32], token: u32) -> bool
 {
     let v = (token % 65536) as usize;
     match token / 65536 {
-        0 => v < items.len() / 4,
-        1 => v < literals.len() / 4,
+        0 => v < items.len() / 5,
+        1 => v < literals.len() / 5,
         _ => false,
     }
 }
@@ -110,18 +110,24 @@ fn shape_sound(items: &[u32], literals: &[u32], test: Test, subject: u32, object
     }
 }
 
-// If exactly one side is numeric, its scale is 0.
-fn scales_fit(side: Row, other: Row) -> bool
-    ensures { λ r. ⌜ r ≡ (scaleFits side other && scaleFits other side) ⌝ }
+// Whether a numeric side may stand beside one that is not.
+fn fits_beside(row: Row) -> bool
+    ensures { λ r. ⌜ r ≡ fitsBeside row ⌝ }
+{
+    (row.scale == 0) & !((row.kind == 8) | (row.kind == 9))
+}
+
+fn sides_fit(side: Row, other: Row) -> bool
+    ensures { λ r. ⌜ r ≡ (sideFits side other && sideFits other side) ⌝ }
 {
     let numeric = is_numeric(side);
     if numeric == is_numeric(other) {
         return true;
     }
     if numeric {
-        return side.scale == 0;
+        return fits_beside(side);
     }
-    other.scale == 0
+    fits_beside(other)
 }
 
 fn relation_typed(items: &[u32], literals: &[u32], subject: u32, object: u32) -> bool
@@ -132,7 +138,7 @@ fn relation_typed(items: &[u32], literals: &[u32], subject: u32, object: u32) ->
     if is_literal(subject) & is_literal(object) {
         return false;
     }
-    scales_fit(
+    sides_fit(
         row_of(subject, items, literals),
         row_of(object, items, literals),
     )
@@ -144,7 +150,7 @@ fn class_typed(items: &[u32], literals: &[u32], word: u32, subject: u32) -> bool
 {
     let row = row_of(subject, items, literals);
     if word == 10 {
-        return is_item(subject) & ((2 <= row.kind) & (row.kind <= 7));
+        return is_item(subject) & ((2 <= row.kind) & (row.kind <= 9));
     }
     is_item(subject) & (is_group(row) | (row.kind == 1) | (row.kind == 2))
 }

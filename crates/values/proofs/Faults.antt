@@ -5,13 +5,13 @@ use native.Mathlib.Omega.{arith}
 use mathlib.Core.Path.{_≡_, refl, sym, ap, ap₂, _∙_}
 use mathlib.Core.List.{List}
 use mathlib.Core.Bool.{Bool, true, false, not, cond, _&&_, false≢true, true≢false}
-use lib.Dec.{leb}
-use borrow.Author.Tests.{leb-true, ne-eqb}
+use mathlib.Core.Logic.{⊎-elim}
+use borrow.Author.Tests.{ne-eqb}
 use Rattle.content.specs.WrongByte.{Wrong, Nowhere, At, firstWrong, nowhere, validContent}
 use Rattle.tables.specs.declared.Outcome.{Outcome}
 use Rattle.tables.specs.declared.Row.{Row}
 use Rattle.tables.specs.Rows.{isGroup, isNumeric}
-use Rattle.tables.proofs.Tests.{both}
+use Rattle.tables.proofs.Bytes.{numeric-kinds}
 use Rattle.compare.specs.declared.Number.{Number}
 use Rattle.compare.specs.declared.Order.{Order}
 use Rattle.compare.specs.Order.{relationHolds}
@@ -24,36 +24,36 @@ moved-nowhere : (offset : ℕ) (w : Wrong) → nowhere (moved offset w) ≡ nowh
 moved-nowhere offset Nowhere = refl
 moved-nowhere offset (At i) = refl
 
-pub item-flag : (row : Row) (bytes : List ℕ) → not (validContent (row .kind) bytes) ≡ not (nowhere (moved (row .offset) (firstWrong (row .kind) bytes)))
+pub item-flag : (row : Row) (bytes : List ℕ) → not (validContent (row .kind) (row .digits) bytes) ≡ not (nowhere (moved (row .offset) (firstWrong (row .kind) (row .digits) bytes)))
 unfolding validContent
-item-flag row bytes = ap not (sym (moved-nowhere (row .offset) (firstWrong (row .kind) bytes)))
+item-flag row bytes = ap not (sym (moved-nowhere (row .offset) (firstWrong (row .kind) (row .digits) bytes)))
 
 -- what the number that is read of a numeric side says of it, alone and beside another numeric side, which is no group
-pub number-invalid : (s : Side) {n : Number} → n ≡ numberOf (s .row .kind) (s .bytes) → s .item && not (n .valid) ≡ not (nowhere (wrongByte s))
+pub number-invalid : (s : Side) {n : Number} → n ≡ numberOf (s .row .kind) (s .row .digits) (s .bytes) → s .item && not (n .valid) ≡ not (nowhere (wrongByte s))
 number-invalid s e = rw e (go (s .item))
   where
-    go : (b : Bool) → b && not (validContent (s .row .kind) (s .bytes))
-        ≡ not (nowhere (cond b (moved (s .row .offset) (firstWrong (s .row .kind) (s .bytes))) Nowhere))
+    go : (b : Bool) → b && not (validContent (s .row .kind) (s .row .digits) (s .bytes))
+        ≡ not (nowhere (cond b (moved (s .row .offset) (firstWrong (s .row .kind) (s .row .digits) (s .bytes))) Nowhere))
     go true = item-flag (s .row) (s .bytes)
     go false = refl
 
 no-group : (row : Row) → isNumeric row ≡ true → isGroup row ≡ false
 no-group row n =
-    let k = both (leb 3 (row .kind)) (leb (row .kind) 6) n in
-    let three = leb-true 3 (row .kind) (k .0) in
-    let six = leb-true (row .kind) 6 (k .1) in
-    rw (ne-eqb (row .kind) 0 (λ e. omega (arith, three, e)), ne-eqb (row .kind) 7 (λ e. omega (arith, six, e)))
+    ⊎-elim
+    (λ k. rw (ne-eqb (row .kind) 0 (λ e. omega (arith, k)), ne-eqb (row .kind) 7 (λ e. omega (arith, k))))
+    (λ k. rw (ne-eqb (row .kind) 0 (λ e. omega (arith, k)), ne-eqb (row .kind) 7 (λ e. omega (arith, k))))
+    (numeric-kinds (row .kind) n)
 
-pub number-faulty : (s : Side) (o : Row) {n : Number} → isNumeric o ≡ true → n ≡ numberOf (s .row .kind) (s .bytes)
+pub number-faulty : (s : Side) (o : Row) {n : Number} → isNumeric o ≡ true → n ≡ numberOf (s .row .kind) (s .row .digits) (s .bytes)
     → s .item && not (n .valid) ≡ not (nowhere (fault s o))
 number-faulty s o k e = rw (no-group o k) (number-invalid s e)
 
 -- the test of a side as the code makes it: an item, beside no group, whose content is not valid
-pub fault-flag : (s : Side) (o : Row) → (s .item && not (isGroup o)) && not (validContent (s .row .kind) (s .bytes)) ≡ not (nowhere (fault s o))
+pub fault-flag : (s : Side) (o : Row) → (s .item && not (isGroup o)) && not (validContent (s .row .kind) (s .row .digits) (s .bytes)) ≡ not (nowhere (fault s o))
 fault-flag s o = go (s .item) (isGroup o)
   where
-    go : (b g : Bool) → (b && not g) && not (validContent (s .row .kind) (s .bytes))
-        ≡ not (nowhere (cond g Nowhere (cond b (moved (s .row .offset) (firstWrong (s .row .kind) (s .bytes))) Nowhere)))
+    go : (b g : Bool) → (b && not g) && not (validContent (s .row .kind) (s .row .digits) (s .bytes))
+        ≡ not (nowhere (cond g Nowhere (cond b (moved (s .row .offset) (firstWrong (s .row .kind) (s .row .digits) (s .bytes))) Nowhere)))
     go true true = refl
     go true false = item-flag (s .row) (s .bytes)
     go false true = refl
@@ -65,21 +65,21 @@ StopAt row bytes out = (rest : Outcome) → out ≡ orStop (row .kind) (wrongByt
 
 -- a side with a fault, where it is unseen or not: it is an item of invalid content, and its stop is the answer
 module _ (unseen : Bool) (s : Side) (t : not (nowhere (cond unseen Nowhere (wrongByte s))) ≡ true) where
-  fault-is : (validContent (s .row .kind) (s .bytes) ≡ false) × (cond unseen Nowhere (wrongByte s) ≡ wrongByte (side true (s .row) (s .bytes)))
+  fault-is : (validContent (s .row .kind) (s .row .digits) (s .bytes) ≡ false) × (cond unseen Nowhere (wrongByte s) ≡ wrongByte (side true (s .row) (s .bytes)))
   fault-is = go unseen (s .item) t
     where
-      go : (u b : Bool) → not (nowhere (cond u Nowhere (cond b (moved (s .row .offset) (firstWrong (s .row .kind) (s .bytes))) Nowhere))) ≡ true
-          → (validContent (s .row .kind) (s .bytes) ≡ false)
-          × (cond u Nowhere (cond b (moved (s .row .offset) (firstWrong (s .row .kind) (s .bytes))) Nowhere) ≡ wrongByte (side true (s .row) (s .bytes)))
+      go : (u b : Bool) → not (nowhere (cond u Nowhere (cond b (moved (s .row .offset) (firstWrong (s .row .kind) (s .row .digits) (s .bytes))) Nowhere))) ≡ true
+          → (validContent (s .row .kind) (s .row .digits) (s .bytes) ≡ false)
+          × (cond u Nowhere (cond b (moved (s .row .offset) (firstWrong (s .row .kind) (s .row .digits) (s .bytes))) Nowhere) ≡ wrongByte (side true (s .row) (s .bytes)))
       go true b e = absurd (false≢true e)
-      go false true e = (flip (validContent (s .row .kind) (s .bytes)) (item-flag (s .row) (s .bytes) ∙ e), refl)
+      go false true e = (flip (validContent (s .row .kind) (s .row .digits) (s .bytes)) (item-flag (s .row) (s .bytes) ∙ e), refl)
         where
           flip : (v : Bool) → not v ≡ true → v ≡ false
           flip true f = absurd (false≢true f)
           flip false f = refl
       go false false e = absurd (false≢true e)
 
-  pub invalid-there : validContent (s .row .kind) (s .bytes) ≡ false
+  pub invalid-there : validContent (s .row .kind) (s .row .digits) (s .bytes) ≡ false
   invalid-there = fault-is .0
 
   pub stops-there : {out : Outcome} → StopAt (s .row) (s .bytes) out → (rest : Outcome)

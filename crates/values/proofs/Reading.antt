@@ -24,7 +24,7 @@ use Rattle.typing.specs.Typing.{typed}
 use Rattle.tables.specs.Tables.{tableLines, recordCheck}
 use Rattle.tables.proofs.Tests.{both, four, either}
 use Rattle.tables.proofs.Lines.{every-sound, AllSound, lines-sound}
-use Rattle.tables.proofs.Bytes.{row-facts, digits-fit, scale-small, item-there, literal-there, operand-length}
+use Rattle.tables.proofs.Bytes.{row-facts, display-kinds, packed-fits, digits-fit, scale-small, item-there, literal-there, operand-length}
 use Rattle.content.proofs.Bytes.{but-last-length}
 use Rattle.compare.specs.Compared.{scaledOrder}
 use Rattle.values.specs.Comparison.{Side, side, sideOf, numeric, valueOf, givesDigits, characters, comparison}
@@ -76,18 +76,16 @@ pub numeral : {s : Side} → Fit s → isNumeric (s .row) ≡ true → Numeral (
 numeral {s} f n =
     record {
       kind = n;
-      some = some-bytes f;
-      digits = digits-fit (s .row) (s .bytes) (f .sound) n (f .sized);
+      field =
+          record {
+            some = some-bytes f;
+            packed = λ p. packed-fits (s .row) (s .bytes) (f .sound) p (f .sized);
+            display = λ p. display-kinds (s .row .kind) n p;
+            digits = digits-fit (s .row) (s .bytes) (f .sound) n (f .sized);
+          };
       scaled = scale-small (s .row) (f .sound);
       near = fit-near f;
     }
-
--- what a side that holds a number gives to the code that reads it
-pub read-fits : {row : Row} {bytes : List ℕ} → Numeral row bytes
-    → ((3 ≤ row .kind) × (row .kind ≤ 6)) × ((1 ≤ length bytes) × (length (digitBytes (row .kind) bytes) ≤ 18))
-read-fits {row} n =
-    let k = both (leb 3 (row .kind)) (leb (row .kind) 6) (n .kind) in
-    ((leb-true _ _ (k .0), leb-true _ _ (k .1)), (n .some, n .digits))
 
 pub by-value : (s o : Side) → numeric s ≡ true → numeric o ≡ true
     → comparison s o ≡ scaledOrder (valueOf s) (s .row .scale) (valueOf o) (o .row .scale)

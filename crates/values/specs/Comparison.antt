@@ -55,7 +55,7 @@ moved offset (At i) = At (offset + i)
 
 -- "the item's first wrong byte as an offset in the record": a literal has none, since 4 has looked at it
 abbrev pub wrongByte : Side → Wrong
-wrongByte s = cond (s .item) (moved (s .row .offset) (firstWrong (s .row .kind) (s .bytes))) Nowhere
+wrongByte s = cond (s .item) (moved (s .row .offset) (firstWrong (s .row .kind) (s .row .digits) (s .bytes))) Nowhere
 
 -- The fault of a side of a relation, beside a row: "a numeric item's value or digits with invalid content", "a kind 1 item against
 -- anything but a group". Beside a group, of kind 0 or 7, nothing is looked at; groups and kind 2 have no wrong

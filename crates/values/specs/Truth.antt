@@ -15,7 +15,6 @@ use Rattle.typing.specs.declared.Test.the-variants.{Switch, Relation, Class, Si
 use Rattle.tables.specs.declared.Check.the-variants.{Sound}
 use Rattle.tables.specs.declared.Row.{Row}
 use Rattle.tables.specs.Rows.{rowSound, isNumeric}
-use Rattle.content.specs.Content.{digitBytes}
 use Rattle.content.specs.WrongByte.{Wrong, Nowhere, At}
 use Rattle.tables.specs.Operands.{Lent, Within}
 use Rattle.tables.specs.Refusals.{firstOf}
@@ -23,6 +22,7 @@ use Rattle.tables.specs.Tables.{tableLines, recordCheck}
 use Rattle.typing.specs.Tests.{testOf}
 use Rattle.typing.specs.Shape.{shapeSound}
 use Rattle.typing.specs.Typing.{typed}
+use Rattle.compare.specs.Fields.{NumberField}
 use Rattle.compare.specs.Order.{orderℤ, relationHolds, signHolds}
 use Rattle.values.specs.Comparison.{Side, sideOf, valueOf, comparison, wrongByte, fault}
 use Rattle.compare.specs.Classes.{classHolds}
@@ -53,7 +53,7 @@ relationOutcome word negated s o =
     orStop (s .row .kind) (fault s (o .row)) (orStop (o .row .kind) (fault o (s .row)) (truth (turned negated (relationHolds word (comparison s o)))))
 
 abbrev pub classOutcome : ℕ → Bool → Side → Outcome
-classOutcome word negated s = truth (turned negated (classHolds word (s .row .kind) (s .bytes)))
+classOutcome word negated s = truth (turned negated (classHolds word (s .row .kind) (s .row .digits) (s .bytes)))
 
 abbrev pub signOutcome : ℕ → Bool → Side → Outcome
 signOutcome word negated s = orStop (s .row .kind) (wrongByte s) (truth (turned negated (signHolds word (orderℤ (valueOf s) (pos 0)))))
@@ -98,7 +98,6 @@ pub record Near (row : Row) (bytes : List ℕ) : Type 0 where
 -- a side that holds a number: at most 18 digits, at most 18 of them after the point
 pub record Numeral (row : Row) (bytes : List ℕ) : Type 0 where
   pub kind : isNumeric row ≡ true
-  pub some : 1 ≤ length bytes
-  pub digits : length (digitBytes (row .kind) bytes) ≤ 18
+  pub field : NumberField (row .kind) bytes
   pub scaled : row .scale ≤ 18
   pub near : Near row bytes

@@ -1,4 +1,3 @@
-// Truth of one simple condition on a record.
+// The two sides of a relation. What a simple condition comes to on a record is defined here (specs/Truth.antt); its code is `truth`.
 
 pub mod sides; // the two sides of a relation
-pub mod truth; // what one simple condition comes to

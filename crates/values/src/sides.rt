@@ -8,8 +8,8 @@ ghost use Rattle.content.specs.Content.{digitBytes};
 ghost use Rattle.content.specs.WrongByte.{nowhere, validContent};
 ghost use Rattle.values.specs.Comparison.{side, comparison, wrongByte, fault};
 ghost use Rattle.values.specs.Truth.{Fit, Near, orStop};
+use characters::filled::compare_characters;
 use compare::Order;
-use compare::characters::compare_characters;
 use content::fields::digit_bytes;
 use content::fields::first_wrong;
 use content::fields::valid_content;
@@ -25,17 +25,17 @@ pub fn is_faulty(item: bool, row: Row, bytes: &[u8], other: Row) -> bool
     ensures { λ r. ⌜ r ≡ not (nowhere (fault (side item row (now (bytes .entry))) other)) ⌝ }
 {
     if item & !is_group(other) {
-        return !valid_content(row.kind, bytes);
+        return !valid_content(row.kind, row.digits, bytes);
     }
     false
 }
 
 // The stop at the first wrong byte of an item that has one, whatever would come else.
 pub fn stop_at(row: Row, bytes: &[u8]) -> Outcome
-    requires { ⌜ Near row (now bytes) × (validContent (row .kind) (now bytes) ≡ false) ⌝ }
+    requires { ⌜ Near row (now bytes) × (validContent (row .kind) (row .digits) (now bytes) ≡ false) ⌝ }
     ensures { λ r. ⌜ ((rest : Outcome) → r ≡ orStop (row .kind) (wrongByte (side true row (now (bytes .entry)))) rest) ⌝ }
 {
-    let byte = row.offset as usize + first_wrong(row.kind, bytes);
+    let byte = row.offset as usize + first_wrong(row.kind, row.digits, bytes);
     if row.kind == 1 {
         return Outcome::Stopped(Stop::Letters(byte));
     }

@@ -29,6 +29,11 @@ unfolding within same
 starts-A [] h e = absurd (omega arith)
 starts-A (a ∷ v) h e = rw e
 
+pub starts-C : (w : List ℕ) → 0 < length w → getD w 0 0 ≡ 0x43 → within w (bytes "COMP-3" ∷ []) ≡ within w keywords
+unfolding within same
+starts-C [] h e = absurd (omega arith)
+starts-C (a ∷ v) h e = rw e
+
 pub starts-E : (w : List ℕ) → 0 < length w → getD w 0 0 ≡ 0x45 → within w (bytes "EQUAL" ∷ []) ≡ within w keywords
 unfolding within same
 starts-E [] h e = absurd (omega arith)
@@ -89,14 +94,13 @@ unfolding within same
 starts-Z [] h e = absurd (omega arith)
 starts-Z (a ∷ v) h e = rw e
 
-pub starts-other : (w : List ℕ) → ¬ (getD w 0 0 ≡ 0x41) → ¬ (getD w 0 0 ≡ 0x45) → ¬ (getD w 0 0 ≡ 0x46) → ¬ (getD w 0 0 ≡ 0x47) → ¬ (getD w 0 0 ≡ 0x49) → ¬
-    (getD w 0 0 ≡ 0x4c) → ¬ (getD w 0 0 ≡ 0x4e) → ¬ (getD w 0 0 ≡ 0x4f) → ¬ (getD w 0 0 ≡ 0x50) → ¬ (getD w 0 0 ≡ 0x53) → ¬ (getD w 0 0 ≡ 0x54) → ¬ (getD w 0 0 ≡ 0x55) →
-    ¬ (getD w 0 0 ≡ 0x5a) → false ≡ within w keywords
+pub starts-other : (w : List ℕ) → ¬ (getD w 0 0 ≡ 0x41) → ¬ (getD w 0 0 ≡ 0x43) → ¬ (getD w 0 0 ≡ 0x45) → ¬ (getD w 0 0 ≡ 0x46) → ¬ (getD w 0 0 ≡ 0x47) → ¬ (getD w 0 0 ≡ 0x49) → ¬ (getD w 0 0 ≡ 0x4c) → ¬ (getD w 0 0 ≡ 0x4e) → ¬ (getD w 0 0 ≡ 0x4f) → ¬ (getD w 0 0 ≡ 0x50) → ¬ (getD w 0 0 ≡ 0x53) → ¬ (getD w 0 0 ≡ 0x54) → ¬ (getD w 0 0 ≡ 0x55) → ¬ (getD w 0 0 ≡ 0x5a) → false ≡ within w keywords
 unfolding within same
-starts-other [] hA hE hF hG hI hL hN hO hP hS hT hU hZ = refl
-starts-other (a ∷ v) hA hE hF hG hI hL hN hO hP hS hT hU hZ =
+starts-other [] hA hC hE hF hG hI hL hN hO hP hS hT hU hZ = refl
+starts-other (a ∷ v) hA hC hE hF hG hI hL hN hO hP hS hT hU hZ =
     rw (
       eqb-no a 0x41 hA,
+      eqb-no a 0x43 hC,
       eqb-no a 0x45 hE,
       eqb-no a 0x46 hF,
       eqb-no a 0x47 hG,

@@ -29,6 +29,7 @@ pub fn is_keyword(w: &[u8]) -> bool
     let b = w[0];
     match b {
         b'A' => keyword_a(w),
+        b'C' => same_bytes(w, b"COMP-3"),
         b'E' => same_bytes(w, b"EQUAL"),
         b'F' => same_bytes(w, b"FILLER"),
         b'G' => same_bytes(w, b"GREATER"),

@@ -29,6 +29,17 @@ pub fn fresh_output(room: usize) -> Vec<u32> {
     (0..room as u32).map(|i| 3_000_000_000 + i).collect()
 }
 
+/// An output of bytes before a call: byte i holds 151 + i, modulo 256.
+pub fn fresh_bytes(room: usize) -> Vec<u8> {
+    (0..room).map(|i| (151 + i) as u8).collect()
+}
+
+/// The checksum of bytes, each as a number.
+pub fn checksum_of_bytes(output: &[u8]) -> u32 {
+    let numbers: Vec<u32> = output.iter().copied().map(u32::from).collect();
+    checksum(&numbers)
+}
+
 pub fn checksum(output: &[u32]) -> u32 {
     let add = |sum: u32, &number: &u32| (sum ^ number).wrapping_mul(16_777_619);
     output.iter().fold(2_166_136_261, add)
@@ -124,7 +135,7 @@ mod tests {
     #[test]
     fn line_of_case_one() {
         let case = Case {
-            items: vec![3, 0, 2, 0, 3, 2, 2, 0, 3, 4, 2, 0, 3, 6, 2, 0],
+            items: vec![3, 0, 2, 0, 2, 3, 2, 2, 0, 2, 3, 4, 2, 0, 2, 3, 6, 2, 0, 2],
             tokens: vec![0, 262149, 1, 262147, 262146, 262150, 2, 262148, 3],
             plan: vec![0, 5, 1, 1, 2, 0, 38, 2, 65535, 2, 0, 38, 3, 65535, 65534],
             record: b"01020304".to_vec(),

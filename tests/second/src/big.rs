@@ -45,6 +45,18 @@ impl Big {
         Big { digits }.trimmed()
     }
 
+    /// Half of it, rounded down.
+    pub fn half(&self) -> Big {
+        let mut digits = self.digits.clone();
+        let mut carry = 0;
+        for digit in digits.iter_mut().rev() {
+            let whole = u64::from(carry) * u64::from(BASE) + u64::from(*digit);
+            *digit = (whole / 2) as u32;
+            carry = (whole % 2) as u32;
+        }
+        Big { digits }.trimmed()
+    }
+
     /// The number itself where it is below 1,000,000,000.
     pub fn small(&self) -> Option<u32> {
         match self.digits[..] {
@@ -103,7 +115,7 @@ mod tests {
     }
 
     #[test]
-    fn sums_against_machine_numbers() {
+    fn sums_and_halves_against_machine_numbers() {
         let mut random = crate::random::Random::new(1, 1);
         for _ in 0..10_000 {
             let any = |random: &mut crate::random::Random| {
@@ -112,6 +124,7 @@ mod tests {
             let (a, b) = (any(&mut random), any(&mut random));
             let big = |number: u128| Big::of_decimal(number.to_string().as_bytes());
             assert_eq!(big(a).plus(&big(b)), big(a + b));
+            assert_eq!(big(a).half(), big(a / 2));
             assert_eq!(big(a).cmp(&big(b)), a.cmp(&b));
         }
     }

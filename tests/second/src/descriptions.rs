@@ -7,7 +7,7 @@
 //! numbers of any size (`rows`).
 
 pub mod case;
-#[cfg(feature = "describe")]
+#[cfg(feature = "library")]
 pub mod compare;
 mod completions;
 mod entries;
@@ -16,17 +16,35 @@ mod pictures;
 mod rows;
 #[cfg(test)]
 mod tests;
-mod words;
+pub(crate) mod words;
 
-use crate::rules::Refusal;
+use crate::rules::{check_room, Refusal};
 
 /// "Byte 4,096 is faulty."
 const LONGEST: usize = 4_096;
+
+/// What a valid description says: item rows, and for each the place of its name
+/// or FILLER.
+pub struct Described {
+    pub rows: Vec<u32>,
+    pub places: Vec<u32>,
+}
 
 /// "Read one or more upper-case COBOL entries ..." "Write item rows, and for
 /// each the place of its name or FILLER." Refusals 14 and 10; success gives each
 /// output's count.
 pub fn describe(text: &[u8], rows: &mut [u32], places: &mut [u32]) -> Result<[u32; 2], Refusal> {
+    let described = read(text)?;
+    let (numbers, names) = (&described.rows, &described.places);
+    check_room(rows.len(), numbers.len())?;
+    check_room(places.len(), names.len())?;
+    rows[..numbers.len()].copy_from_slice(numbers);
+    places[..names.len()].copy_from_slice(names);
+    Ok([numbers.len() as u32, names.len() as u32])
+}
+
+/// Refusal 14, or what the text says.
+pub fn read(text: &[u8]) -> Result<Described, Refusal> {
     let fault = fault(text);
     let before = &text[..fault.unwrap_or(text.len())];
     let complete = entries::complete(before);
@@ -38,24 +56,10 @@ pub fn describe(text: &[u8], rows: &mut [u32], places: &mut [u32]) -> Result<[u3
     if let Some(place) = fault {
         return Err(Refusal::at(14, place as u32));
     }
-    let numbers: Vec<u32> = table.iter().flat_map(|row| row.numbers()).collect();
-    let names: Vec<u32> = complete
-        .iter()
-        .map(|entry| entry.name.start as u32)
-        .collect();
-    check_room(rows, numbers.len())?;
-    check_room(places, names.len())?;
-    rows[..numbers.len()].copy_from_slice(&numbers);
-    places[..names.len()].copy_from_slice(&names);
-    Ok([numbers.len() as u32, names.len() as u32])
-}
-
-/// 10: "output shorter than needed (of several outputs, the first such)".
-fn check_room(output: &[u32], needed: usize) -> Result<(), Refusal> {
-    if output.len() < needed {
-        return Err(Refusal::at(10, needed as u32));
-    }
-    Ok(())
+    let rows = table.iter().flat_map(|row| row.numbers()).collect();
+    let place = |entry: &entries::Entry| entry.name.start as u32;
+    let places = complete.iter().map(place).collect();
+    Ok(Described { rows, places })
 }
 
 /// The "first faulty byte, which after the same beginning no valid text, its

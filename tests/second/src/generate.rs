@@ -6,6 +6,7 @@ mod condition;
 mod content;
 mod damage;
 mod plans;
+pub(crate) mod records;
 mod tables;
 #[cfg(test)]
 mod tests;
@@ -13,6 +14,7 @@ mod tests;
 use crate::answers::ENOUGH;
 use crate::case::Case;
 use crate::random::Random;
+use crate::rules::tables::ROW;
 use crate::rules::{self, Refusal};
 
 /// Case `index` of a seed.
@@ -28,6 +30,19 @@ pub fn case(seed: u64, index: u64) -> Case {
     damage::cut_record(&mut random, &mut case);
     damage::damage_tables(&mut random, &mut case);
     choose_rooms(&mut random, &mut case);
+    case
+}
+
+/// Literals and a condition over given items, each sometimes damaged.
+pub fn over_items(random: &mut Random, items: Vec<u32>) -> Case {
+    let mut case = Case {
+        items,
+        ..Case::default()
+    };
+    let theme = content::Theme::choose(random);
+    tables::fill_literals(random, &theme, &mut case);
+    case.tokens = condition::tokens(random, &case);
+    damage::damage_literals(random, &mut case);
     case
 }
 
@@ -74,7 +89,7 @@ impl Facts {
     fn of(case: &Case, token: u32) -> Facts {
         let literal = token >> 16 == 1;
         let table = if literal { &case.literals } else { &case.items };
-        let row = 4 * (token & 0xFFFF) as usize;
+        let row = ROW * (token & 0xFFFF) as usize;
         Facts {
             kind: table[row],
             scale: table[row + 3],
@@ -83,15 +98,19 @@ impl Facts {
     }
 
     fn numeric(&self) -> bool {
-        (3..=6).contains(&self.kind)
+        (3..=6).contains(&self.kind) || self.packed()
+    }
+
+    fn packed(&self) -> bool {
+        self.kind >= 8
     }
 
     /// Whether this may stand in a relation with that side.
     fn fits(&self, other: &Facts) -> bool {
-        let scaled = |side: &Facts| side.numeric() && side.scale > 0;
+        let alone = |side: &Facts| side.scale > 0 || side.packed();
         let one_numeric = self.numeric() != other.numeric();
         let two_literals = self.literal && other.literal;
-        !two_literals && !(one_numeric && (scaled(self) || scaled(other)))
+        !two_literals && !(one_numeric && (alone(self) || alone(other)))
     }
 
     /// Whether a class or sign word may stand behind this.
@@ -107,7 +126,7 @@ impl Facts {
 
 /// Any operand of the tables, items more often than literals.
 fn any_operand(random: &mut Random, case: &Case) -> Option<u32> {
-    let (items, literals) = (case.items.len() / 4, case.literals.len() / 4);
+    let (items, literals) = (case.items.len() / ROW, case.literals.len() / ROW);
     let literal = match (items, literals) {
         (0, 0) => return None,
         (0, _) => true,

@@ -6,11 +6,17 @@ pub mod big;
 pub mod case;
 #[cfg(feature = "library")]
 pub mod compare;
+#[cfg(feature = "library")]
+mod comparison;
 pub mod descriptions;
+pub mod differ;
 pub mod generate;
+pub mod mend;
 pub mod outside;
 pub mod random;
 pub mod rules;
 pub mod show;
+pub mod spelling;
 pub mod stats;
+pub mod subject;
 pub mod texts;

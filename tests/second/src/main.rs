@@ -2,7 +2,8 @@
 
 use second::answers;
 use second::case::{self, Case};
-use second::{descriptions, generate, stats, texts};
+use second::subject::{self, Subject};
+use second::{descriptions, differ, generate, mend, spelling, stats, texts};
 use std::env;
 use std::io::{self, BufReader, BufWriter, Write};
 use std::process::ExitCode;
@@ -14,8 +15,11 @@ second texts                         the cases of a text from standard input, wi
 second stats SEED COUNT              what occurs in so many cases
 second show SEED INDEX               one case in readable form
 second compare SEED COUNT            the library against the rules (feature library)
-second generate-descriptions SEED COUNT, answers-descriptions, show-description SEED INDEX,
-second compare-descriptions SEED COUNT: the same for texts of record descriptions";
+second generate-SUBJECT SEED COUNT, answers-SUBJECT, show-SUBJECT SEED INDEX,
+second compare-SUBJECT SEED COUNT: the same for a SUBJECT: descriptions, spelling, differ,
+mend
+second differ FILE FILE FILE          what the program that lists differences prints
+second differ-files SEED INDEX FOLDER three files for it";
 
 fn main() -> ExitCode {
     let arguments: Vec<String> = env::args().skip(1).collect();
@@ -40,22 +44,17 @@ fn dispatch(words: &[&str]) -> io::Result<ExitCode> {
         ["texts"] => print!("{}", texts::answers(&io::read_to_string(io::stdin())?)),
         ["stats", seed, count] => write_stats(number(seed)?, number(count)?)?,
         ["show", seed, index] => show_case(number(seed)?, number(index)?)?,
-        ["generate-descriptions", seed, count] => {
-            write_descriptions(number(seed)?, number(count)?)?
+        ["differ", description, first, second] => {
+            print!("{}", differ::files::printed([description, first, second]))
         }
-        ["answers-descriptions"] => write_description_answers()?,
-        ["show-description", seed, index] => show_description(number(seed)?, number(index)?)?,
+        ["differ-files", seed, index, folder] => {
+            differ::files::write(number(seed)?, number(index)?, folder)?
+        }
         #[cfg(feature = "library")]
-        ["compare", seed, count] => {
-            return Ok(verdict(second::compare::compare(
-                number(seed)?,
-                number(count)?,
-            )))
-        }
-        #[cfg(feature = "describe")]
-        ["compare-descriptions", seed, count] => {
-            let differing = descriptions::compare::compare(number(seed)?, number(count)?);
-            return Ok(verdict(differing));
+        ["compare", ref numbers @ ..] => return compare(numbers, second::compare::compare),
+        [command, ref numbers @ ..] => {
+            let (verb, subject) = command.split_once('-').unwrap_or((command, ""));
+            return about(verb, subject, numbers);
         }
         _ => return Err(invalid(USAGE)),
     }
@@ -102,29 +101,51 @@ fn show_case(seed: u64, index: u64) -> io::Result<()> {
     writeln!(io::stdout(), "{case}{}", answers::answer(&case))
 }
 
-fn write_descriptions(seed: u64, count: u64) -> io::Result<()> {
-    let count = u32::try_from(count).map_err(|_| invalid("more cases than a word can count"))?;
-    let mut output = BufWriter::with_capacity(1 << 18, io::stdout().lock());
-    output.write_all(&count.to_le_bytes())?;
-    for index in 0..u64::from(count) {
-        descriptions::generate::case(seed, index).write(&mut output)?;
+fn about(verb: &str, subject: &str, numbers: &[&str]) -> io::Result<ExitCode> {
+    match (verb, subject) {
+        #[cfg(feature = "library")]
+        ("compare", "descriptions") => compare(numbers, descriptions::compare::compare),
+        #[cfg(feature = "library")]
+        ("compare", "spelling") => compare(numbers, spelling::compare::compare),
+        (_, "descriptions") => of_subject::<descriptions::case::Case>(verb, numbers),
+        #[cfg(feature = "library")]
+        ("compare", "differ") => compare(numbers, differ::compare::compare),
+        #[cfg(feature = "library")]
+        ("compare", "mend") => compare(numbers, mend::compare::compare),
+        (_, "spelling") => of_subject::<spelling::case::Case>(verb, numbers),
+        (_, "differ") => of_subject::<differ::case::Case>(verb, numbers),
+        (_, "mend") => of_subject::<mend::case::Case>(verb, numbers),
+        _ => Err(invalid(USAGE)),
     }
-    output.flush()
 }
 
-fn write_description_answers() -> io::Result<()> {
-    let mut input = BufReader::with_capacity(1 << 18, io::stdin().lock());
+fn of_subject<S: Subject>(verb: &str, numbers: &[&str]) -> io::Result<ExitCode> {
     let mut output = BufWriter::with_capacity(1 << 18, io::stdout().lock());
-    for _ in 0..case::read_word(&mut input)? {
-        let case = descriptions::case::Case::read(&mut input)?;
-        writeln!(output, "{}", case.answer())?;
+    match (verb, numbers) {
+        ("generate", [seed, count]) => {
+            let count = u32::try_from(number(count)?);
+            let count = count.map_err(|_| invalid("more cases than a word can count"))?;
+            subject::generate::<S>(number(seed)?, count, &mut output)?;
+        }
+        ("answers", []) => {
+            let mut input = BufReader::with_capacity(1 << 18, io::stdin().lock());
+            subject::answer::<S>(&mut input, &mut output)?;
+        }
+        ("show", [seed, index]) => {
+            let case = S::case(number(seed)?, number(index)?);
+            writeln!(output, "{case}{}", case.line())?;
+        }
+        _ => return Err(invalid(USAGE)),
     }
-    output.flush()
+    Ok(ExitCode::SUCCESS)
 }
 
-fn show_description(seed: u64, index: u64) -> io::Result<()> {
-    let case = descriptions::generate::case(seed, index);
-    writeln!(io::stdout(), "{case}{}", case.answer())
+#[cfg(feature = "library")]
+fn compare(numbers: &[&str], compare: fn(u64, u64) -> u64) -> io::Result<ExitCode> {
+    match numbers {
+        [seed, count] => Ok(verdict(compare(number(seed)?, number(count)?))),
+        _ => Err(invalid(USAGE)),
+    }
 }
 
 #[cfg(feature = "library")]

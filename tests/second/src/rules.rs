@@ -6,16 +6,17 @@
 //! each token; a reader that turns recognised tokens into parts; one pass over
 //! the parts for each call. Nothing calls itself and nothing is kept on the heap.
 
+pub(crate) mod apart;
 pub(crate) mod content;
 mod expand;
 mod grammar;
 mod judge;
 mod parts;
 mod plan;
-mod tables;
+pub(crate) mod tables;
 #[cfg(test)]
 mod tests;
-mod tokens;
+pub(crate) mod tokens;
 mod typing;
 mod values;
 
@@ -71,7 +72,7 @@ pub fn expand(tables: &Tables, tokens: &[u32], output: &mut [u32]) -> Result<u32
     check_condition(tables, tokens)?;
     let expanded = || parts::parts(tokens).flat_map(expand::spelled);
     let needed = expanded().count();
-    check_room(output, needed)?;
+    check_room(output.len(), needed)?;
     for (number, token) in output.iter_mut().zip(expanded()) {
         *number = token;
     }
@@ -82,7 +83,7 @@ pub fn expand(tables: &Tables, tokens: &[u32], output: &mut [u32]) -> Result<u32
 /// token, relation, object token, target if true, target if false."
 pub fn plan(tables: &Tables, tokens: &[u32], output: &mut [u32]) -> Result<u32, Refusal> {
     let needed = 5 * check_condition(tables, tokens)?;
-    check_room(output, needed)?;
+    check_room(output.len(), needed)?;
     let plan = &mut output[..needed];
     let structure = plan::write_simple_conditions(tokens, plan);
     plan::write_targets(&structure, plan);
@@ -94,7 +95,7 @@ pub fn plan(tables: &Tables, tokens: &[u32], output: &mut [u32]) -> Result<u32, 
 /// tree."
 pub fn judge(tables: &Tables, tokens: &[u32], record: &[u8], switches: u8) -> Judged {
     let checked =
-        check_condition(tables, tokens).and_then(|_| tables::check_record(tables, record));
+        check_condition(tables, tokens).and_then(|_| tables::check_record(tables.items, record));
     match checked {
         Ok(()) => judge::answer_of_tree(tables, tokens, record, switches),
         Err(refusal) => Judged::refused_earlier(refusal),
@@ -105,7 +106,7 @@ pub fn judge(tables: &Tables, tokens: &[u32], record: &[u8], switches: u8) -> Ju
 pub fn run(tables: &Tables, plan: &[u32], record: &[u8], switches: u8) -> Judged {
     let checked = tables::check_tables(tables)
         .and_then(|()| plan::check_plan(tables, plan))
-        .and_then(|()| tables::check_record(tables, record));
+        .and_then(|()| tables::check_record(tables.items, record));
     match checked {
         Ok(()) => judge::answer_of_plan(tables, plan, record, switches),
         Err(refusal) => Judged::refused_earlier(refusal),
@@ -121,9 +122,10 @@ fn check_condition(tables: &Tables, tokens: &[u32]) -> Result<usize, Refusal> {
     typing::check_typing(tables, tokens)
 }
 
-/// 10: "output shorter than needed", "numbers needed in it".
-fn check_room(output: &[u32], needed: usize) -> Result<(), Refusal> {
-    if output.len() < needed {
+/// 10: "output shorter than needed (of several outputs, the first such)",
+/// "numbers needed in it".
+pub(crate) fn check_room(room: usize, needed: usize) -> Result<(), Refusal> {
+    if room < needed {
         return refuse(10, needed);
     }
     Ok(())

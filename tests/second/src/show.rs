@@ -1,9 +1,11 @@
 //! Cases in readable form.
 
 use crate::case::Case;
+use crate::rules::tables::ROW;
 use std::fmt::{self, Write};
 
-const WORDS: [&str; 17] = [
+/// Document 01's words 0 to 16, relations as symbols.
+pub const WORDS: [&str; 17] = [
     "(",
     ")",
     "NOT",
@@ -55,11 +57,11 @@ fn bytes(bytes: &[u8]) -> String {
 }
 
 /// Rows of a table with the bytes they name, where they lie inside.
-fn show_rows(f: &mut fmt::Formatter, name: &str, table: &[u32], source: &[u8]) -> fmt::Result {
+pub fn show_rows(f: &mut fmt::Formatter, name: &str, table: &[u32], source: &[u8]) -> fmt::Result {
     writeln!(f, "{name}s: {} numbers", table.len())?;
-    for (place, row) in table.chunks(4).enumerate() {
+    for (place, row) in table.chunks(ROW).enumerate() {
         write!(f, "  {name} {place}: {row:?}")?;
-        if let &[_, offset, size, _] = row {
+        if let &[_, offset, size, _, _] = row {
             let (start, size) = (offset as usize, size as usize);
             match source.get(start..start + size) {
                 Some(part) => write!(f, " \"{}\"", bytes(&part[..part.len().min(300)]))?,

@@ -5,6 +5,7 @@
 //! N`, `judge`, `run` and `answers in N` ask. Outputs held 7 everywhere.
 
 use crate::rules::{self, Judged, Refusal, Tables};
+use crate::show::WORDS;
 use std::fmt::Write;
 
 #[derive(Default)]
@@ -113,25 +114,6 @@ fn list(value: &str, hexadecimal: bool) -> Vec<u32> {
 /// a to z are items 0 to 25, A to Z literals 0 to 25, s0 is switch 0 on, o0
 /// switch 0 off; words and relations as document 01 has them.
 fn token(word: &str) -> u32 {
-    const WORDS: [&str; 17] = [
-        "(",
-        ")",
-        "NOT",
-        "AND",
-        "OR",
-        ">",
-        "<",
-        "=",
-        ">=",
-        "<=",
-        "NUMERIC",
-        "ALPHABETIC",
-        "ALPHABETIC-LOWER",
-        "ALPHABETIC-UPPER",
-        "POSITIVE",
-        "NEGATIVE",
-        "ZERO",
-    ];
     if let Ok(number) = word.parse() {
         return number;
     }

@@ -13,7 +13,7 @@ use super::entries::is_valid;
 /// - behind an entry, with or without a blank: nothing, or a member of the group
 ///   that has none, at level 49, which every group but one of 49 can have;
 /// - in a picture: a symbol, a count's digit, its bracket, the period;
-/// - in a SIGN clause: what is left of it.
+/// - in a SIGN clause or in COMP-3: what is left of it.
 fn endings() -> Vec<Vec<u8>> {
     let mut endings = vec![Vec::new()];
     for whole in [
@@ -21,6 +21,7 @@ fn endings() -> Vec<Vec<u8>> {
         "01 A PIC X.",
         " SIGN LEADING SEPARATE.",
         " SIGN TRAILING SEPARATE.",
+        " COMP-3.",
     ] {
         endings.extend(tails(whole));
     }

@@ -83,16 +83,27 @@ fn elementary(words: &mut Words) -> Option<Form> {
     };
     let kind = match (picture.last, sort) {
         (true, _) => kind,
-        (false, Sort::Nines { signed: true }) => separate_sign(words)?,
+        (false, Sort::Nines { signed }) => usage(words, signed)?,
         (false, _) => return None,
     };
     let picture = picture.range();
     Some(Form::Elementary { kind, picture })
 }
 
+/// "The reader of a) takes COMP-3 [...] in SIGN's place, with or without S"
+/// (02, f): kind 8 or 9.
+fn usage(words: &mut Words, signed: bool) -> Option<u32> {
+    let word = words.next()?;
+    match (word.text, word.last, signed) {
+        (b"COMP-3", true, true) => Some(8),
+        (b"COMP-3", true, false) => Some(9),
+        (b"SIGN", false, true) => separate_sign(words),
+        _ => None,
+    }
+}
+
 /// "SIGN LEADING or TRAILING SEPARATE for kinds 5, 6".
 fn separate_sign(words: &mut Words) -> Option<u32> {
-    expect(words, "SIGN")?;
     let side = words.next().filter(|word| !word.last)?;
     let last = words.next().filter(|word: &Word| word.last)?;
     match (side.text, last.text) {

@@ -11,6 +11,7 @@ pub struct Row {
     offset: Big,
     size: Big,
     scale: Big,
+    digits: Big,
 }
 
 /// One row for each entry, in their order. "Levels 01 and 77 start at the next
@@ -25,6 +26,7 @@ pub fn rows(text: &[u8], entries: &[Entry]) -> Vec<Row> {
                 offset: free.clone(),
                 size: Big::default(),
                 scale: Big::default(),
+                digits: Big::default(),
             },
             Form::Elementary { kind, picture } => {
                 elementary(*kind, &text[picture.clone()], free.clone())
@@ -45,16 +47,26 @@ pub fn rows(text: &[u8], entries: &[Entry]) -> Vec<Row> {
     rows
 }
 
-/// A separate sign takes a byte of its own.
+/// A separate sign takes a byte of its own; of packed items "size is half the
+/// digits, rounded down, plus 1" (02, f). Texts have no digits.
 fn elementary(kind: u32, picture: &[u8], offset: Big) -> Row {
     let (count, scale) = pictures::measures(picture);
-    let sign = Big::from(u32::from(kind >= 5));
-    let size = count.plus(&sign);
+    let one = Big::from(1);
+    let size = match kind {
+        5 | 6 => count.plus(&one),
+        8 | 9 => count.half().plus(&one),
+        _ => count.clone(),
+    };
+    let digits = match kind {
+        1 | 2 => Big::default(),
+        _ => count,
+    };
     Row {
         kind,
         offset,
         size,
         scale,
+        digits,
     }
 }
 
@@ -78,30 +90,33 @@ impl Row {
     /// Described with S: "kind 7, a group with no signed item at any depth [...].
     /// The reader of a) gives 7 where it holds and 0 otherwise" (02, b).
     fn is_signed(&self) -> bool {
-        matches!(self.kind, 4..=6)
+        matches!(self.kind, 4..=6 | 8)
     }
 
     /// "Kind 0: size 1 to 65,535. Kinds 1, 2: size 1 to 256. Kinds 3, 4: size 1
-    /// to 18. Kinds 5, 6: size 2 to 19. Offset at most 65,535." (01). A scale is
-    /// never above its digits.
+    /// to 18. Kinds 5, 6: size 2 to 19. Offset at most 65,535." (01). The digit
+    /// count is "1 to 18 for numeric kinds" (02, f), which bounds their sizes:
+    /// 19 packed digits lie in as many bytes as 18. A scale is never above its
+    /// digits.
     fn is_beyond_limits(&self) -> bool {
         let largest = match self.kind {
-            0 | 7 => 65_535,
             1 | 2 => 256,
-            3 | 4 => 18,
-            _ => 19,
+            _ => 65_535,
         };
-        self.size > Big::from(largest) || self.offset > Big::from(65_535)
+        self.size > Big::from(largest)
+            || self.digits > Big::from(18)
+            || self.offset > Big::from(65_535)
     }
 
     /// Of a row within the limits.
-    pub fn numbers(&self) -> [u32; 4] {
+    pub fn numbers(&self) -> [u32; 5] {
         let small = |number: &Big| number.small().expect("a row within the limits");
         [
             self.kind,
             small(&self.offset),
             small(&self.size),
             small(&self.scale),
+            small(&self.digits),
         ]
     }
 }

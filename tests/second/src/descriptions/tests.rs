@@ -5,7 +5,7 @@ mod beginnings;
 use super::*;
 
 fn read(text: &[u8]) -> Result<(Vec<u32>, Vec<u32>), Refusal> {
-    let (mut rows, mut places) = ([7; 260], [7; 65]);
+    let (mut rows, mut places) = ([7; 325], [7; 65]);
     match describe(text, &mut rows, &mut places) {
         Ok([numbers, names]) => {
             let (numbers, names) = (numbers as usize, names as usize);
@@ -44,7 +44,7 @@ fn places_of_the_reading() {
     check_fault("01 12 PIC X.", 5);
     check_fault(&format!("01 {} PIC X.", "1".repeat(30)), 3 + 29);
     check_fault("01 A PIC X(0)", 12);
-    check_fault("01 A PIC 9 SIGN", 10);
+    check_fault("01 A PIC 9 SIGN", 11);
     check_fault("01 A PIC X.02", 11);
     check_fault("01 A PIC V.", 10);
 }
@@ -118,18 +118,18 @@ fn more_places() {
 #[test]
 fn names_at_their_limits() {
     let name = |length: usize| format!("77 {} PIC X.", "N".repeat(length));
-    check(&name(30), &[2, 0, 1, 0], &[3]);
+    check(&name(30), &[2, 0, 1, 0, 0], &[3]);
     check_fault(&name(31), 33);
     check_fault(&format!("77 {}- PIC X.", "N".repeat(29)), 32);
     check(
         &format!("77 {}A PIC X.", "1".repeat(29)),
-        &[2, 0, 1, 0],
+        &[2, 0, 1, 0, 0],
         &[3],
     );
-    check("01 A--B PIC X.", &[2, 0, 1, 0], &[3]);
+    check("01 A--B PIC X.", &[2, 0, 1, 0, 0], &[3]);
     check(
         "01 X PIC X. 01 S PIC A. 77 9V PIC V9.",
-        &[2, 0, 1, 0, 1, 1, 1, 0, 3, 2, 1, 1],
+        &[2, 0, 1, 0, 0, 1, 1, 1, 0, 0, 3, 2, 1, 1, 1],
         &[3, 15, 27],
     );
     for keyword in [
@@ -143,7 +143,7 @@ fn names_at_their_limits() {
         "UPSI-0",
     ] {
         check_fault(&format!("01 {keyword} PIC X."), 3 + keyword.len() as u32);
-        check(&format!("01 {keyword}A PIC X."), &[2, 0, 1, 0], &[3]);
+        check(&format!("01 {keyword}A PIC X."), &[2, 0, 1, 0, 0], &[3]);
     }
 }
 
@@ -154,8 +154,8 @@ fn rows_of_an_entry_tree() {
     check(
         text,
         &[
-            0, 0, 33, 0, 1, 0, 20, 0, 0, 20, 10, 0, 3, 20, 6, 2, 5, 26, 4, 0, 6, 30, 3, 1, 4, 33,
-            2, 0, 2, 35, 4, 0,
+            0, 0, 33, 0, 0, 1, 0, 20, 0, 0, 0, 20, 10, 0, 0, 3, 20, 6, 2, 6, 5, 26, 4, 0, 3, 6, 30,
+            3, 1, 2, 4, 33, 2, 0, 2, 2, 35, 4, 0, 0,
         ],
         &[
             place("LOG"),
@@ -174,13 +174,15 @@ fn rows_of_an_entry_tree() {
 fn levels_of_members() {
     check(
         "01 A. 49 B PIC X. 49 C PIC X.",
-        &[7, 0, 2, 0, 2, 0, 1, 0, 2, 1, 1, 0],
+        &[7, 0, 2, 0, 0, 2, 0, 1, 0, 0, 2, 1, 1, 0, 0],
         &[3, 9, 21],
     );
     // Other groups may have other member levels.
     check(
         "01 A. 05 B. 10 C PIC X. 05 D. 07 E PIC 9.",
-        &[7, 0, 2, 0, 7, 0, 1, 0, 2, 0, 1, 0, 7, 1, 1, 0, 3, 1, 1, 0],
+        &[
+            7, 0, 2, 0, 0, 7, 0, 1, 0, 0, 2, 0, 1, 0, 0, 7, 1, 1, 0, 0, 3, 1, 1, 0, 1,
+        ],
         &[3, 9, 15, 27, 33],
     );
 }
@@ -190,7 +192,7 @@ fn levels_of_members() {
 fn groups_without_signs() {
     let kinds = |text: &str| -> Vec<u32> {
         let (rows, _) = read(text.as_bytes()).unwrap();
-        rows.chunks(4).map(|row| row[0]).collect()
+        rows.chunks(5).map(|row| row[0]).collect()
     };
     assert_eq!(kinds("01 A. 02 B PIC 9. 02 C PIC X."), [7, 3, 2]);
     assert_eq!(kinds("01 A. 02 B PIC 9. 02 C PIC S9."), [0, 3, 4]);
@@ -206,20 +208,68 @@ fn groups_without_signs() {
     assert_eq!(kinds(deep), [0, 0, 0, 5, 3, 7, 2]);
     let trailing = "01 A. 02 B. 03 C PIC X. 02 D. 03 E PIC S9 SIGN TRAILING SEPARATE.";
     assert_eq!(kinds(trailing), [0, 7, 2, 0, 6]);
+    let packed = "01 A. 02 B. 03 C PIC 9 COMP-3. 02 D. 03 E PIC S9 COMP-3.";
+    assert_eq!(kinds(packed), [0, 7, 9, 0, 8]);
+}
+
+/// "The reader of a) takes COMP-3, a keyword now, in SIGN's place, with or
+/// without S" (02, f).
+#[test]
+fn packed_items() {
+    check("01 A PIC S9(5)V9(3) COMP-3.", &[8, 0, 5, 3, 8], &[3]);
+    check("01 A PIC 9\nCOMP-3.", &[9, 0, 1, 0, 1], &[3]);
+    for digits in 1..=18 {
+        let size = (digits + 2) / 2;
+        let text = format!("01 A. 02 B PIC SV9({digits}) COMP-3. 02 C PIC 9({digits}) COMP-3.");
+        let rows = [
+            [0, 0, 2 * size, 0, 0],
+            [8, 0, size, digits, digits],
+            [9, size, size, 0, digits],
+        ];
+        let (read, _) = read(text.as_bytes()).unwrap();
+        assert_eq!(read, rows.concat());
+    }
+    check(
+        "01 A. 02 B PIC 9 COMP-3. 77 C PIC X.",
+        &[7, 0, 1, 0, 0, 9, 0, 1, 0, 1, 2, 1, 1, 0, 0],
+        &[3, 9, 28],
+    );
+    // 18 and 19 digits lie in ten bytes; only the first is within the limits.
+    check("77 A PIC 9(18) COMP-3.", &[9, 0, 10, 0, 18], &[3]);
+    check_fault("77 A PIC 9(19) COMP-3.", 0);
+    check_fault("77 B PIC 9 COMP-3. 77 A PIC S9(18)V9 COMP-3.", 19);
+    let wraps = "18446744073709551618";
+    check_fault(&format!("77 A PIC 9({wraps}) COMP-3."), 0);
+    check_fault(&format!("01 A. 02 B PIC 9({wraps}) COMP-3."), 0);
+    for (text, place) in [
+        ("01 A PIC X COMP-3.", 10),
+        ("01 A PIC A COMP-3.", 10),
+        ("01 A PIC 9 COMP-3 .", 17),
+        ("01 A PIC 9 COMP-3 SIGN", 17),
+        ("01 A PIC 9 COMP.", 15),
+        ("01 A PIC 9 COMP-", 16),
+        ("01 A PIC 9 COMP-3", 17),
+        ("01 A PIC 9 .", 11),
+        ("01 A PIC S9 SIGN LEADING COMP-3.", 25),
+        ("01 COMP-3 PIC X.", 9),
+    ] {
+        check_fault(text, place);
+    }
+    check("01 COMP-3A PIC X.", &[2, 0, 1, 0, 0], &[3]);
 }
 
 #[test]
 fn sizes_at_their_limits() {
-    check("01 A PIC X(256).", &[2, 0, 256, 0], &[3]);
+    check("01 A PIC X(256).", &[2, 0, 256, 0, 0], &[3]);
     check_fault("01 A PIC X(257).", 0);
-    check("01 A PIC A(255)A.", &[1, 0, 256, 0], &[3]);
+    check("01 A PIC A(255)A.", &[1, 0, 256, 0, 0], &[3]);
     check_fault("77 B PIC X. 01 A PIC A(255)AA.", 12);
-    check("01 A PIC 9(9)V9(9).", &[3, 0, 18, 9], &[3]);
-    check("01 A PIC SV9(18).", &[4, 0, 18, 18], &[3]);
+    check("01 A PIC 9(9)V9(9).", &[3, 0, 18, 9, 18], &[3]);
+    check("01 A PIC SV9(18).", &[4, 0, 18, 18, 18], &[3]);
     check_fault("01 A PIC 9(18)V9.", 0);
     check(
         "01 A PIC S9(18) SIGN LEADING SEPARATE.",
-        &[5, 0, 19, 0],
+        &[5, 0, 19, 0, 18],
         &[3],
     );
     check_fault("01 A PIC S9(19) SIGN TRAILING SEPARATE.", 0);
@@ -245,7 +295,7 @@ fn groups_beyond_their_limit() {
 #[test]
 fn counts_of_any_length() {
     let zeros = "0".repeat(3_000);
-    check(&format!("01 A PIC X({zeros}7)."), &[2, 0, 7, 0], &[3]);
+    check(&format!("01 A PIC X({zeros}7)."), &[2, 0, 7, 0, 0], &[3]);
     check_fault(&format!("01 A PIC X({zeros})."), 3_011);
     check_fault(&format!("01 A. 02 B PIC X(1{zeros})."), 0);
     for wraps in [
@@ -263,8 +313,8 @@ fn counts_of_any_length() {
 fn rows_64_and_65() {
     let texts = |count: usize| "77 A PIC X. ".repeat(count);
     let (rows, places) = read(texts(64).as_bytes()).unwrap();
-    assert_eq!((rows.len(), places.len()), (256, 64));
-    assert_eq!(&rows[252..], &[2, 63, 1, 0]);
+    assert_eq!((rows.len(), places.len()), (320, 64));
+    assert_eq!(&rows[315..], &[2, 63, 1, 0, 0]);
     check_fault(&texts(65), 64 * 12);
     check_fault(&texts(66), 64 * 12);
     // Not complete, so not yet the 65th; or behind the faulty byte.
@@ -280,7 +330,7 @@ fn bytes_4095_and_4096() {
     let entry = "77 A PIC X.";
     check(
         &format!("{}{entry}", blanks(4_085)),
-        &[2, 0, 1, 0],
+        &[2, 0, 1, 0, 0],
         &[4_088],
     );
     check_fault(&format!("{}{entry} ", blanks(4_085)), 4_096);
@@ -298,18 +348,18 @@ fn bytes_4095_and_4096() {
 #[test]
 fn rooms() {
     let text = b"01 A. 02 B PIC X.";
-    let mut output = [7; 12];
-    let (rows, places) = output.split_at_mut(8);
+    let mut output = [7; 14];
+    let (rows, places) = output.split_at_mut(10);
     let short = |needed| Err(Refusal::at(10, needed));
-    assert_eq!(describe(text, &mut rows[..7], places), short(8));
-    assert_eq!(describe(text, &mut rows[..0], &mut places[..0]), short(8));
+    assert_eq!(describe(text, &mut rows[..9], places), short(10));
+    assert_eq!(describe(text, &mut rows[..0], &mut places[..0]), short(10));
     assert_eq!(describe(text, rows, &mut places[..1]), short(2));
     assert_eq!(
         describe(&text[..16], rows, &mut []),
         Err(Refusal::at(14, 16))
     );
-    assert_eq!(output, [7; 12]);
-    let (rows, places) = output.split_at_mut(8);
-    assert_eq!(describe(text, rows, &mut places[..2]), Ok([8, 2]));
-    assert_eq!(output, [7, 0, 1, 0, 2, 0, 1, 0, 3, 9, 7, 7]);
+    assert_eq!(output, [7; 14]);
+    let (rows, places) = output.split_at_mut(10);
+    assert_eq!(describe(text, rows, &mut places[..2]), Ok([10, 2]));
+    assert_eq!(output, [7, 0, 1, 0, 0, 2, 0, 1, 0, 0, 3, 9, 7, 7]);
 }

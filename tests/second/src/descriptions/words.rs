@@ -49,8 +49,10 @@ impl<'a> Iterator for Words<'a> {
     }
 }
 
-/// "No keyword (any here, 01's words, IS, THAN, TO, UPSI-0 to UPSI-7)".
-const KEYWORDS: [&str; 30] = [
+/// "No keyword (any here, 01's words, IS, THAN, TO, UPSI-0 to UPSI-7)"; "COMP-3,
+/// a keyword now" (02, f).
+const KEYWORDS: [&str; 31] = [
+    "COMP-3",
     "FILLER",
     "PIC",
     "SIGN",

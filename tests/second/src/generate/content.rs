@@ -2,6 +2,7 @@
 //! less and greater all occur, and invalid numeric contents.
 
 use crate::random::Random;
+use crate::rules::tables::Row;
 
 /// What the contents of one case are gathered around.
 pub struct Theme {
@@ -61,22 +62,24 @@ impl Theme {
     }
 }
 
-/// Valid content for a row of that kind and scale.
-pub fn put(random: &mut Random, theme: &Theme, kind: u32, scale: u32, bytes: &mut [u8]) {
-    match kind {
+/// Valid content for a row.
+pub fn put(random: &mut Random, theme: &Theme, row: &[u32], bytes: &mut [u8]) {
+    match row[0] {
         1 => put_letters(random, theme, bytes),
         7 if random.chance(500) => bytes.fill_with(|| random.pick(b"0123456789")),
         0 | 2 | 7 => put_text(random, theme, bytes),
-        _ => put_number(random, theme, kind, scale, bytes),
+        _ => put_number(random, theme, row, bytes),
     }
 }
 
-fn put_number(random: &mut Random, theme: &Theme, kind: u32, scale: u32, bytes: &mut [u8]) {
-    let digits = bytes.len() - usize::from(kind >= 5);
-    let value = theme.near(random, digits as u32, scale);
+fn put_number(random: &mut Random, theme: &Theme, row: &[u32], bytes: &mut [u8]) {
+    let (kind, digits) = (row[0], row[4] as usize);
+    let value = theme.near(random, row[4], row[3]);
     let minus = random.chance(theme.minus);
     let sign = if minus { b'-' } else { b'+' };
     match kind {
+        8 => return put_packed(value, if minus { 4 } else { 3 }, bytes),
+        9 => return put_packed(value, 3, bytes),
         5 => {
             bytes[0] = sign;
             put_digits(value, &mut bytes[1..]);
@@ -96,6 +99,37 @@ fn put_digits(mut value: u64, bytes: &mut [u8]) {
     for byte in bytes.iter_mut().rev() {
         *byte = b'0' + (value % 10) as u8;
         value /= 10;
+    }
+}
+
+/// Zero with either sign, where the kind has one.
+pub fn put_zero(random: &mut Random, row: &Row, bytes: &mut [u8]) {
+    let minus = random.chance(500);
+    let sign = if minus { b'-' } else { b'+' };
+    let last = bytes.len() - 1;
+    bytes.fill(if row.packed() { 0 } else { b'0' });
+    match row.kind {
+        4 if minus => bytes[last] = 0x40,
+        5 => bytes[0] = sign,
+        6 => bytes[last] = sign,
+        8 if minus => bytes[last] = 4,
+        8 | 9 => bytes[last] = 3,
+        _ => {}
+    }
+}
+
+/// The value's decimal digits and the sign as half-bytes, zeros before them.
+fn put_packed(value: u64, sign: u8, bytes: &mut [u8]) {
+    let mut rest = value;
+    let mut take = || {
+        let digit = (rest % 10) as u8;
+        rest /= 10;
+        digit
+    };
+    let mut right = sign;
+    for byte in bytes.iter_mut().rev() {
+        *byte = take() << 4 | right;
+        right = take();
     }
 }
 
@@ -171,6 +205,32 @@ fn put_digit_text(random: &mut Random, theme: &Theme, bytes: &mut [u8]) {
     };
     let value = theme.near(random, width as u32, 0);
     put_digits(value, &mut bytes[..width]);
+}
+
+/// Puts one to three halves that packed content may not hold, mostly, at any
+/// place: the leading zero, a digit, the sign.
+pub fn spoil_halves(random: &mut Random, bytes: &mut [u8]) {
+    for _ in 0..random.pick(&[1, 1, 1, 1, 2, 3]) {
+        let half = match random.below(4) {
+            0 => random.below(16),
+            1 => random.pick(&[1, 2, 4, 5, 12, 13]),
+            _ => random.between(10, 15),
+        } as u8;
+        let place = match random.below(6) {
+            0 => 0,
+            1 => 2 * bytes.len() - 1,
+            _ => random.index(2 * bytes.len()),
+        };
+        let byte = &mut bytes[place / 2];
+        *byte = if place % 2 == 0 {
+            *byte & 0x0F | half << 4
+        } else {
+            *byte & 0xF0 | half
+        };
+    }
+    if random.chance(60) {
+        bytes.fill(b' ');
+    }
 }
 
 /// Makes numeric content invalid, nearly always.

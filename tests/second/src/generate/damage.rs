@@ -1,8 +1,9 @@
 //! Damage: one rule broken, mostly by one.
 
-use super::{any_operand, condition, find_operand, Facts};
+use super::{any_operand, condition, find_operand, tables, Facts};
 use crate::case::Case;
 use crate::random::Random;
+use crate::rules::tables::ROW;
 
 const WORD: u32 = 4 * 65_536;
 const WORD_10: u32 = WORD + 10;
@@ -81,7 +82,7 @@ fn bracket(random: &mut Random, tokens: &mut Vec<u32>, place: usize) {
 
 /// A token that does not exist, mostly by one.
 pub fn missing_token(random: &mut Random, case: &Case) -> u32 {
-    let (items, literals) = (case.items.len() / 4, case.literals.len() / 4);
+    let (items, literals) = (case.items.len() / ROW, case.literals.len() / ROW);
     match random.below(9) {
         0 => items as u32,
         1 => 65_536 + literals as u32,
@@ -116,6 +117,24 @@ pub fn damage_tables(random: &mut Random, case: &mut Case) {
     }
 }
 
+/// The same for the literals alone.
+pub fn damage_literals(random: &mut Random, case: &mut Case) {
+    if random.chance(50) {
+        match random.below(3) {
+            0 => break_length(random, &mut case.literals),
+            _ => break_literal_row(random, case),
+        }
+    }
+}
+
+/// The same for the items alone, always.
+pub fn damage_item_table(random: &mut Random, case: &mut Case) {
+    match random.below(3) {
+        0 => break_length(random, &mut case.items),
+        _ => break_item_row(random, case),
+    }
+}
+
 fn damage_a_table(random: &mut Random, case: &mut Case) {
     match random.below(20) {
         0..=3 => break_length(random, &mut case.items),
@@ -125,26 +144,26 @@ fn damage_a_table(random: &mut Random, case: &mut Case) {
     }
 }
 
-/// A length that is no multiple of 4, or 65 rows.
+/// A length that is no multiple of 5, or 65 rows.
 fn break_length(random: &mut Random, table: &mut Vec<u32>) {
     match random.below(4) {
         0 if !table.is_empty() => table.truncate(table.len() - 1),
         1 => {
-            let row = [2, 0, 1, 0];
-            let start = table.len() / 4;
+            let row = [2, 0, 1, 0, 0];
+            let start = table.len() / ROW;
             (start..65).for_each(|_| table.extend(row));
         }
-        _ => table.extend(std::iter::repeat_n(2, random.between(1, 3) as usize)),
+        _ => table.extend(std::iter::repeat_n(2, random.between(1, 4) as usize)),
     }
 }
 
 fn break_item_row(random: &mut Random, case: &mut Case) {
-    if case.items.len() < 4 {
-        case.items = vec![3, 0, 1, 0];
+    if case.items.len() < ROW {
+        case.items = vec![3, 0, 1, 0, 1];
     }
-    let rows = case.items.len() / 4;
-    let row = 4 * random.index(rows);
-    break_row(random, &mut case.items[row..row + 4]);
+    let rows = case.items.len() / ROW;
+    let row = ROW * random.index(rows);
+    break_row(random, &mut case.items[row..row + ROW]);
 }
 
 /// Breaks one of a row's own limits by one, or wildly.
@@ -153,44 +172,54 @@ fn break_row(random: &mut Random, row: &mut [u32]) {
         0 | 7 => (65_535, 1),
         1 | 2 => (256, 1),
         3 | 4 => (18, 1),
-        _ => (19, 2),
+        5 | 6 => (19, 2),
+        _ => (10, 1),
     };
-    let largest_scale = match row[0] {
-        0..=2 | 7 => 0,
-        3 | 4 => row[2],
-        _ => row[2].saturating_sub(1),
-    };
-    match random.below(7) {
-        0 => row[0] = 8,
+    match random.below(11) {
+        0 => row[0] = 10,
         1 => row[1] = 65_536,
         2 => row[2] = largest + 1,
         3 => row[2] = smallest - 1,
-        4 => row[3] = largest_scale.saturating_add(1),
-        _ => row[random.index(4)] = random.any() as u32 | 0x8000_0000,
+        4 => row[3] = row[4].saturating_add(1),
+        5 => row[4] = row[4].wrapping_add(random.pick(&[1, 2, u32::MAX])),
+        6 => row[2] = row[2].wrapping_add(random.pick(&[1, u32::MAX])),
+        7 => row[4] = 0,
+        8 => nineteen_digits(random, row),
+        9 => row[0] = random.below(10),
+        _ => row[random.index(ROW)] = random.any() as u32 | 0x8000_0000,
     }
+}
+
+/// A size that agrees with one digit too many, or with none.
+fn nineteen_digits(random: &mut Random, row: &mut [u32]) {
+    let kind = random.pick(&[3, 4, 5, 6, 8, 9]);
+    let digits = random.pick(&[0, 19, 19, 20]);
+    row.copy_from_slice(&[kind, row[1], tables::size(kind, digits), 0, digits]);
 }
 
 /// Breaks a literal row: its limits, its kind, its place or its content.
 fn break_literal_row(random: &mut Random, case: &mut Case) {
-    if case.literals.len() < 4 {
-        case.literals = vec![5, case.bytes.len() as u32, 3, 1];
+    if case.literals.len() < ROW {
+        case.literals = vec![5, case.bytes.len() as u32, 3, 1, 2];
         case.bytes.extend(b"+12");
     }
-    let rows = case.literals.len() / 4;
-    let start = 4 * random.index(rows);
-    let row = &mut case.literals[start..start + 4];
+    let rows = case.literals.len() / ROW;
+    let start = ROW * random.index(rows);
+    let row = &mut case.literals[start..start + ROW];
     let size = row[2];
     match random.below(6) {
         0 => break_row(random, row),
         1 => {
-            let (kind, content) = random.pick(&[
-                (0, b"AB1"),
-                (1, b"AB "),
-                (4, b"12E"),
-                (6, b"12+"),
-                (7, b"123"),
+            let (kind, digits, content) = random.pick(&[
+                (0, 0, b"AB1"),
+                (1, 0, b"AB "),
+                (4, 3, b"12E"),
+                (6, 2, b"12+"),
+                (7, 0, b"123"),
+                (8, 5, b"\x12\x34\x54"),
+                (9, 4, b"\x01\x23\x43"),
             ]);
-            row.copy_from_slice(&[kind, case.bytes.len() as u32, 3, 0]);
+            row.copy_from_slice(&[kind, case.bytes.len() as u32, 3, 0, digits]);
             case.bytes.extend(content);
         }
         2 => row[1] = (case.bytes.len() as u32 + 1).saturating_sub(size),

@@ -3,6 +3,7 @@
 use super::content::{self, Theme};
 use crate::case::Case;
 use crate::random::Random;
+use crate::rules::tables::ROW;
 
 pub fn fill(random: &mut Random, case: &mut Case) {
     let theme = Theme::choose(random);
@@ -20,33 +21,44 @@ fn fill_items(random: &mut Random, case: &mut Case) {
         _ => random.between(62, 64),
     };
     let kinds: &[u32] = match random.below(4) {
-        0 => &[0, 1, 2, 3, 4, 5, 6, 7],
-        1 => &[3, 3, 4, 4, 5, 6, 2],
-        2 => &[0, 1, 2, 2, 2, 3, 4, 7],
-        _ => &[1, 1, 0, 7, 2, 3, 4, 5, 6],
+        0 => &[0, 1, 2, 3, 4, 5, 6, 7, 8, 9],
+        1 => &[3, 3, 4, 4, 5, 6, 8, 8, 9, 2],
+        2 => &[0, 1, 2, 2, 2, 3, 4, 7, 8],
+        _ => &[1, 1, 0, 7, 2, 3, 4, 5, 6, 9],
     };
     let mut end = 0;
     for _ in 0..rows {
         let kind = random.pick(kinds);
-        let (size, scale) = measures(random, kind);
+        let [size, scale, digits] = measures(random, kind);
         let offset = offset(random, end);
-        case.items.extend([kind, offset, size, scale]);
+        case.items.extend([kind, offset, size, scale, digits]);
         end = end.max(offset + size);
     }
 }
 
-/// Size and scale within the rules, now and then at their limits.
-fn measures(random: &mut Random, kind: u32) -> (u32, u32) {
+/// The bytes that so many digits take.
+pub fn size(kind: u32, digits: u32) -> u32 {
+    match kind {
+        3 | 4 => digits,
+        5 | 6 => digits + 1,
+        _ => digits / 2 + 1,
+    }
+}
+
+/// Size, scale and digits within the rules, now and then at their limits.
+pub fn measures(random: &mut Random, kind: u32) -> [u32; 3] {
     let wide = random.chance(40);
     match kind {
-        0 | 7 if wide && random.chance(10) => (65_535, 0),
-        0 | 7 if wide => (random.between(1, 300), 0),
-        0 | 7 => (random.between(1, 8), 0),
-        1 | 2 if wide => (random.between(250, 256), 0),
-        1 | 2 => (random.between(1, 6), 0),
+        0 | 7 if wide && random.chance(10) => [65_535, 0, 0],
+        0 | 7 if wide => [random.between(1, 300), 0, 0],
+        0 | 7 => [random.between(1, 8), 0, 0],
+        1 | 2 if wide => [random.between(250, 256), 0, 0],
+        1 | 2 => [random.between(1, 6), 0, 0],
         _ => {
             let digits = if wide || random.chance(90) {
                 random.between(16, 18)
+            } else if kind >= 8 && random.chance(700) {
+                random.between(1, 18)
             } else {
                 random.between(1, 5)
             };
@@ -55,7 +67,7 @@ fn measures(random: &mut Random, kind: u32) -> (u32, u32) {
                 6 => digits,
                 _ => random.below(digits + 1),
             };
-            (digits + u32::from(kind >= 5), scale)
+            [size(kind, digits), scale, digits]
         }
     }
 }
@@ -78,29 +90,30 @@ fn span(row: &[u32]) -> std::ops::Range<usize> {
 }
 
 /// A record that ends where the last item does.
-fn fill_record(random: &mut Random, theme: &Theme, case: &mut Case) {
-    let length = case.items.chunks(4).map(|row| span(row).end).max();
+pub fn fill_record(random: &mut Random, theme: &Theme, case: &mut Case) {
+    let length = case.items.chunks(ROW).map(|row| span(row).end).max();
     case.record = vec![b' '; length.unwrap_or(0)];
     let mut filled = 0;
-    for row in case.items.chunks(4) {
+    for row in case.items.chunks(ROW) {
         let covers_others = span(row).start < filled;
         if !covers_others || random.chance(500) {
             let bytes = &mut case.record[span(row)];
-            content::put(random, theme, row[0], row[3], bytes);
+            content::put(random, theme, row, bytes);
         }
         filled = filled.max(span(row).end);
     }
-    for row in case.items.chunks(4) {
+    for row in case.items.chunks(ROW) {
         let bytes = &mut case.record[span(row)];
         match row[0] {
             1 if random.chance(theme.rot / 2) => content::spoil_letters(random, bytes),
             3..=6 if random.chance(theme.rot) => content::spoil(random, bytes),
+            8 | 9 if random.chance(theme.rot) => content::spoil_halves(random, bytes),
             _ => {}
         }
     }
 }
 
-fn fill_literals(random: &mut Random, theme: &Theme, case: &mut Case) {
+pub fn fill_literals(random: &mut Random, theme: &Theme, case: &mut Case) {
     let rows = match random.below(100) {
         0..=19 => 0,
         20..=89 => random.between(1, 4),
@@ -121,24 +134,25 @@ fn fill_literals(random: &mut Random, theme: &Theme, case: &mut Case) {
 
 fn add_literal(random: &mut Random, theme: &Theme, case: &mut Case) {
     let kind = random.pick(&[2, 2, 3, 3, 5]);
-    let (size, scale) = measures(random, kind);
+    let [size, scale, digits] = measures(random, kind);
     let start = case.bytes.len();
-    case.literals.extend([kind, start as u32, size, scale]);
+    let row = [kind, start as u32, size, scale, digits];
+    case.literals.extend(row);
     case.bytes.resize(start + size as usize, b' ');
-    content::put(random, theme, kind, scale, &mut case.bytes[start..]);
+    content::put(random, theme, &row, &mut case.bytes[start..]);
 }
 
 /// A row over bytes of an earlier row: the digits behind a sign, or characters.
 fn view_literal_again(random: &mut Random, case: &mut Case) {
-    let row = 4 * random.index(case.literals.len() / 4);
+    let row = ROW * random.index(case.literals.len() / ROW);
     let (kind, offset, size) = (
         case.literals[row],
         case.literals[row + 1],
         case.literals[row + 2],
     );
     let view = match kind {
-        5 if random.chance(500) => [3, offset + 1, size - 1, 0],
-        _ => [2, offset, random.between(1, size), 0],
+        5 if random.chance(500) => [3, offset + 1, size - 1, 0, size - 1],
+        _ => [2, offset, random.between(1, size), 0, 0],
     };
     case.literals.extend(view);
 }

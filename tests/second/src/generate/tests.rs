@@ -3,12 +3,14 @@
 use super::*;
 use crate::answers;
 use crate::rules::content::{first_no_letter, first_wrong};
+use crate::rules::tables::Row;
 use crate::rules::{VERDICT_FALSE, VERDICT_TRUE};
 use std::collections::HashSet;
 
 /// The content of the item that a token names, if it is one, with its row.
 fn item(case: &Case, token: u32) -> Option<(&[u32], &[u8])> {
-    let row = case.items.get(4 * token as usize..4 * token as usize + 4)?;
+    let start = ROW * token as usize;
+    let row = case.items.get(start..start + ROW)?;
     let start = row[1] as usize;
     Some((row, &case.record[start..start + row[2] as usize]))
 }
@@ -28,10 +30,10 @@ struct Side<'a> {
     beside: u32,
 }
 
-fn first_fault(kind: u32, content: &[u8]) -> Option<usize> {
-    match kind {
+fn first_fault(row: &[u32], content: &[u8]) -> Option<usize> {
+    match row[0] {
         1 => first_no_letter(content),
-        _ => first_wrong(kind, content),
+        _ => first_wrong(&Row::of(row), content),
     }
 }
 
@@ -47,7 +49,7 @@ fn stopped(case: &Case, refusal: Refusal) -> Stopped<'_> {
         let Some((row, content)) = item(case, token) else {
             continue;
         };
-        if let Some(place) = first_fault(row[0], content) {
+        if let Some(place) = first_fault(row, content) {
             let other = tokens.get(1 - side);
             wrong.push(Side {
                 side: side as u32,
@@ -77,34 +79,57 @@ fn each_stop(seed: u64, count: u64, mut look: impl FnMut(&Stopped)) {
     }
 }
 
-/// Runs that stop with 13: every place of every size of kinds 3 to 6 is the
+/// Runs that stop with 13: every place of every size of the numeric kinds is the
 /// first wrong byte, in subjects and in objects (in one of them where there
-/// are many digits), some with both wrong.
+/// are many digits), some with both wrong; of packed items every half is.
 #[test]
 fn wrong_bytes_at_every_place() {
     let mut seen = HashSet::new();
+    let mut halves = HashSet::new();
     let mut both = 0;
     each_stop(23, 300_000, |stop| {
         if stop.number == 13 {
             let Side {
-                side, row, place, ..
+                side,
+                row,
+                place,
+                byte,
+                ..
             } = stop.wrong[0];
-            seen.insert((side, row[0], row[2], place));
+            seen.insert((side, row[0], row[4], place));
+            halves.insert((row[4], first_wrong_half(row, place, byte)));
             both += u32::from(stop.wrong.len() == 2);
         }
     });
-    for kind in 3..=6_u32 {
+    for kind in [3, 4, 5, 6, 8, 9] {
         for digits in (1..=5).chain(16..=18) {
-            let size = digits + u32::from(kind >= 5);
+            let size = tables::size(kind, digits);
             for place in 0..size as usize {
-                let seen_in = |side| seen.contains(&(side, kind, size, place));
+                let seen_in = |side| seen.contains(&(side, kind, digits, place));
                 let often = digits <= 5;
                 let enough = seen_in(0) && seen_in(1) || !often && (seen_in(0) || seen_in(1));
-                assert!(enough, "kind {kind}, size {size}, place {place}");
+                assert!(enough, "kind {kind}, digits {digits}, place {place}");
             }
         }
     }
+    for digits in 1..=18 {
+        for half in 0..2 * tables::size(8, digits) {
+            assert!(halves.contains(&(digits, half)), "{digits} {half}");
+        }
+    }
     assert!(both > 1_000, "{both}");
+}
+
+/// Of a packed item's first wrong byte; of another item none that is asked for.
+fn first_wrong_half(row: &[u32], place: usize, byte: u8) -> u32 {
+    let left_fits = match (place, row[4] % 2) {
+        (0, 0) => byte < 0x10,
+        _ => byte < 0xA0,
+    };
+    match row[0] {
+        8 | 9 => 2 * place as u32 + u32::from(left_fits),
+        _ => u32::MAX,
+    }
 }
 
 /// Runs that stop with 17: every place of sizes 1 to 6, beside every kind of

@@ -2,6 +2,7 @@
 
 use super::content::valid_content;
 use super::{refuse, Refusal};
+use std::ops::Range;
 
 /// The two tables and the literal bytes, lent to every call.
 #[derive(Clone, Copy, Debug)]
@@ -12,14 +13,19 @@ pub struct Tables<'a> {
 }
 
 /// "A row is four numbers: kind, offset, size in bytes, scale (digits after
-/// the point)."
+/// the point)." "Rows grow to five numbers, the fifth being the digit count"
+/// (02, f).
 #[derive(Clone, Copy)]
 pub struct Row {
     pub kind: u32,
     pub offset: u32,
     pub size: u32,
     pub scale: u32,
+    pub digits: u32,
 }
+
+/// Numbers in a row.
+pub const ROW: usize = 5;
 
 impl Row {
     pub fn of(numbers: &[u32]) -> Row {
@@ -28,12 +34,18 @@ impl Row {
             offset: numbers[1],
             size: numbers[2],
             scale: numbers[3],
+            digits: numbers[4],
         }
     }
 
-    /// Numeric is "3 to 6".
+    /// Numeric is "3 to 6", and packed (02, f).
     pub fn numeric(&self) -> bool {
-        (3..=6).contains(&self.kind)
+        (3..=6).contains(&self.kind) || self.packed()
+    }
+
+    /// "Kind 8 is signed packed, kind 9 unsigned" (02, f).
+    pub fn packed(&self) -> bool {
+        matches!(self.kind, 8 | 9)
     }
 
     /// "Add row kind 7, a group with no signed item at any depth [...]; it is
@@ -44,23 +56,42 @@ impl Row {
 
     /// "Kind 0: size 1 to 65,535, scale 0. Kinds 1, 2: size 1 to 256, scale 0.
     /// Kinds 3, 4: size 1 to 18, scale 0 to size. Kinds 5, 6: size 2 to 19,
-    /// scale 0 to size − 1. Offset at most 65,535."
+    /// scale 0 to size − 1. Offset at most 65,535." The digit count: "1 to 18
+    /// for numeric kinds, agreeing with the size, 0 for others"; of kinds 8, 9
+    /// "size is half the digits, rounded down, plus 1; scale is at most the
+    /// digits" (02, f).
     pub fn keeps_rules(&self) -> bool {
         let measures = match self.kind {
             0 | 7 => (1..=65_535).contains(&self.size) && self.scale == 0,
             1 | 2 => (1..=256).contains(&self.size) && self.scale == 0,
             3 | 4 => (1..=18).contains(&self.size) && self.scale <= self.size,
             5 | 6 => (2..=19).contains(&self.size) && self.scale < self.size,
+            8 | 9 => (1..=10).contains(&self.size) && self.scale <= self.digits,
             _ => false,
         };
-        measures && self.offset <= 65_535
+        measures && self.digits_agree() && self.offset <= 65_535
+    }
+
+    /// Asked of a size within its limits.
+    fn digits_agree(&self) -> bool {
+        match self.kind {
+            3 | 4 => self.digits == self.size,
+            5 | 6 => self.digits == self.size - 1,
+            8 | 9 => (1..=18).contains(&self.digits) && self.size == self.digits / 2 + 1,
+            _ => self.digits == 0,
+        }
     }
 
     /// "An operand's bytes are that part of the record or of the literal bytes
     /// which its row names." None where the part does not lie wholly inside.
     pub fn part<'a>(&self, bytes: &'a [u8]) -> Option<&'a [u8]> {
+        bytes.get(self.bytes())
+    }
+
+    /// The places of its bytes.
+    pub fn bytes(&self) -> Range<usize> {
         let start = self.offset as usize;
-        bytes.get(start..start + self.size as usize)
+        start..start + self.size as usize
     }
 
     /// "Literal rows have kinds 2, 3 or 5 only, lie wholly in the literal
@@ -70,20 +101,30 @@ impl Row {
             && self.keeps_rules()
             && self
                 .part(bytes)
-                .is_some_and(|content| valid_content(self.kind, content))
+                .is_some_and(|content| valid_content(self, content))
     }
 }
 
 pub fn rows(table: &[u32]) -> impl Iterator<Item = Row> + '_ {
-    table.chunks_exact(4).map(Row::of)
+    table.chunks_exact(ROW).map(Row::of)
+}
+
+/// Refusals 1 and 2 alone.
+pub fn check_items(items: &[u32]) -> Result<(), Refusal> {
+    check_length(1, items)?;
+    check_rows(2, items, |row| row.keeps_rules())
 }
 
 /// 1: "item table length not a multiple of 4, or over 256", place 0; 2: "an
 /// item row breaks its rules", "first such row"; 3, 4: "the same two for
-/// literals".
+/// literals". "Tables are then multiples of 5 and at most 320 numbers, which
+/// amends refusals 1 to 4" (02, f).
 pub fn check_tables(tables: &Tables) -> Result<(), Refusal> {
-    check_length(1, tables.items)?;
-    check_rows(2, tables.items, |row| row.keeps_rules())?;
+    check_items(tables.items)?;
+    check_literals(tables)
+}
+
+pub fn check_literals(tables: &Tables) -> Result<(), Refusal> {
     check_length(3, tables.literals)?;
     check_rows(4, tables.literals, |row| {
         row.keeps_literal_rules(tables.bytes)
@@ -91,7 +132,7 @@ pub fn check_tables(tables: &Tables) -> Result<(), Refusal> {
 }
 
 pub fn check_length(number: u32, table: &[u32]) -> Result<(), Refusal> {
-    if !table.len().is_multiple_of(4) || table.len() > 256 {
+    if !table.len().is_multiple_of(ROW) || table.len() > 64 * ROW {
         return refuse(number, 0);
     }
     Ok(())
@@ -105,6 +146,6 @@ pub fn check_rows(number: u32, table: &[u32], keeps: impl Fn(Row) -> bool) -> Re
 }
 
 /// 12: "the record ends before an item does, used or not", "first such row".
-pub fn check_record(tables: &Tables, record: &[u8]) -> Result<(), Refusal> {
-    check_rows(12, tables.items, |row| row.part(record).is_some())
+pub fn check_record(items: &[u32], record: &[u8]) -> Result<(), Refusal> {
+    check_rows(12, items, |row| row.part(record).is_some())
 }

@@ -1,15 +1,17 @@
 //! The sixteen cases of the scope paper, its "also run" list, and refusals.
 
 mod grammar;
+mod packed;
 
 use super::tokens::{WORD, WORD_AND};
 use super::*;
+use crate::show::WORDS;
 
 const FALSE: u32 = VERDICT_FALSE;
 const TRUE: u32 = VERDICT_TRUE;
 
 /// Four numeric items a, b, c, d of two digits, one behind the other.
-const ABCD: [u32; 16] = [3, 0, 2, 0, 3, 2, 2, 0, 3, 4, 2, 0, 3, 6, 2, 0];
+const ABCD: [u32; 20] = [3, 0, 2, 0, 2, 3, 2, 2, 0, 2, 3, 4, 2, 0, 2, 3, 6, 2, 0, 2];
 
 fn items_only(items: &[u32]) -> Tables<'_> {
     Tables {
@@ -26,25 +28,6 @@ fn tokens(text: &str) -> Vec<u32> {
 }
 
 fn token(word: &str) -> u32 {
-    const WORDS: [&str; 17] = [
-        "(",
-        ")",
-        "NOT",
-        "AND",
-        "OR",
-        ">",
-        "<",
-        "=",
-        ">=",
-        "<=",
-        "NUMERIC",
-        "ALPHABETIC",
-        "ALPHABETIC-LOWER",
-        "ALPHABETIC-UPPER",
-        "POSITIVE",
-        "NEGATIVE",
-        "ZERO",
-    ];
     if let Some(number) = WORDS.iter().position(|&known| known == word) {
         return WORD + number as u32;
     }
@@ -185,7 +168,7 @@ fn case_10_targets_of_four_switches() {
 #[test]
 fn case_11_sign_in_the_last_byte() {
     // a is kind 4; b alphanumeric; c a group; d a number for the value.
-    let items = [4, 0, 5, 0, 2, 5, 5, 0, 0, 10, 5, 0, 5, 15, 6, 0];
+    let items = [4, 0, 5, 0, 5, 2, 5, 5, 0, 0, 0, 10, 5, 0, 0, 5, 15, 6, 0, 5];
     let record = b"\x31\x32\x33\x34\x45123451234E-12345";
     check_judged(&items, record, "a = d", true);
     check_judged(&items, record, "a NEGATIVE", true);
@@ -196,7 +179,7 @@ fn case_11_sign_in_the_last_byte() {
 
 #[test]
 fn case_12_zero_has_one_value() {
-    let items = [4, 0, 1, 0, 4, 1, 1, 0];
+    let items = [4, 0, 1, 0, 1, 4, 1, 1, 0, 1];
     for text in ["a = b", "a ZERO", "b ZERO", "b NOT NEGATIVE"] {
         check_judged(&items, &[0x30, 0x40], text, true);
     }
@@ -204,13 +187,13 @@ fn case_12_zero_has_one_value() {
 
 #[test]
 fn case_13_scales() {
-    let items = [3, 0, 3, 2, 3, 3, 2, 1];
+    let items = [3, 0, 3, 2, 3, 3, 3, 2, 1, 2];
     check_judged(&items, b"15015", "a = b", true);
 }
 
 #[test]
 fn case_14_filling_with_spaces() {
-    let items = [2, 0, 3, 0, 2, 3, 4, 0, 2, 7, 4, 0, 2, 11, 4, 0];
+    let items = [2, 0, 3, 0, 0, 2, 3, 4, 0, 0, 2, 7, 4, 0, 0, 2, 11, 4, 0, 0];
     let record = b"BBBBBB BBBABBB\0";
     check_judged(&items, record, "a = b", true);
     check_judged(&items, record, "a < c", true);
@@ -271,7 +254,7 @@ fn simple_conditions_judged() {
 fn which_byte() {
     // a kind 3, b kind 4, c kind 5, d kind 6, e alphanumeric, f a group.
     let items = [
-        3, 1, 3, 0, 4, 4, 2, 0, 5, 6, 3, 0, 6, 9, 3, 0, 2, 12, 2, 0, 0, 12, 2, 0,
+        3, 1, 3, 0, 3, 4, 4, 2, 0, 2, 5, 6, 3, 0, 2, 6, 9, 3, 0, 2, 2, 12, 2, 0, 0, 0, 12, 2, 0, 0,
     ];
     let tables = items_only(&items);
     let check = |text: &str, record: &[u8], place, byte| {
@@ -305,9 +288,9 @@ fn which_byte() {
 fn digits_in_a_name_field() {
     // a and b alphabetic, c a group, d alphanumeric, e kind 3, f kind 5.
     let items = [
-        1, 1, 3, 0, 1, 4, 2, 0, 0, 6, 2, 0, 2, 8, 2, 0, 3, 10, 2, 0, 5, 12, 2, 0,
+        1, 1, 3, 0, 0, 1, 4, 2, 0, 0, 0, 6, 2, 0, 0, 2, 8, 2, 0, 0, 3, 10, 2, 0, 2, 5, 12, 2, 0, 1,
     ];
-    let literals = [2, 0, 1, 0, 3, 1, 1, 0, 5, 2, 2, 0];
+    let literals = [2, 0, 1, 0, 0, 3, 1, 1, 0, 1, 5, 2, 2, 0, 1];
     let tables = Tables {
         literals: &literals,
         bytes: b"B7+7",
@@ -425,7 +408,7 @@ fn longest_expansion_and_longest_plan() {
 
 #[test]
 fn scale_18_of_18_digits_against_1() {
-    let items = [3, 0, 18, 18, 3, 18, 1, 0, 3, 19, 18, 0];
+    let items = [3, 0, 18, 18, 18, 3, 18, 1, 0, 1, 3, 19, 18, 0, 18];
     let mut record = [b'9'; 37];
     record[18] = b'1';
     check_judged(&items, &record, "a < b", true);
@@ -470,7 +453,7 @@ fn carry_and_the_words_that_drop_it() {
 #[test]
 fn numeric_beside_text_and_group() {
     // a kind 5 with a bad sign, b alphanumeric, c group, d kind 6 of scale 0.
-    let items = [5, 0, 3, 0, 2, 3, 2, 0, 0, 5, 3, 0, 6, 8, 3, 0];
+    let items = [5, 0, 3, 0, 2, 2, 3, 2, 0, 0, 0, 5, 3, 0, 0, 6, 8, 3, 0, 2];
     let record = b"*1212*1212-";
     let tables = items_only(&items);
     let stop = stopped(13, 0, 0);
@@ -481,18 +464,18 @@ fn numeric_beside_text_and_group() {
         judged(&tables, "d NEGATIVE AND d NUMERIC", record, 0),
         Ok(true)
     );
-    let literals = [5, 0, 3, 0];
+    let literals = [5, 0, 3, 0, 2];
     let with_literal = Tables {
         literals: &literals,
         bytes: b"-12",
-        ..items_only(&[0, 0, 2, 0])
+        ..items_only(&[0, 0, 2, 0, 0])
     };
     assert_eq!(judged(&with_literal, "a = L0", b"12", 0), Ok(true));
 }
 
 #[test]
 fn class_words() {
-    let items = [1, 0, 3, 0, 1, 3, 3, 0, 2, 6, 2, 0, 0, 0, 8, 0];
+    let items = [1, 0, 3, 0, 0, 1, 3, 3, 0, 0, 2, 6, 2, 0, 0, 0, 0, 8, 0, 0];
     let record = b"A ZaB 12";
     check_judged(&items, record, "a ALPHABETIC AND a ALPHABETIC-UPPER", true);
     check_judged(
@@ -515,7 +498,9 @@ fn class_words() {
 #[test]
 fn counters_kept_in_groups() {
     // a and b kind 7, c kind 0 over a, d kind 4, e alphabetic with a digit.
-    let items = [7, 0, 4, 0, 7, 4, 4, 0, 0, 0, 4, 0, 4, 2, 2, 0, 1, 8, 2, 0];
+    let items = [
+        7, 0, 4, 0, 0, 7, 4, 4, 0, 0, 0, 0, 4, 0, 0, 4, 2, 2, 0, 2, 1, 8, 2, 0, 0,
+    ];
     let record = b"1234 Az x7";
     let tables = items_only(&items);
     for (text, answer) in [
@@ -557,38 +542,52 @@ fn table_refusals() {
         );
         (refusal.number, refusal.place)
     };
-    assert_eq!(refusal(&[0; 3], &[], &[]), (1, 0));
-    assert_eq!(refusal(&[0; 260], &[], &[]), (1, 0));
-    let fine = [3, 0, 1, 0];
-    let bad_rows: [[u32; 4]; 17] = [
-        [0, 0, 0, 0],
-        [0, 0, 65_536, 0],
-        [0, 0, 1, 1],
-        [0, 65_536, 1, 0],
-        [1, 0, 257, 0],
-        [2, 0, 0, 0],
-        [2, 0, 1, 1],
-        [3, 0, 19, 0],
-        [3, 0, 0, 0],
-        [4, 0, 5, 6],
-        [5, 0, 1, 0],
-        [6, 0, 20, 0],
-        [6, 0, 5, 5],
-        [7, 0, 65_536, 0],
-        [7, 0, 0, 0],
-        [7, 0, 1, 1],
-        [8, 0, 1, 0],
+    assert_eq!(refusal(&[0; 4], &[], &[]), (1, 0));
+    assert_eq!(refusal(&[0; 325], &[], &[]), (1, 0));
+    let fine = [3, 0, 1, 0, 1];
+    let bad_rows: [[u32; 5]; 31] = [
+        [0, 0, 0, 0, 0],
+        [0, 0, 65_536, 0, 0],
+        [0, 0, 1, 1, 0],
+        [0, 0, 1, 0, 1],
+        [0, 65_536, 1, 0, 0],
+        [1, 0, 257, 0, 0],
+        [2, 0, 0, 0, 0],
+        [2, 0, 1, 1, 0],
+        [2, 0, 1, 0, 1],
+        [3, 0, 19, 0, 19],
+        [3, 0, 0, 0, 0],
+        [3, 0, 2, 0, 1],
+        [3, 0, 2, 0, 3],
+        [4, 0, 5, 6, 5],
+        [5, 0, 1, 0, 0],
+        [5, 0, 3, 0, 3],
+        [6, 0, 20, 0, 19],
+        [6, 0, 5, 5, 4],
+        [7, 0, 65_536, 0, 0],
+        [7, 0, 0, 0, 0],
+        [7, 0, 1, 1, 0],
+        [8, 0, 1, 0, 0],
+        [8, 0, 2, 0, 1],
+        [8, 0, 1, 2, 1],
+        [8, 0, 10, 0, 19],
+        [8, 0, 11, 0, 20],
+        [9, 0, 2, 0, 4],
+        [9, 0, 2, 4, 3],
+        [9, 0, 0, 0, 1],
+        [9, 65_536, 1, 0, 1],
+        [10, 0, 1, 0, 1],
     ];
     for row in bad_rows {
         assert_eq!(refusal(&[fine, row].concat(), &[], &[]), (2, 1));
         assert_eq!(refusal(&fine, &[fine, row].concat(), &[b'0'; 99]), (4, 1));
     }
-    assert_eq!(refusal(&[], &[2, 0, 1], b"0"), (3, 0));
-    assert_eq!(refusal(&[], &[3, 0, 2, 0], b"0"), (4, 0));
-    assert_eq!(refusal(&[], &[3, 0, 2, 0], b"0 "), (4, 0));
-    assert_eq!(refusal(&[], &[5, 0, 2, 0], b"00"), (4, 0));
-    for kind in [0, 1, 4, 6, 7] {
-        assert_eq!(refusal(&[], &[kind, 0, 2, 0], b"0+"), (4, 0));
+    assert_eq!(refusal(&[], &[2, 0, 1, 0], b"0"), (3, 0));
+    assert_eq!(refusal(&[], &[3, 0, 2, 0, 2], b"0"), (4, 0));
+    assert_eq!(refusal(&[], &[3, 0, 2, 0, 2], b"0 "), (4, 0));
+    assert_eq!(refusal(&[], &[5, 0, 2, 0, 1], b"00"), (4, 0));
+    for (kind, digits) in [(0, 0), (1, 0), (4, 2), (6, 1), (7, 0), (8, 2), (9, 2)] {
+        assert_eq!(refusal(&[], &[kind, 0, 2, 0, digits], b"\x03\x13"), (4, 0));
     }
 }
 

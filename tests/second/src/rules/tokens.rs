@@ -1,6 +1,6 @@
 //! Tokens and the rows they name; refusals 5 and 6.
 
-use super::tables::{Row, Tables};
+use super::tables::{Row, Tables, ROW};
 use super::{refuse, Refusal};
 
 /// "A token is kind × 65,536 + v": the words as tokens.
@@ -28,17 +28,21 @@ pub fn row_of(tables: &Tables, operand: u32) -> Row {
         0 => tables.items,
         _ => tables.literals,
     };
-    let start = 4 * v_of(operand) as usize;
-    Row::of(&table[start..start + 4])
+    let start = ROW * v_of(operand) as usize;
+    Row::of(&table[start..start + ROW])
 }
 
 /// 5: "0 tokens or over 256", place 0; 6: "no such token, or v beyond its
 /// table", "first such token".
 pub fn check_tokens(tables: &Tables, tokens: &[u32]) -> Result<(), Refusal> {
+    check_each_token(tokens, |token| exists(tables, token))
+}
+
+pub fn check_each_token(tokens: &[u32], exists: impl Fn(u32) -> bool) -> Result<(), Refusal> {
     if tokens.is_empty() || tokens.len() > 256 {
         return refuse(5, 0);
     }
-    match tokens.iter().position(|&token| !exists(tables, token)) {
+    match tokens.iter().position(|&token| !exists(token)) {
         Some(place) => refuse(6, place),
         None => Ok(()),
     }
@@ -60,5 +64,5 @@ pub fn operand_exists(tables: &Tables, token: u32) -> bool {
         1 => tables.literals,
         _ => return false,
     };
-    (v_of(token) as usize) < table.len() / 4
+    (v_of(token) as usize) < table.len() / ROW
 }

@@ -21,27 +21,29 @@ pub fn check_typing(tables: &Tables, tokens: &[u32]) -> Result<usize, Refusal> {
 /// "Typing of a simple condition, over kinds": "class: the operand is an item;
 /// NUMERIC for kinds 2 to 6, the alphabetic tests for 0 to 2"; "sign: an item
 /// of kinds 3 to 6". Both class tests take kind 7, a group: "NUMERIC on it means
-/// all digits" (02, b). A switch has no typing.
+/// all digits" (02, b). "NUMERIC [...] and sign tests are allowed on packed
+/// items" (02, f). A switch has no typing.
 pub fn typed(tables: &Tables, simple: &Simple) -> bool {
     let subject = simple.subject;
     let kind = || is_item(subject).then(|| row_of(tables, subject).kind);
     match simple.relation % WITH_NOT {
         5..=9 => relation_typed(tables, subject, simple.object),
-        10 => matches!(kind(), Some(2..=7)),
+        10 => matches!(kind(), Some(2..=9)),
         11..=13 => matches!(kind(), Some(0..=2 | 7)),
-        14..=16 => matches!(kind(), Some(3..=6)),
+        14..=16 => matches!(kind(), Some(3..=6 | 8 | 9)),
         _ => true,
     }
 }
 
 /// "relation: not two literals; if exactly one side is numeric (3 to 6), its
-/// scale is 0"
+/// scale is 0"; packed items "beside any nonnumeric operand [...] are refused
+/// with 9" (02, f).
 pub fn relation_typed(tables: &Tables, subject: u32, object: u32) -> bool {
     let (left, right) = (row_of(tables, subject), row_of(tables, object));
-    let scale_fits = match (left.numeric(), right.numeric()) {
-        (true, false) => left.scale == 0,
-        (false, true) => right.scale == 0,
+    let sides_fit = match (left.numeric(), right.numeric()) {
+        (true, false) => left.scale == 0 && !left.packed(),
+        (false, true) => right.scale == 0 && !right.packed(),
         _ => true,
     };
-    (is_item(subject) || is_item(object)) && scale_fits
+    (is_item(subject) || is_item(object)) && sides_fit
 }

@@ -1,7 +1,7 @@
 //! Truth of one simple condition on a record and a switch byte.
 
 use super::content::{
-    all_digits, digits, first_no_letter, first_wrong, is_minus, valid_content, Digits,
+    all_digits, digits, first_no_letter, first_wrong, valid_content, value, Digits,
 };
 use super::parts::Simple;
 use super::tables::{Row, Tables};
@@ -93,11 +93,11 @@ fn relation_holds(word: u32, order: Ordering) -> bool {
 }
 
 /// "NUMERIC on kind 2 means all digits; on 3 to 6, valid content." On kind 7
-/// "NUMERIC means all digits" (02, b).
+/// "NUMERIC means all digits" (02, b); on packed items it is "as 001 has it".
 fn numeric_holds(operand: &Operand) -> bool {
     match operand.row.kind {
         2 | 7 => all_digits(operand.bytes),
-        kind => valid_content(kind, operand.bytes),
+        _ => valid_content(&operand.row, operand.bytes),
     }
 }
 
@@ -186,18 +186,18 @@ fn check_letters(side: &Operand, beside: &Operand) -> Result<(), Stop> {
 
 /// Stops at invalid content.
 fn digits_of(operand: &Operand) -> Result<Digits, Stop> {
-    let (kind, bytes) = (operand.row.kind, operand.bytes);
-    match first_wrong(kind, bytes) {
-        None => Ok(digits(kind, bytes)),
+    let Operand { row, bytes, .. } = operand;
+    match first_wrong(row, bytes) {
+        None => Ok(digits(row, bytes)),
         Some(place) => Err(operand.stop(13, place)),
     }
 }
 
-/// The signed digit value. "Zero has one value whatever its sign."
+/// The signed digit value, or the stop at invalid content.
 fn number_of(operand: &Operand) -> Result<i128, Stop> {
-    let digits = digits_of(operand)?;
-    let add_digit = |value: i64, &character: &u8| 10 * value + i64::from(character - b'0');
-    let value = i128::from(digits.bytes().iter().fold(0, add_digit));
-    let minus = is_minus(operand.row.kind, operand.bytes);
-    Ok(if minus { -value } else { value })
+    let Operand { row, bytes, .. } = operand;
+    match value(row, bytes) {
+        Some(value) => Ok(i128::from(value)),
+        None => Err(operand.stop(13, first_wrong(row, bytes).unwrap_or(0))),
+    }
 }

@@ -14,12 +14,12 @@ use Rattle.compare.proofs.classes.class_holds.Statement.{statement}
 use Rattle.compare.proofs.classes.class_holds.Tie as tie
 
 -- NUMERIC by kind: as kind 3 has it, or valid content
-module _ (word kind : ℕ) (bytes : List ℕ) (numeric : word ≡ 10) where
-  as-digits : eqb kind 2 || eqb kind 7 ≡ true → validContent 3 bytes ≡ classHolds word kind bytes
+module _ (word kind digits : ℕ) (bytes : List ℕ) (numeric : word ≡ 10) where
+  as-digits : eqb kind 2 || eqb kind 7 ≡ true → validContent 3 digits bytes ≡ classHolds word kind digits bytes
   unfolding classHolds
-  as-digits e = rw (numeric, e) (valid-digits bytes)
+  as-digits e = rw (numeric, e) (valid-digits digits bytes)
 
-  as-content : eqb kind 2 || eqb kind 7 ≡ false → validContent kind bytes ≡ classHolds word kind bytes
+  as-content : eqb kind 2 || eqb kind 7 ≡ false → validContent kind digits bytes ≡ classHolds word kind digits bytes
   unfolding classHolds
   as-content e = rw (numeric, e)
 
@@ -29,7 +29,7 @@ valid-content-requires c κs = search needs
 returns : tie.Need-returns
 returns c =
     let a = c .before .before .before .before .args in
-    c .valid-content .ensures ∙ as-digits (a .word) (a .kind) (now (a .bytes)) (c .before .before .if1 .taken) (c .before .if2 .taken)
+    c .valid-content .ensures ∙ as-digits (a .word) (a .kind) (a .digits) (now (a .bytes)) (c .before .before .if1 .taken) (c .before .if2 .taken)
 
 valid-content-requires-2 : tie.Need-valid-content-requires-2
 valid-content-requires-2 c κs = search needs
@@ -37,7 +37,7 @@ valid-content-requires-2 c κs = search needs
 returns-2 : tie.Need-returns-2
 returns-2 c =
     let a = c .before .before .before .before .args in
-    c .valid-content2 .ensures ∙ as-content (a .word) (a .kind) (now (a .bytes)) (c .before .before .if1 .taken) (c .before .if2 .left)
+    c .valid-content2 .ensures ∙ as-content (a .word) (a .kind) (a .digits) (now (a .bytes)) (c .before .before .if1 .taken) (c .before .if2 .left)
 
 all-in-alphabet-requires : tie.Need-all-in-alphabet-requires
 all-in-alphabet-requires c κs = search needs

@@ -1,7 +1,7 @@
 -- Rests on the three laws of `order`: below, above, and neither.
 use mathlib.Core.Path.{sym}
 use native.Mathlib.Omega.{arith}
-use Rattle.compare.proofs.NumberLaws.{order-lt, order-eq, order-gt}
+use Rattle.compare.proofs.OrderLaws.{order-lt, order-eq, order-gt}
 use Rattle.compare.proofs.orders.order_of.Statement.{statement}
 use Rattle.compare.proofs.orders.order_of.Tie as tie
 

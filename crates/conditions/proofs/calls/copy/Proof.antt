@@ -6,7 +6,7 @@ use native.Mathlib.Omega.{arith}
 use native.Mathlib.Numerals.{add-one}
 use lib.ListN.{length, take, drop, set, getD}
 use lib.Seq.{take-suc, take-all}
-use Rattle.expander.proofs.Writing.{Front, front-none, front-store, front-length}
+use Rattle.tables.proofs.Front.{Front, front-none, front-store, front-length}
 use Rattle.conditions.proofs.calls.copy.Statement.{statement}
 use Rattle.conditions.proofs.calls.copy.Tie as tie
 

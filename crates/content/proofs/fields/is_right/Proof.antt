@@ -1,4 +1,5 @@
 -- The kind and the position pick the definition's case, in the order of its tests. Assumes nothing.
+use mathlib.Core.Path.{sym, _∙_}
 use borrow.Author.Tests.{ne-eqb}
 use borrow.Author.Needs.{needs}
 use Rattle.content.proofs.fields.is_right.Statement.{statement}
@@ -30,8 +31,34 @@ returns-4 c =
     rw (ne-eqb _ 1 (c .before .before .before .before .if1 .left), c .before .before .before .if2 .left, c .before .before .if3 .left, c .before .if4 .taken)
     (c .is-digit .ensures)
 
+is-packed-requires : tie.Need-is-packed-requires
+is-packed-requires c κs = search needs
+
+packed-right-requires : tie.Need-packed-right-requires
+packed-right-requires c κs = search needs
+
 returns-5 : tie.Need-returns-5
-returns-5 c = rw (ne-eqb _ 1 (c .before .before .before .if1 .left), c .before .before .if2 .left, c .before .if3 .left, c .if4 .left)
+returns-5 c =
+    let digits = c .before .before .before in
+    rw (
+      ne-eqb _ 1 (digits .before .before .before .if1 .left),
+      digits .before .before .if2 .left,
+      digits .before .if3 .left,
+      digits .if4 .left,
+      sym (c .before .before .is-packed .ensures) ∙ c .before .if5 .taken,
+    )
+    (c .packed-right .ensures)
+
+returns-6 : tie.Need-returns-6
+returns-6 c =
+    let digits = c .before .before in
+    rw (
+      ne-eqb _ 1 (digits .before .before .before .if1 .left),
+      digits .before .before .if2 .left,
+      digits .before .if3 .left,
+      digits .if4 .left,
+      sym (c .before .is-packed .ensures) ∙ c .if5 .left,
+    )
 
 pub is-right-spec : {M : Type 1} → statement M
 is-right-spec =
@@ -45,4 +72,7 @@ is-right-spec =
     returns-3
     is-digit-requires
     returns-4
-    returns-5)
+    is-packed-requires
+    packed-right-requires
+    returns-5
+    returns-6)

@@ -63,11 +63,20 @@ mul-entries-6 c = search needs
 slice-write-entries-6 : tie.Need-slice-write-entries-6
 slice-write-entries-6 c = simp length-set (omega arith)
 
+add-entries-6 : tie.Need-add-entries-6
+add-entries-6 c = search needs
+
+mul-entries-7 : tie.Need-mul-entries-7
+mul-entries-7 c = search needs
+
+slice-write-entries-7 : tie.Need-slice-write-entries-7
+slice-write-entries-7 c = simp length-set (omega arith)
+
 same-length : tie.Need-same-length
 same-length c = simp length-set
 
 returns : tie.Need-returns
-returns c = stores (now (c .args .entries)) (c .args .i * 6) (c .args .x)
+returns c = stores (now (c .args .entries)) (c .args .i * 7) (c .args .x)
 
 pub store-spec : {M : Type 1} → statement M
 store-spec =
@@ -91,5 +100,8 @@ store-spec =
     add-entries-5
     mul-entries-6
     slice-write-entries-6
+    add-entries-6
+    mul-entries-7
+    slice-write-entries-7
     same-length
     returns)

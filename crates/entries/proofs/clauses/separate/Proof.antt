@@ -1,13 +1,9 @@
 -- `separate` meets its contract: from the laws of proofs/ and what its callees ensure. Assumes nothing.
-use Prim.Native.Nat.{_-_, _+_, _≤_}
-use native.Mathlib.Omega.{arith}
-use mathlib.Core.Path.{_≡_, refl, sym, ap, _∙_}
-use lib.ListN.{length, take, drop, getD}
 use denote.Ref.{now}
-use Rattle.entries.specs.Entries.{capClauses, capEntry}
-use Rattle.entries.proofs.Branches.{via, known}
+use Rattle.entries.specs.Entries.{capClauses}
 use Rattle.description.specs.Stages.{afterSeparate}
-use Rattle.entries.proofs.Branches.{separate-size}
+use Rattle.entries.proofs.Branches.{via}
+use mathlib.Core.Path.{refl}
 use borrow.Author.Needs.{needs}
 use Rattle.entries.proofs.clauses.separate.Statement.{statement}
 use Rattle.entries.proofs.clauses.separate.Tie as tie
@@ -21,27 +17,26 @@ literal-requires c κs = search needs
 enum-known-k : tie.Need-enum-known-k
 enum-known-k c = search needs
 
-add-capped : tie.Need-add-capped
-add-capped c = search needs
+add-ended : tie.Need-add-ended
+add-ended c = search needs
 
-add-capped-2 : tie.Need-add-capped-2
-add-capped-2 c = search needs
+add-ended-2 : tie.Need-add-ended-2
+add-ended-2 c = search needs
 
-capped-requires : tie.Need-capped-requires
-capped-requires c κs = search needs
+add-ended-3 : tie.Need-add-ended-3
+add-ended-3 c = search needs
+
+ended-requires : tie.Need-ended-requires
+ended-requires c κs = search needs
 
 enum-known-k-2 : tie.Need-enum-known-k-2
 enum-known-k-2 c = search needs
 
 returns : tie.Need-returns
-returns c = separate-size (c .before .before .before .before .before .before .before .args .kind) (c .before .before .before .before .before .before .before .args .i)
-    (c .before .before .before .before .before .before .before .args .j) (c .before .before .before .before .before .before .before .pre .1 .1) (c .capped .ensures)
-    (c .before .before .before .before .literal .ensures) (c .before .before .k .given .1)
+returns c = via (λ x. capClauses (afterSeparate (c .before .before .before .before .before .before .before .args .kind) (c .before .before .before .before .before .before .before .args .i) (c .before .before .before .before .before .before .before .args .j) x)) (c .before .before .before .before .literal .ensures) (c .before .before .k .given .1) (c .ended .ensures)
 
 returns-2 : tie.Need-returns-2
-returns-2 c = via (λ x. capClauses
-    (afterSeparate (c .before .before .before .before .before .before .args .kind) (c .before .before .before .before .before .before .args .i)
-    (c .before .before .before .before .before .before .args .j) x)) (c .before .before .before .literal .ensures) (c .before .k2 .given .1) refl
+returns-2 c = via (λ x. capClauses (afterSeparate (c .before .before .before .before .before .before .args .kind) (c .before .before .before .before .before .before .args .i) (c .before .before .before .before .before .before .args .j) x)) (c .before .before .before .literal .ensures) (c .before .k2 .given .1) refl
 
 pub separate-spec : {M : Type 1} → statement M
 separate-spec =
@@ -50,9 +45,10 @@ separate-spec =
     slice-aggregate-literal
     literal-requires
     enum-known-k
-    add-capped
-    add-capped-2
-    capped-requires
+    add-ended
+    add-ended-2
+    add-ended-3
+    ended-requires
     enum-known-k-2
     returns
     returns-2)

@@ -7,7 +7,7 @@ use borrow.Author.Needs.{needs}
 use lib.ListN.{length, length-drop}
 use Rattle.grammar.specs.Expanded.{full-form}
 use Rattle.expander.proofs.Progress.{Progress, start, upto, ended, halted, further}
-use Rattle.expander.proofs.Writing.{Front, front-none, front-length, front-rest, front-part}
+use Rattle.tables.proofs.Front.{Front, front-none, front-length, front-rest, front-part}
 use Rattle.expander.proofs.expand.write_expanded.Statement.{statement}
 use Rattle.expander.proofs.expand.write_expanded.Tie as tie
 

@@ -6,7 +6,8 @@ use borrow.Author.Needs.{needs}
 use lib.ListN.{length, length-set}
 use Rattle.grammar.specs.Expanded.{stated}
 use Rattle.grammar.proofs.Size.{stated-width}
-use Rattle.expander.proofs.Writing.{front-none, front-store, stated-plain, stated-not}
+use Rattle.tables.proofs.Front.{front-none, front-store}
+use Rattle.expander.proofs.Writing.{stated-plain, stated-not}
 use Rattle.expander.proofs.expand.write_relation.Statement.{statement}
 use Rattle.expander.proofs.expand.write_relation.Tie as tie
 

@@ -8,7 +8,7 @@ use borrow.Author.Needs.{needs}
 use lib.ListN.{length, set, length-set, length-drop, length-append}
 use Rattle.grammar.specs.Expanded.{stated}
 use Rattle.grammar.proofs.Size.{stated-width}
-use Rattle.expander.proofs.Writing.{Front, front-none, front-length, front-store, front-rest, front-part}
+use Rattle.tables.proofs.Front.{Front, front-none, front-length, front-store, front-rest, front-part}
 use Rattle.expander.proofs.Writing.{full-alone, full-object, full-no-object, full-least, full-some}
 use Rattle.expander.proofs.expand.write_simple.Statement.{statement}
 use Rattle.expander.proofs.expand.write_simple.Tie as tie

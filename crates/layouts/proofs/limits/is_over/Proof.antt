@@ -7,7 +7,7 @@ most-of-requires : tie.Need-most-of-requires
 most-of-requires c κs = search needs
 
 returns : tie.Need-returns
-returns c = rw (c .before .before .most-of .ensures)
+returns c = rw (c .before .before .before .most-of .ensures)
 
 pub is-over-spec : {M : Type 1} → statement M
 is-over-spec = tie.close (tie.spec most-of-requires returns)

@@ -5,7 +5,7 @@ use mathlib.Core.Path.{_≡_, refl, sym, ap, _∙_}
 use lib.ListN.{length}
 use denote.Ref.{now}
 use Rattle.layouts.specs.Layouts.{shownRow}
-use Rattle.layouts.proofs.Laying.{Laying, lay-none, lay-over, lay-more, lay-end, not-over}
+use Rattle.layouts.proofs.Laying.{Laying, lay-none, lay-over, lay-more, lay-end, not-over, row-small}
 use Rattle.layouts.proofs.rows.lay_rows.Statement.{statement}
 use Rattle.layouts.proofs.rows.lay_rows.Tie as tie
 
@@ -59,7 +59,7 @@ store-row-requires c κs = (
     c .before .before .before .before .before .before .before .before .pre .1 .1,
     c .before .before .before .before .before .loop .inv .1,
   ),
-  not-over (c .before .before .before .before .before .loop .i) (shownRow (c .before .before .before .row-of .result)) (sym (c .before .before .is-over .ensures) ∙ c .before .if1 .left) .1,
+  row-small (c .before .before .before .before .before .loop .i) (shownRow (c .before .before .before .row-of .result)) (sym (c .before .before .is-over .ensures) ∙ c .before .if1 .left),
 )
 
 size-at-requires : tie.Need-size-at-requires Inv-loop μ-loop

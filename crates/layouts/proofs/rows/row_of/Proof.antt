@@ -58,10 +58,20 @@ mul-t20 c = search needs
 shared-slice-read-t22 : tie.Need-shared-slice-read-t22
 shared-slice-read-t22 c = search needs
 
+add-t23 : tie.Need-add-t23
+add-t23 c = search needs
+
+mul-t24 : tie.Need-mul-t24
+mul-t24 c = search needs
+
+shared-slice-read-t26 : tie.Need-shared-slice-read-t26
+shared-slice-read-t26 c = search needs
+
 returns-2 : tie.Need-returns-2
-returns-2 c = row-item (now (c .before .before .before .before .before .before .args .entries)) (c .before .before .before .before .before .before .args .i)
-    (c .before .before .before .before .before .before .args .n) (c .before .before .before .before .before .before .args .offset) (c .before .before .before .if1 .left)
-    (c .before .wide .ensures)
+returns-2 c =
+    let p4 = c .before .before .before .before in
+    let p7 = p4 .before .before .before in
+    row-item (now (p7 .args .entries)) (p7 .args .i) (p7 .args .n) (p7 .args .offset) (p4 .if1 .left) (c .before .before .wide .ensures)
 
 pub row-of-spec : {M : Type 1} → statement M
 row-of-spec =
@@ -84,4 +94,7 @@ row-of-spec =
     add-t19
     mul-t20
     shared-slice-read-t22
+    add-t23
+    mul-t24
+    shared-slice-read-t26
     returns-2)

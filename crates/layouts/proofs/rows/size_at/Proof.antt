@@ -37,7 +37,7 @@ wide-requires c κs = search needs
 returns-2 : tie.Need-returns-2
 returns-2 c = size-item (now (c .before .before .before .before .before .args .entries)) (c .before .before .before .before .before .args .i)
     (c .before .before .if1 .left) (c .wide .ensures) (omega
-    (arith, c .before .before .before .before .shared-slice-known .given (c .before .before .before .before .before .args .i * 6 + 4)))
+    (arith, c .before .before .before .before .shared-slice-known .given (c .before .before .before .before .before .args .i * 7 + 4)))
 
 pub size-at-spec : {M : Type 1} → statement M
 size-at-spec =

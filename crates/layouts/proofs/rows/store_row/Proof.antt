@@ -51,11 +51,20 @@ mul-rows-4 c = search needs
 slice-write-rows-4 : tie.Need-slice-write-rows-4
 slice-write-rows-4 c = simp length-set (omega arith)
 
+add-rows-4 : tie.Need-add-rows-4
+add-rows-4 c = search needs
+
+mul-rows-5 : tie.Need-mul-rows-5
+mul-rows-5 c = search needs
+
+slice-write-rows-5 : tie.Need-slice-write-rows-5
+slice-write-rows-5 c = simp length-set (omega arith)
+
 same-length : tie.Need-same-length
 same-length c = simp length-set
 
 returns : tie.Need-returns
-returns c = row-stores (now (c .before .before .args .rows)) (c .before .before .args .i * 4) (shownRow (c .before .before .args .row))
+returns c = row-stores (now (c .before .before .args .rows)) (c .before .before .args .i * 5) (shownRow (c .before .before .args .row))
 
 pub store-row-spec : {M : Type 1} → statement M
 store-row-spec =
@@ -75,5 +84,8 @@ store-row-spec =
     add-rows-3
     mul-rows-4
     slice-write-rows-4
+    add-rows-4
+    mul-rows-5
+    slice-write-rows-5
     same-length
     returns)

@@ -32,14 +32,9 @@ returns-3 c = rw (c .if3 .left) (number-ended false (c .before .before .before .
     (c .before .before .if1 .left) (c .before .if2 .taken))
 
 returns-4 : tie.Need-returns-4
-returns-4 c = rw (c .if4 .taken) (number-open true (c .before .before .before .before .args .m) (c .before .before .before .before .args .n)
-    (c .before .before .before .before .args .k) (c .before .before .before .before .args .period) (c .before .before .before .capped .ensures)
-    (c .before .before .if1 .left) (c .before .if2 .left))
-
-returns-5 : tie.Need-returns-5
-returns-5 c = rw (c .if4 .left) (number-open false (c .before .before .before .before .args .m) (c .before .before .before .before .args .n)
-    (c .before .before .before .before .args .k) (c .before .before .before .before .args .period) (c .before .before .before .capped .ensures)
-    (c .before .before .if1 .left) (c .before .if2 .left))
+returns-4 c = number-open (c .before .before .before .args .signed) (c .before .before .before .args .m) (c .before .before .before .args .n)
+    (c .before .before .before .args .k) (c .before .before .before .args .period) (c .before .before .capped .ensures)
+    (c .before .if1 .left) (c .if2 .left)
 
 pub number-end-spec : {M : Type 1} → statement M
 number-end-spec =
@@ -52,5 +47,4 @@ number-end-spec =
     returns-2
     add-t11
     returns-3
-    returns-4
-    returns-5)
+    returns-4)

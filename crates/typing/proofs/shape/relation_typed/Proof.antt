@@ -1,9 +1,9 @@
--- What `is_literal`, `row_of` and `scales_fit` ensure.
+-- What `is_literal`, `row_of` and `sides_fit` ensure.
 use mathlib.Core.Path.{sym, ap₂, _∙_}
 use mathlib.Core.Bool.{_&&_}
 use borrow.Author.Needs.{needs}
 use Rattle.tables.specs.declared.Row.{Row}
-use Rattle.typing.specs.Typing.{scaleFits}
+use Rattle.typing.specs.Typing.{sideFits}
 use Rattle.typing.proofs.shape.relation_typed.Statement.{statement}
 use Rattle.typing.proofs.shape.relation_typed.Tie as tie
 
@@ -22,14 +22,14 @@ row-of-requires c κs = search needs
 row-of-requires-2 : tie.Need-row-of-requires-2
 row-of-requires-2 c κs = search needs
 
-scales-fit-requires : tie.Need-scales-fit-requires
-scales-fit-requires c κs = search needs
+sides-fit-requires : tie.Need-sides-fit-requires
+sides-fit-requires c κs = search needs
 
 returns-2 : tie.Need-returns-2
 returns-2 c =
     let tested = c .before .before .before in
-    let rows = ap₂ (λ (side other : Row). scaleFits side other && scaleFits other side) (c .before .before .row-of .ensures) (c .before .row-of2 .ensures) in
-    rw (sym (ap₂ _&&_ (tested .before .before .is-literal .ensures) (tested .before .is-literal2 .ensures)) ∙ tested .if1 .left) (c .scales-fit .ensures ∙ rows)
+    let rows = ap₂ (λ (side other : Row). sideFits side other && sideFits other side) (c .before .before .row-of .ensures) (c .before .row-of2 .ensures) in
+    rw (sym (ap₂ _&&_ (tested .before .before .is-literal .ensures) (tested .before .is-literal2 .ensures)) ∙ tested .if1 .left) (c .sides-fit .ensures ∙ rows)
 
 pub relation-typed-spec : {M : Type 1} → statement M
 relation-typed-spec =
@@ -40,5 +40,5 @@ relation-typed-spec =
     returns
     row-of-requires
     row-of-requires-2
-    scales-fit-requires
+    sides-fit-requires
     returns-2)

@@ -20,14 +20,14 @@ returns c =
     let a = c .before .before .before .before .args in
     let looked = ap (λ g. a .item && not g) (sym (c .before .before .is-group .ensures)) ∙ c .before .if1 .taken in
     ap not (c .valid-content .ensures)
-    ∙ sym (ap (λ b. b && not (validContent (a .row .kind) (now (a .bytes)))) looked)
+    ∙ sym (ap (λ b. b && not (validContent (a .row .kind) (a .row .digits) (now (a .bytes)))) looked)
     ∙ fault-flag (side (a .item) (a .row) (now (a .bytes))) (a .other)
 
 returns-2 : tie.Need-returns-2
 returns-2 c =
     let a = c .before .before .before .args in
     let unseen = ap (λ g. a .item && not g) (sym (c .before .is-group .ensures)) ∙ c .if1 .left in
-    sym (ap (λ b. b && not (validContent (a .row .kind) (now (a .bytes)))) unseen)
+    sym (ap (λ b. b && not (validContent (a .row .kind) (a .row .digits) (now (a .bytes)))) unseen)
     ∙ fault-flag (side (a .item) (a .row) (now (a .bytes))) (a .other)
 
 pub is-faulty-spec : {M : Type 1} → statement M

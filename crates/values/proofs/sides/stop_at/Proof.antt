@@ -16,7 +16,7 @@ first-wrong-requires c κs = c .before .before .pre .1
 add-byte : tie.Need-add-byte
 add-byte c =
     let start = c .before .before .before in
-    let inside = wrong-within (start .args .row .kind) (now (start .args .bytes)) (c .first-wrong .ensures) in
+    let inside = wrong-within (start .args .row .kind) (start .args .row .digits) (now (start .args .bytes)) (c .first-wrong .ensures) in
     record { fits = omega (arith, inside, start .pre .0 .offset, start .pre .0 .most) }
 
 returns : tie.Need-returns

@@ -5,7 +5,7 @@ use super::writer::WORDS;
 use crate::random::Random;
 
 /// Bytes that stand in texts, and some that do not.
-const NEAR: &[u8] = b"  \n..()-0123456789AXSV9PICSGNLEADTRFZ\t,x\"\0\x80";
+const NEAR: &[u8] = b"  \n..()-0123456789AXSV9PICSGNLEADTRFZOM3\t,x\"\0\x80";
 
 fn any_byte(random: &mut Random) -> u8 {
     if random.chance(50) {

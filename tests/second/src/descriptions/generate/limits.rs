@@ -20,12 +20,14 @@ fn sizes(random: &mut Random) -> Vec<u8> {
     let mut writer = Writer::new(random);
     writer.elementary(77);
     writer.begin(1);
-    let picture = match writer.random.below(6) {
+    let picture = match writer.random.below(8) {
         0 => format!("X({})", around(writer.random, 256)),
         1 => format!("AA({})", around(writer.random, 255)),
         2 => format!("9({})", around(writer.random, 18)),
         3 => format!("9({})V9(9)", around(writer.random, 9)),
         4 => format!("SV9({})", around(writer.random, 18)),
+        5 => format!("9({}) COMP-3", around(writer.random, 18)),
+        6 => format!("S9V9({}) COMP-3", around(writer.random, 17)),
         _ => {
             let side = writer.random.pick(&["LEADING", "TRAILING"]);
             format!("S9({}) SIGN {side} SEPARATE", around(writer.random, 18))
@@ -91,7 +93,7 @@ fn many_rows(random: &mut Random) -> Vec<u8> {
     for _ in u32::from(in_group)..count {
         let level = if in_group { 5 } else { 77 };
         writer.begin(level);
-        let picture = writer.random.pick(&["9", "X", "A(2)", "S9"]);
+        let picture = writer.random.pick(&["9", "X", "A(2)", "S9", "9 COMP-3"]);
         writer.put(&format!(" PIC {picture}. "));
     }
     writer.finish()
@@ -143,6 +145,10 @@ fn long_counts(random: &mut Random) -> Vec<u8> {
         _ => "0".repeat(random.between(1, 400) as usize) + "5",
     };
     let symbol = random.pick(&["X", "A", "9", "S9", "9V9", "V9"]);
+    let usage = match symbol {
+        "X" | "A" => "",
+        _ => random.pick(&["", " COMP-3"]),
+    };
     let mut writer = Writer::new(random);
     if writer.random.chance(600) {
         group(&mut writer, 1);
@@ -151,7 +157,7 @@ fn long_counts(random: &mut Random) -> Vec<u8> {
     } else {
         writer.begin(77);
     }
-    writer.put(&format!(" PIC {symbol}({count})."));
+    writer.put(&format!(" PIC {symbol}({count}){usage}."));
     if writer.random.chance(500) {
         writer.blank();
         writer.elementary(77);

@@ -25,6 +25,8 @@ pub const WORDS: &[&str] = &[
     "NUMERIC",
     "EQUAL",
     "PICTURE",
+    "COMP-3",
+    "COMP-",
     "SIG",
     "X",
     "9",
@@ -191,7 +193,7 @@ impl Writer<'_> {
     }
 
     pub fn picture(&mut self) {
-        match self.random.below(10) {
+        match self.random.below(12) {
             0..=2 => self.repeated("X", 300),
             3..=4 => self.repeated("A", 300),
             5..=6 => self.nines(),
@@ -199,6 +201,7 @@ impl Writer<'_> {
                 self.put("S");
                 self.nines();
             }
+            8..=9 => self.packed(),
             _ => {
                 self.put("S");
                 self.nines();
@@ -211,6 +214,21 @@ impl Writer<'_> {
                 self.put("SEPARATE");
             }
         }
+    }
+
+    /// With S or without, every digit count now and then.
+    fn packed(&mut self) {
+        if self.random.chance(500) {
+            self.put("S");
+        }
+        if self.random.chance(400) {
+            let digits = self.random.between(1, 18);
+            self.put(&format!("9({digits})"));
+        } else {
+            self.nines();
+        }
+        self.blank();
+        self.put("COMP-3");
     }
 
     /// The symbol one to three times, with counts up to so many.

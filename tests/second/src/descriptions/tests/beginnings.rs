@@ -123,7 +123,7 @@ fn limit(text: &[u8], place: usize) -> &'static str {
         .map_or(0, |at| at + 1);
     let alone = [b"01", &entry[2.min(end)..end]].concat();
     let before = text[..place].iter().filter(|&&byte| byte == b'.').count();
-    match describe(&alone, &mut [0; 4], &mut [0; 1]) {
+    match describe(&alone, &mut [0; 5], &mut [0; 1]) {
         Ok(_) if before == 64 => "65th row",
         _ => "limit",
     }

@@ -1,0 +1,71 @@
+-- Each flag that the code tests is a part of the definition's conjunction; a sound row has at least one byte.
+use Prim.Native.Nat.{ℕ}
+use native.Mathlib.Omega.{arith}
+use mathlib.Core.Bool.{Bool, _||_}
+use mathlib.Core.Path.{ap, _∙_}
+use denote.Ref.{now}
+use lib.Dec.{eqb}
+use borrow.Author.Tests.{not-true, not-false, leb-true}
+use borrow.Author.Needs.{needs}
+use Rattle.content.specs.WrongByte.{validContent}
+use Rattle.tables.proofs.Lines.{passes, fails}
+use Rattle.tables.proofs.Bytes.{sound-part}
+use Rattle.checks.proofs.lent.literal_sound.Statement.{statement}
+use Rattle.checks.proofs.lent.literal_sound.Tie as tie
+
+-- the kinds that a literal may have
+abbrev literalKind : ℕ → Bool
+literalKind kind = eqb kind 2 || eqb kind 3 || eqb kind 5
+
+row-sound-requires : tie.Need-row-sound-requires
+row-sound-requires c κs = search needs
+
+returns : tie.Need-returns
+returns c = rw (fails (c .before .row-sound .ensures) (c .if1 .taken))
+
+returns-2 : tie.Need-returns-2
+returns-2 c =
+    let row = passes (c .before .before .row-sound .ensures) (c .before .if1 .left) in
+    rw (row, not-true (literalKind (c .before .before .before .before .args .row .kind)) (c .if2 .taken))
+
+ends-within-requires : tie.Need-ends-within-requires
+ends-within-requires c κs = search needs
+
+returns-3 : tie.Need-returns-3
+returns-3 c =
+    let row = passes (c .before .before .before .before .row-sound .ensures) (c .before .before .before .if1 .left) in
+    let kind = not-false (literalKind (c .before .before .before .before .before .before .args .row .kind)) (c .before .before .if2 .left) in
+    rw (row, kind, fails (c .before .ends-within .ensures) (c .if3 .taken))
+
+row-part-requires : tie.Need-row-part-requires
+row-part-requires c κs = leb-true _ _ (passes (c .before .ends-within .ensures) (c .if3 .left))
+
+valid-content-requires : tie.Need-valid-content-requires
+valid-content-requires c κs =
+    let row = passes (c .before .before .before .before .before .row-sound .ensures) (c .before .before .before .before .if1 .left) in
+    let ends = passes (c .before .before .ends-within .ensures) (c .before .if3 .left) in
+    let bytes = now (c .before .before .before .before .before .before .before .args .bytes) in
+    let part = sound-part (c .before .before .before .before .before .before .before .args .row) bytes row (leb-true _ _ ends) in
+    rw (c .row-part .ensures) (omega arith)
+
+returns-4 : tie.Need-returns-4
+returns-4 c =
+    let row = passes (c .before .before .before .before .before .before .row-sound .ensures) (c .before .before .before .before .before .if1 .left) in
+    let kind = not-false (literalKind (c .before .before .before .before .before .before .before .before .args .row .kind)) (c .before .before .before .before .if2 .left) in
+    let ends = passes (c .before .before .before .ends-within .ensures) (c .before .before .if3 .left) in
+    let args = c .before .before .before .before .before .before .before .before .args in
+    let content = ap (validContent (args .row .kind) (args .row .digits)) (c .before .row-part .ensures) in
+    rw (row, kind, ends) (c .valid-content .ensures ∙ content)
+
+pub literal-sound-spec : {M : Type 1} → statement M
+literal-sound-spec =
+    tie.close
+    (tie.spec
+    row-sound-requires
+    returns
+    returns-2
+    ends-within-requires
+    returns-3
+    row-part-requires
+    valid-content-requires
+    returns-4)

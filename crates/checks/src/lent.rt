@@ -1,0 +1,98 @@
+// The lines of the table of refusals that look at tables and the record: 1 to 4 and 12.
+ghost use mathlib.Core.Path.{_≡_};
+ghost use mathlib.Core.List.{[]};
+ghost use Rattle.tables.specs.Operands.{lend};
+ghost use Rattle.tables.specs.Refusals.{firstOf};
+ghost use Rattle.tables.specs.Tables.{lengthSound, literalSound, itemRowCheck, literalRowCheck, tableLines, recordCheck};
+use content::fields::valid_content;
+use tables::Check;
+use tables::Refusal;
+use tables::Row;
+use tables::rows::ends_within;
+use tables::rows::row_at;
+use tables::rows::row_part;
+use tables::rows::row_sound;
+
+fn length_sound(table: &[u32]) -> bool
+    ensures { λ r. ⌜ r ≡ lengthSound (now (table .entry)) ⌝ }
+{
+    (table.len() % 5 == 0) & (table.len() <= 320)
+}
+
+// 2: the first item row that breaks its rules.
+fn check_item_rows(items: &[u32]) -> Check
+    ensures { λ r. ⌜ r ≡ itemRowCheck (lend (now (items .entry)) [] []) ⌝ }
+{
+    let rows = items.len() / 5;
+    let mut v: usize = 0;
+    while v < rows {
+        if !row_sound(row_at(items, v)) {
+            return Check::Refused(Refusal::ItemRow(v));
+        }
+        v += 1;
+    }
+    Check::Sound
+}
+
+fn literal_sound(row: Row, bytes: &[u8]) -> bool
+    ensures { λ r. ⌜ r ≡ literalSound (now (bytes .entry)) row ⌝ }
+{
+    if !row_sound(row) {
+        return false;
+    }
+    let kind = row.kind;
+    if !((kind == 2) | (kind == 3) | (kind == 5)) {
+        return false;
+    }
+    if !ends_within(row, bytes.len()) {
+        return false;
+    }
+    valid_content(kind, row.digits, row_part(row, bytes))
+}
+
+// 4: the first literal row that breaks its rules.
+fn check_literal_rows(literals: &[u32], bytes: &[u8]) -> Check
+    ensures { λ r. ⌜ r ≡ literalRowCheck (lend [] (now (literals .entry)) (now (bytes .entry))) ⌝ }
+{
+    let rows = literals.len() / 5;
+    let mut v: usize = 0;
+    while v < rows {
+        if !literal_sound(row_at(literals, v), bytes) {
+            return Check::Refused(Refusal::LiteralRow(v));
+        }
+        v += 1;
+    }
+    Check::Sound
+}
+
+// 1 to 4, in order.
+pub fn check_tables(items: &[u32], literals: &[u32], bytes: &[u8]) -> Check
+    ensures { λ r. ⌜ r ≡ firstOf (tableLines (lend (now (items .entry)) (now (literals .entry)) (now (bytes .entry)))) ⌝ }
+{
+    if !length_sound(items) {
+        return Check::Refused(Refusal::ItemTable);
+    }
+    let item_rows = check_item_rows(items);
+    if let Check::Refused(refusal) = item_rows {
+        return Check::Refused(refusal);
+    }
+    if !length_sound(literals) {
+        return Check::Refused(Refusal::LiteralTable);
+    }
+    check_literal_rows(literals, bytes)
+}
+
+// 12: the first item row that ends beyond the record, used or not.
+pub fn check_record(items: &[u32], record: &[u8]) -> Check
+    ensures { λ r. ⌜ r ≡ recordCheck (lend (now (items .entry)) [] []) (now («record» .entry)) ⌝ }
+{
+    let rows = items.len() / 5;
+    let mut v: usize = 0;
+    while v < rows {
+        if !ends_within(row_at(items, v), record.len()) {
+            return Check::Refused(Refusal::Record(v));
+        }
+        v += 1;
+    }
+    Check::Sound
+}

@@ -1,0 +1,34 @@
+// The lines of the table of refusals that look at tokens: 5 and 6.
+ghost use mathlib.Core.Path.{_≡_};
+ghost use mathlib.Core.List.{[]};
+ghost use Rattle.tables.specs.Operands.{lend};
+ghost use Rattle.tables.specs.Tables.{tokenCountCheck, tokenCheck};
+use tables::Check;
+use tables::Refusal;
+use tables::tokens::token_exists;
+
+// 5: a condition has 1 to 256 tokens.
+pub fn check_token_count(tokens: &[u32]) -> Check
+    ensures { λ r. ⌜ r ≡ tokenCountCheck (now (tokens .entry)) ⌝ }
+{
+    if (1 <= tokens.len()) & (tokens.len() <= 256) {
+        return Check::Sound;
+    }
+    Check::Refused(Refusal::TokenCount)
+}
+
+// 6: the first token that there is not.
+pub fn check_tokens(items: &[u32], literals: &[u32], tokens: &[u32]) -> Check
+    ensures { λ r. ⌜ r ≡ tokenCheck (lend (now (items .entry)) (now (literals .entry)) []) (now (tokens .entry)) ⌝ }
+{
+    let item_rows = items.len() / 5;
+    let literal_rows = literals.len() / 5;
+    let mut i: usize = 0;
+    while i < tokens.len() {
+        if !token_exists(tokens[i], item_rows, literal_rows) {
+            return Check::Refused(Refusal::Token(i));
+        }
+        i += 1;
+    }
+    Check::Sound
+}

@@ -1,0 +1,21 @@
+-- The answers of `mend` and `differ` told.
+use mathlib.Core.Path.{_≡_, ap, _∙_}
+use mathlib.Core.List.{List}
+use Prim.Native.Nat.{ℕ}
+use Rattle.tables.specs.declared.Written.{Written}
+use Rattle.mending.specs.Mend.{mending}
+use Rattle.differences.specs.Differ.{differing}
+use Rattle.conditions_c.specs.Answer.{writtenNumber}
+use Rattle.conditions_c.specs.Mending.{listedNumbers, Mends}
+use Rattle.conditions_c.specs.Differences.{Differs}
+
+pub mend-told : {items content list answer after listed : List ℕ} {written : Written} {returned : ℕ}
+    → written ≡ mending items content list .answer → after ≡ mending items content list .content → listed ≡ mending items content list .list
+    → answer ≡ listedNumbers written → returned ≡ writtenNumber written → Mends items content list returned answer after listed
+mend-told w k l a r =
+    record { told = record { returns = r ∙ ap writtenNumber w; answers = a ∙ ap listedNumbers w }; kept = k; listed = l }
+
+pub differ-told : {items first second output answer after : List ℕ} {written : Written} {returned : ℕ}
+    → written ≡ differing items first second output .answer → after ≡ differing items first second output .output
+    → answer ≡ listedNumbers written → returned ≡ writtenNumber written → Differs items first second output returned answer after
+differ-told w l a r = record { told = record { returns = r ∙ ap writtenNumber w; answers = a ∙ ap listedNumbers w }; left = l }

@@ -1,0 +1,5 @@
+pub mod Rewriting
+pub mod Sameness
+pub mod Copying
+pub mod Facts
+pub mod Listing

@@ -1,0 +1,162 @@
+-- The beginning and the end of gathering.
+use mathlib.Core.Path.{_≡_, refl, sym, ap, _∙_, subst}
+use mathlib.Core.Bool.{Bool, true, false, cond}
+use mathlib.Core.List.{List, [], _∷_, _++_, map, append-nil}
+use Prim.Native.Nat.{ℕ, zero, suc, _+_, _-_, _*_, _≤_, _<_}
+use native.Mathlib.Omega.{arith}
+use lib.Dec.{ltb, leb}
+use lib.ListN.{length, take, drop}
+use borrow.Author.Tests.{le-leb, lt-leb, le-ltb, leb-true, leb-false, ltb-false}
+use Rattle.description.specs.Grammar.{Word, isBlank}
+use Rattle.spelling.specs.Words.{wordLength, wordsFrom}
+use Rattle.spelling.specs.Keywords.{Piece as Spelt, token, literal, fault}
+use Rattle.spelling.specs.Meanings.{meaning, joins, pieceOf}
+use Rattle.spelling.specs.Reading.{Placed, piecesFrom, placed, pieces, Found, none, refusal, before, faultAt, after, firstFault, orTooLong, faultOf, tokensFrom, rowsFrom, bytesOf}
+use Rattle.splitter.specs.Splits.{wordsAt, NextFrom}
+use Rattle.splitter.specs.declared.Next.{Next}
+use Rattle.splitter.specs.declared.Next.the-variants.{End as NoWord}
+use Rattle.splitter.proofs.Walking.{no-word, found-end}
+use Rattle.lexer.specs.declared.Gathered.{Gathered}
+use Rattle.lexer.specs.declared.Stepped.{Stepped}
+use Rattle.lexer.specs.declared.Stepped.the-variants.{On, End, Fault}
+use Rattle.lexer.specs.declared.Lexed.{Lexed}
+use Rattle.lexer.specs.declared.Lexed.the-variants.{Whole, Fault as LexedFault}
+use Rattle.lexer.specs.Gathers.{left, leftPieces, Rooms, Gathers, Steps, earlyBy, Holds, Lexes}
+
+-- no word stands before the place where the words were looked for
+abbrev AllFrom : ℕ → List Word → Type 0
+AllFrom at [] = Unit {0}
+AllFrom at (w ∷ ws) = (at ≤ w .place) × AllFrom at ws
+
+sooner : (at : ℕ) (ws : List Word) → AllFrom (suc at) ws → AllFrom at ws
+sooner at [] h = tt
+sooner at (w ∷ ws) h = (omega (arith, h .0), sooner at ws (h .1))
+
+words-from : (skip at : ℕ) (bytes : List ℕ) → AllFrom at (wordsFrom skip at bytes)
+unfolding wordsFrom
+words-from skip at [] = tt
+words-from (suc skip) at (b ∷ bytes) = sooner at (wordsFrom skip (suc at) bytes) (words-from skip (suc at) bytes)
+words-from zero at (b ∷ bytes) = by (isBlank b) (words-from 0 (suc at) bytes) (words-from (wordLength (b ∷ bytes) - 1) (suc at) bytes)
+  where
+    by : (t : Bool) → AllFrom (suc at) (wordsFrom 0 (suc at) bytes) → AllFrom (suc at) (wordsFrom (wordLength (b ∷ bytes) - 1) (suc at) bytes)
+        → AllFrom at (cond t (wordsFrom 0 (suc at) bytes)
+        (record { place = at; text = take (wordLength (b ∷ bytes)) (b ∷ bytes) } ∷ wordsFrom (wordLength (b ∷ bytes) - 1) (suc at) bytes))
+    by true f g = sooner at (wordsFrom 0 (suc at) bytes) f
+    by false f g = (omega arith, sooner at (wordsFrom (wordLength (b ∷ bytes) - 1) (suc at) bytes) g)
+
+-- nor does a fault
+abbrev Late : ℕ → Found → Type 0
+Late at none = Unit {0}
+Late at (refusal number place) = at ≤ place
+
+late-before : (at : ℕ) (f g : Found) → Late at f → Late at g → Late at (before f g)
+late-before at none g h i = i
+late-before at (refusal number place) g h i = h
+
+late-at : (at n place : ℕ) (p : Spelt) → at ≤ place → Late at (faultAt n place p)
+late-at at n place (token t) h = tt
+late-at at n place (literal l) h = by (ltb n 64)
+  where
+    by : (t : Bool) → Late at (cond t none (refusal 15 place))
+    by true = tt
+    by false = h
+late-at at n place (fault number) h = h
+
+late : (names : List (List ℕ)) (at n k : ℕ) (ws : List Word) → AllFrom at ws → Late at (firstFault n (piecesFrom names k ws))
+unfolding piecesFrom firstFault
+late names at n k [] h = tt
+late names at n (suc k) (w ∷ ws) h = late names at n k ws (h .1)
+late names at n zero (w ∷ ws) h =
+    late-before at (faultAt n (w .place) (pieceOf (meaning names (w .text)) ws))
+    (firstFault (after n (pieceOf (meaning names (w .text)) ws)) (piecesFrom names (joins (meaning names (w .text)) ws) ws))
+    (late-at at n (w .place) (pieceOf (meaning names (w .text)) ws) (h .0))
+    (late names at (after n (pieceOf (meaning names (w .text)) ws)) (joins (meaning names (w .text)) ws) ws (h .1))
+
+too-late : (at : ℕ) (f : Found) → 2048 ≤ at → Late at f → orTooLong f ≡ refusal 15 2048
+too-late at none h l = refl
+too-late at (refusal number place) h l = rw (le-ltb place 2048 (omega arith))
+
+short-fault : (names : List (List ℕ)) (text : List ℕ) → length text ≤ 2048 → faultOf names text ≡ firstFault 0 (placed names text)
+short-fault names text h = rw (le-leb (length text) 2048 h)
+
+long-fault : (names : List (List ℕ)) (text : List ℕ) → 2048 < length text → faultOf names text ≡ orTooLong (firstFault 0 (placed names text))
+long-fault names text h = rw (lt-leb (length text) 2048 h)
+
+module _ {names : List (List ℕ)} {text : List ℕ} where
+  -- nothing is gathered yet
+  pub nothing : (tokens rows bytes : List ℕ) → Gathers names text (record { tokens = 0; literals = 0; bytes = 0; past = 0 }) tokens rows bytes
+  nothing tokens rows bytes =
+      record {
+        within = omega arith;
+        few-tokens = omega arith;
+        few-literals = omega arith;
+        few-bytes = omega arith;
+        tokens-are = refl;
+        rows-are = refl;
+        bytes-are = refl;
+        fault-is = refl;
+      }
+
+  module _ {g : Gathered} {tokens rows bytes : List ℕ} (G : Gathers names text g tokens rows bytes) where
+    nothing-left : left names text (g .past) ≡ [] → length text ≤ 2048 → Holds names text g tokens rows bytes
+    unfolding firstFault tokensFrom rowsFrom bytesOf
+    nothing-left e h =
+        let p : leftPieces names text (g .past) ≡ [] = ap (map (λ (x : Placed). x .piece)) e in
+        record {
+          faultless = short-fault names text h ∙ G .fault-is ∙ ap (firstFault (g .literals)) e;
+          tokens-are = G .tokens-are ∙ ap (λ (ps : List Spelt). take (g .tokens) tokens ++ tokensFrom (g .literals) ps) p ∙ append-nil (take (g .tokens) tokens);
+          rows-are = G .rows-are ∙ ap (λ (ps : List Spelt). take (g .literals * 5) rows ++ rowsFrom (g .bytes) ps) p ∙ append-nil (take (g .literals * 5) rows);
+          bytes-are = G .bytes-are ∙ ap (λ (ps : List Spelt). take (g .bytes) bytes ++ bytesOf ps) p ∙ append-nil (take (g .bytes) bytes);
+          few-tokens = omega (arith, G .few-tokens, G .within);
+          few-literals = G .few-literals;
+          few-bytes = omega (arith, G .few-bytes, G .within);
+        }
+
+    too-long : left names text (g .past) ≡ [] → 2048 < length text → faultOf names text ≡ refusal 15 2048
+    unfolding firstFault
+    too-long e h = long-fault names text h ∙ ap orTooLong (G .fault-is ∙ ap (firstFault (g .literals)) e)
+
+    -- no word starts before byte 2,048 any more
+    pub whole-past : 2048 ≤ g .past → length text ≤ 2048 → Lexes names text (Whole g) tokens rows bytes
+    unfolding piecesFrom
+    whole-past p h = record { gives = nothing-left (ap (piecesFrom names 0) (no-word text (g .past) (omega arith))) h }
+
+    pub long-past : 2048 ≤ g .past → 2048 < length text → Lexes names text (LexedFault 15 2048) tokens rows bytes
+    long-past p h =
+        let l = late names (g .past) (g .literals) 0 (wordsAt text (g .past)) (words-from 0 (g .past) (drop (g .past) text)) in
+        record { gives = long-fault names text h ∙ ap orTooLong (G .fault-is) ∙ too-late (g .past) (firstFault (g .literals) (left names text (g .past))) p l }
+
+  module _ {g : Gathered} {tokens rows bytes : List ℕ} (r : Stepped) (S : Steps names text g r tokens rows bytes) where
+    pub on-step : {next : Gathered} → r ≡ On next → Gathers names text next tokens rows bytes × (g .past < next .past)
+    on-step e = subst (λ (s : Stepped). Steps names text g s tokens rows bytes) e S .gives
+
+    ended : r ≡ End → Gathers names text g tokens rows bytes × (left names text (g .past) ≡ [])
+    ended e = subst (λ (s : Stepped). Steps names text g s tokens rows bytes) e S .gives
+
+    pub whole-end : r ≡ End → length text ≤ 2048 → Lexes names text (Whole g) tokens rows bytes
+    whole-end e h = let f = ended e in record { gives = nothing-left (f .0) (f .1) h }
+
+    pub long-end : r ≡ End → 2048 < length text → Lexes names text (LexedFault 15 2048) tokens rows bytes
+    long-end e h = let f = ended e in record { gives = too-long (f .0) (f .1) h }
+
+    pub fault-end : {number place : ℕ} (lexed : Lexed) → r ≡ Fault number place → lexed ≡ earlyBy number place → Lexes names text lexed tokens rows bytes
+    fault-end {number} {place} lexed e q =
+        let f = subst (λ (s : Stepped). Steps names text g s tokens rows bytes) e S .gives in
+        rw q (by (leb (length text) 2048) refl (ltb place 2048) refl (f .0) (f .1))
+      where
+        by : (t : Bool) → leb (length text) 2048 ≡ t → (u : Bool) → ltb place 2048 ≡ u → firstFault 0 (placed names text) ≡ refusal number place → place < length text
+            → Lexes names text (cond u (LexedFault number place) (LexedFault 15 2048)) tokens rows bytes
+        by true h true l f w = record { gives = short-fault names text (leb-true (length text) 2048 h) ∙ f }
+        by true h false l f w = absurd (omega (arith, leb-true (length text) 2048 h, ltb-false place 2048 l))
+        by false h true l f w = record { gives = long-fault names text (leb-false (length text) 2048 h) ∙ ap orTooLong f ∙ rw l }
+        by false h false l f w = record { gives = long-fault names text (leb-false (length text) 2048 h) ∙ ap orTooLong f ∙ rw l }
+
+pub no-step : {names : List (List ℕ)} {text : List ℕ} {g : Gathered} {tokens rows bytes : List ℕ} (r : Next) → Gathers names text g tokens rows bytes → NextFrom text (g .past) r
+    → r ≡ NoWord → Steps names text g End tokens rows bytes
+unfolding piecesFrom
+no-step {names} r G n e = record { gives = (G, ap (piecesFrom names 0) (found-end r n e)) }
+
+-- rooms stay
+pub rooms-stay : {t w b tokens rows bytes : List ℕ} → Rooms t w b → length tokens ≡ length t → length rows ≡ length w → length bytes ≡ length b → Rooms tokens rows bytes
+rooms-stay R e f h =
+    record { tokens-room = omega (arith, R .tokens-room); rows-room = omega (arith, R .rows-room); bytes-room = omega (arith, R .bytes-room) }

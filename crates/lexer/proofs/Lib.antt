@@ -1,0 +1,4 @@
+pub mod Writing
+pub mod Meeting
+pub mod Adding
+pub mod Ending

@@ -1,0 +1,176 @@
+-- The next piece of a text.
+use mathlib.Core.Path.{_≡_, refl, sym, ap, ap₂, _∙_, subst}
+use mathlib.Core.Bool.{Bool, true, false, cond, not, _&&_}
+use mathlib.Core.Logic.{_⊎_, inl, inr, ⊎-elim}
+use mathlib.Core.List.{List, [], _∷_, _++_, map}
+use Prim.Native.Nat.{ℕ, zero, suc, _+_, _-_, _≤_, _<_}
+use native.Mathlib.Omega.{arith}
+use lib.Dec.{eqb}
+use lib.ListN.{length, take, drop, length-take, length-drop, length-append}
+use lib.Seq.{drop-nil}
+use borrow.Author.Tests.{eq-eqb}
+use Rattle.content.specs.Content.{isSign, firstByte, lastByte, butFirst, butLast}
+use Rattle.content.specs.WrongByte.{validContent}
+use Rattle.tables.specs.Rows.{rowSound}
+use Rattle.tables.proofs.Tests.{both}
+use Rattle.description.specs.Grammar.{Word, same}
+use Rattle.description.specs.Reader.{isName}
+use Rattle.spelling.specs.Literals.{Literal, rowOfLiteral, fits, quoted, doubled, undoubled, textOf, isText, isPoint, withoutPoint, numberOf, isNumber}
+use Rattle.spelling.specs.Keywords.{Piece as Spelt, token, literal, fault, Meaning, alone, item, value, order, equal, faulty, Keyword, vocabulary}
+use Rattle.spelling.specs.Meanings.{count, position, named, lookup, meaning, joins, pieceOf}
+use Rattle.spelling.specs.Reading.{Placed, piecesFrom}
+use Rattle.spelling.proofs.Cutting.{same-true}
+use Rattle.spelling.proofs.Accepted.{small-size}
+use Rattle.spelling.proofs.Laying.{ofLiteralKind}
+use Rattle.splitter.specs.declared.Next.the-variants.{Word as Span}
+use Rattle.splitter.specs.Splits.{wordsAt, between, fromNext}
+use Rattle.literal_words.specs.Found.{literalBy}
+use Rattle.senses.specs.declared.Piece.{Piece}
+use Rattle.senses.specs.Senses.{metOf, PieceBy}
+use Rattle.lexer.specs.Gathers.{left, Made, MadeBy, Meets}
+
+-- words that joined the word before are passed
+passed : (names : List (List ℕ)) (k : ℕ) (ws : List Word) → piecesFrom names k ws ≡ piecesFrom names 0 (drop k ws)
+unfolding piecesFrom
+passed names zero ws = refl
+passed names (suc k) [] = refl
+passed names (suc k) (w ∷ ws) = passed names k ws
+
+first-piece : (names : List (List ℕ)) (w : Word) (ws : List Word)
+    → piecesFrom names 0 (w ∷ ws)
+    ≡ record { place = w .place; piece = pieceOf (meaning names (w .text)) ws } ∷ piecesFrom names (joins (meaning names (w .text)) ws) ws
+unfolding piecesFrom
+first-piece names w ws = refl
+
+-- only a literal means a value
+
+abbrev isValue : Meaning → Bool
+isValue (alone t) = false
+isValue (item t) = false
+isValue (value l) = true
+isValue (order p j) = false
+isValue equal = false
+isValue (faulty n) = false
+
+abbrev NoValues : List Keyword → Type 0
+NoValues [] = Unit {0}
+NoValues (k ∷ ks) = (isValue (k .meaning) ≡ false) × NoValues ks
+
+no-values : NoValues vocabulary
+no-values = (refl, (refl, (refl, (refl, (refl, (refl, (refl, (refl, (refl, (refl, (refl, (refl, (refl, (refl, (refl, (refl, (refl, (refl, (refl, (refl, (refl, (refl, (refl, (refl, (refl, (refl, (refl, (refl, tt))))))))))))))))))))))))))))
+
+looked : (w : List ℕ) (other : Meaning) (ks : List Keyword) → NoValues ks → isValue other ≡ false → isValue (lookup w other ks) ≡ false
+unfolding lookup
+looked w other [] n e = e
+looked w other (k ∷ ks) n e = by (same w (k .bytes)) (looked w other ks (n .1) e)
+  where
+    by : (t : Bool) → isValue (lookup w other ks) ≡ false → isValue (cond t (k .meaning) (lookup w other ks)) ≡ false
+    by true h = n .0
+    by false h = h
+
+named-none : (names : List (List ℕ)) (w : List ℕ) → isValue (named names w) ≡ false
+named-none names w = by (isName w) (eqb (count w names) 1)
+  where
+    by : (t u : Bool) → isValue (cond t (cond u (item (position w names)) (faulty 16)) (faulty 15)) ≡ false
+    by true true = refl
+    by true false = refl
+    by false u = refl
+
+-- the sizes of literals beside their words
+undoubled-short : (skip : Bool) (v : List ℕ) → length (undoubled skip v) ≤ length v
+unfolding undoubled
+undoubled-short skip [] = omega arith
+undoubled-short true (b ∷ v) = omega (arith, undoubled-short false v)
+undoubled-short false (b ∷ v) = omega (arith, undoubled-short (eqb b 0x22) v)
+
+pointless-short : (v : List ℕ) → length (withoutPoint v) ≤ length v
+unfolding withoutPoint
+pointless-short [] = omega arith
+pointless-short (b ∷ v) = by (isPoint b) (pointless-short v)
+  where
+    by : (t : Bool) → length (withoutPoint v) ≤ length v → length (cond t v (b ∷ withoutPoint v)) ≤ suc (length v)
+    by true h = omega arith
+    by false h = omega arith
+
+text-made : (w : List ℕ) → isText w ≡ true → Made w (textOf w)
+unfolding isText
+text-made w e =
+    let v : List ℕ = textOf w .bytes in
+    let p = both (same w (quoted v)) (fits (textOf w)) e in
+    let long : length w ≡ length (quoted v) = ap length (same-true w (quoted v) (p .0)) in
+    record {
+      by = refl;
+      short = omega (arith, undoubled-short false (butLast (butFirst w)), length-take (length (butFirst w) - 1) (butFirst w), length-drop 1 w);
+      small = small-size (textOf w) (both (rowSound (rowOfLiteral 0 (textOf w))) (validContent 2 0 v) (p .1) .0) refl;
+      quoted = λ k. omega (arith, long, length-append (doubled v) (0x22 ∷ []));
+    }
+
+number-kind : (s : Bool) → eqb (cond s 5 3) 2 ≡ false
+number-kind true = refl
+number-kind false = refl
+
+number-made : (w : List ℕ) → isNumber w ≡ true → Made w (numberOf w)
+unfolding isNumber
+number-made w e =
+    let l : Literal = numberOf w in
+    let p = both (fits l) (not (isPoint (lastByte w))) e .0 in
+    let k : eqb (l .kind) 2 ≡ false = number-kind (isSign (firstByte w)) in
+    record {
+      by = rw k;
+      short = pointless-short w;
+      small = small-size l (both (rowSound (rowOfLiteral 0 l)) (validContent (l .kind) (rowOfLiteral 0 l .digits) (l .bytes)) p .0) (of-kind (isSign (firstByte w)));
+      quoted = λ q. absurd (two (isSign (firstByte w)) q);
+    }
+  where
+    of-kind : (s : Bool) → ofLiteralKind (record { kind = cond s 5 3; scale = numberOf w .scale; bytes = numberOf w .bytes }) ≡ true
+    of-kind true = refl
+    of-kind false = refl
+
+    two : (s : Bool) → _≡_ {A = ℕ} (cond s 5 3) 2 → ⊥
+    two true q = omega arith
+    two false q = omega arith
+
+made : (names : List (List ℕ)) (w : List ℕ) (l : Literal) → meaning names w ≡ value l → Made w l
+unfolding meaning
+made names w l e = by (isText w) refl (isNumber w) refl e
+  where
+    none : isValue (lookup w (named names w) vocabulary) ≡ false
+    none = looked w (named names w) vocabulary no-values (named-none names w)
+
+    by : (t : Bool) → isText w ≡ t → (u : Bool) → isNumber w ≡ u
+        → cond t (value (textOf w)) (cond u (value (numberOf w)) (lookup w (named names w) vocabulary)) ≡ value l → Made w l
+    by true p u q e = let z : textOf w ≡ l = cc in rw z at (text-made w p)
+    by false p true q e = let z : numberOf w ≡ l = cc in rw z at (number-made w q)
+    by false p false q e =
+        let bad : true ≡ false = sym (ap isValue e) ∙ none in
+        let z : _≡_ {A = ℕ} 0 1 = cc in absurd (omega arith)
+
+made-by : (names : List (List ℕ)) (w : List ℕ) (ws : List Word) (m : Meaning) → meaning names w ≡ m → MadeBy w (pieceOf m ws)
+made-by names w ws (alone t) e = tt
+made-by names w ws (item t) e = tt
+made-by names w ws (value l) e = made names w l e
+made-by names w ws (order p j) e = tt
+made-by names w ws equal e = tt
+made-by names w ws (faulty n) e = tt
+
+module _ (names : List (List ℕ)) (text : List ℕ) (past at end : ℕ) (r : Piece) where
+  pub meets : past ≤ at → at < end → wordsAt text past ≡ fromNext text (Span at end) → PieceBy (meaning names (between text at end)) text end r
+      → Meets names text past at end r
+  meets h l e p =
+      let w : List ℕ = between text at end in
+      let ws : List Word = wordsAt text end in
+      let m : Meaning = meaning names w in
+      record {
+        spelt = pieceOf m ws;
+        met = p .met;
+        made = made-by names w ws m refl;
+        next =
+            ap (piecesFrom names 0) e
+            ∙ first-piece names (record { place = at; text = w }) ws
+            ∙ ap (λ (xs : List Placed). record { place = at; piece = pieceOf m ws } ∷ xs)
+            (passed names (joins m ws) ws ∙ ap (piecesFrom names 0) (sym (p .words)));
+        not-before = h;
+        some = l;
+        inside = p .passed;
+        within = p .within;
+      }

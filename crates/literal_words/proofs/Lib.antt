@@ -1,0 +1,4 @@
+pub mod Points
+pub mod Numerals
+pub mod Holding
+pub mod Copying

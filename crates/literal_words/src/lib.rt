@@ -1,0 +1,19 @@
+// Literals as they are written: their rows and their bytes.
+
+pub mod copies; // the bytes of a literal
+pub mod numbers; // numeric literals
+pub mod quotes; // nonnumeric literals
+
+use tables::Row;
+
+// The row of a numeric literal whose bytes would be laid at offset 0.
+pub enum Number {
+    Is(Row),
+    Not,
+}
+
+// The number of bytes that a nonnumeric literal holds.
+pub enum Text {
+    Is(usize),
+    Not,
+}

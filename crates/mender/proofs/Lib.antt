@@ -1,0 +1,4 @@
+pub mod Walking
+pub mod Nearing
+pub mod Stepping
+pub mod Answering

@@ -1,0 +1,4 @@
+pub mod Fields
+pub mod Changes
+pub mod Theorems
+pub mod Examples

@@ -1,0 +1,1 @@
+// Mending blanks: definitions and theorems. Crate mender has the code.

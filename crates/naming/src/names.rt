@@ -1,0 +1,62 @@
+// The row that has a name.
+ghost use mathlib.Core.Path.{_≡_};
+ghost use mathlib.Core.Bool.{true};
+ghost use Prim.Native.Nat.{_+_, _≤_};
+ghost use lib.ListN.{length, drop};
+ghost use Rattle.description.specs.Grammar.{all, isNameByte, same};
+ghost use Rattle.spelling.specs.Names.{leading, namesAt};
+ghost use Rattle.spelling.specs.Meanings.{position};
+ghost use Rattle.naming.specs.Named.{calledBy};
+use crate::Called;
+use crate::parts::rest_from;
+use words::bytes::byte_at;
+use words::bytes::is_name_byte;
+
+// Whether the word is the name at the head of these bytes.
+fn same_name(word: &[u8], rest: &[u8]) -> bool
+    requires { ⌜ all isNameByte (now word) ≡ true ⌝ }
+    ensures { λ r. ⌜ r ≡ same (now (word .entry)) (leading (now (rest .entry))) ⌝ }
+{
+    if rest.len() < word.len() {
+        return false;
+    }
+    let mut k: usize = 0;
+    while k < word.len() {
+        if rest[k] != word[k] {
+            return false;
+        }
+        k += 1;
+    }
+    !is_name_byte(byte_at(rest, k))
+}
+
+// The first row from `from` on that has this name, or the number of rows.
+fn first_named(description: &[u8], places: &[u32], word: &[u8], from: usize) -> usize
+    requires { ⌜ (all isNameByte (now word) ≡ true) × (from ≤ length (now places)) ⌝ }
+    ensures { λ r. ⌜ r ≡ from + position (now (word .entry)) (drop from (namesAt (now (description .entry)) (now (places .entry)))) ⌝ }
+{
+    let mut k = from;
+    while k < places.len() {
+        if same_name(word, rest_from(description, places[k])) {
+            return k;
+        }
+        k += 1;
+    }
+    k
+}
+
+// The row that has this name, if there is one and no other has it.
+pub fn row_named(description: &[u8], places: &[u32], word: &[u8]) -> Called
+    requires { ⌜ (all isNameByte (now word) ≡ true) × (length (now places) ≤ 64) ⌝ }
+    ensures { λ r. ⌜ r ≡ calledBy (now (word .entry)) (namesAt (now (description .entry)) (now (places .entry))) ⌝ }
+{
+    let first = first_named(description, places, word, 0);
+    if first == places.len() {
+        return Called::Not;
+    }
+    let second = first_named(description, places, word, first + 1);
+    if second == places.len() {
+        return Called::Row(first as u32);
+    }
+    Called::Not
+}

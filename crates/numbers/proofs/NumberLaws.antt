@@ -1,0 +1,211 @@
+-- Laws of numbers: their order, powers of ten, numbers that digits write, and signed values at their scales.
+use mathlib.Core.Path.{_≡_, refl, sym, ap, ap₂, _∙_}
+use mathlib.Core.Bool.{Bool, true, false, false≢true, _&&_}
+use mathlib.Core.List.{List, [], _∷_, _++_}
+use Prim.Native.Nat.{ℕ, zero, suc, _+_, _-_, _*_, _/_, _%_, _^_, _≤_, _<_}
+use native.Mathlib.Omega.{arith}
+use native.Mathlib.Numerals.{add-one}
+use native.Mathlib.Decide.{decLt}
+use native.Mathlib.Nat.{zero-mul, mul-comm, mul-assoc, div-add-mod', div-lt-iff-lt-mul, div-mul-le-self, mod-lt, mul-pos, mul-lt-mul-of-pos-right, mul-le-mul-left, mul-le-mul-right, le-antisymm, pow-suc, pow-le-pow-right}
+use lib.Dec.{eqb, eqb·suc-zero}
+use lib.IntN.{ℤ, pos, _*ℤ_}
+use lib.ListN.{length, getD, take}
+use lib.Pow.{pow-add}
+use lib.Seq.{take-suc, take-all, length-take-le}
+use borrow.Author.Tests.{eqb-true, eqb-false}
+use Rattle.content.specs.Content.{lastByte, butLast, numberFrom, signed}
+use Rattle.content.specs.Packed.{leftHalf, rightHalf, packedFrom}
+use Rattle.compare.specs.declared.Order.the-variants.{Less, Equal, Greater}
+use Rattle.compare.specs.Order.{order, orderℤ}
+use Rattle.compare.specs.Compared.{scaledOrder}
+use Rattle.compare.proofs.OrderLaws.{order-lt, order-eq, order-gt}
+
+order-same : (a b x y : ℕ) → (x < y → a < b) → (x ≡ y → a ≡ b) → (y < x → b < a) → order a b ≡ order x y
+order-same a b x y f e g = go (decLt x y) (decLt y x)
+  where
+    go : Dec (x < y) → Dec (y < x) → order a b ≡ order x y
+    go (yes h) d = order-lt a b (f h) ∙ sym (order-lt x y h)
+    go (no n) (yes h) = order-gt a b (g h) ∙ sym (order-gt x y h)
+    go (no n) (no m) = let q : x ≡ y = omega arith in order-eq a b (e q) ∙ sym (order-eq x y q)
+
+order-shift : (k a b : ℕ) → order (k + a) (k + b) ≡ order a b
+order-shift k a b = order-same (k + a) (k + b) a b (λ h. omega arith) (λ h. omega arith) (λ h. omega arith)
+
+order-scale : (k a b : ℕ) → 0 < k → order (a * k) (b * k) ≡ order a b
+order-scale k a b z =
+    order-same (a * k) (b * k) a b (λ h. mul-lt-mul-of-pos-right h z) (λ h. ap (λ (n : ℕ). n * k) h) (λ h. mul-lt-mul-of-pos-right h z)
+
+-- powers of ten
+pub ten-more : (i : ℕ) → 10 ^ (i + 1) ≡ 10 * 10 ^ i
+ten-more i = rw (add-one, pow-suc) (mul-comm _ _)
+
+pub ten-most : (i : ℕ) → i ≤ 18 → 10 ^ i ≤ 10 ^ 18
+ten-most i h = pow-le-pow-right (omega arith) h
+
+pub ten-pos : (s : ℕ) → 0 < 10 ^ s
+ten-pos s = pow-le-pow-right {n = 10} (omega arith) {i = 0} {j = s} (omega arith)
+
+tens : (s : ℕ) → s ≤ 18 → 10 ^ s * 10 ^ (18 - s) ≡ 10 ^ 18
+tens s h = sym (pow-add 10 s (18 - s)) ∙ ap (λ (n : ℕ). 10 ^ n) {x = s + (18 - s)} {y = 18} (omega arith)
+
+-- the number that digits write: with one digit more, of the first i + 1 bytes, of all
+number-append : (n : ℕ) (xs : List ℕ) (b : ℕ) → numberFrom n (xs ++ b ∷ []) ≡ numberFrom n xs * 10 + b % 16
+unfolding numberFrom
+number-append n [] b = refl
+number-append n (x ∷ xs) b = number-append (n * 10 + x % 16) xs b
+
+pub number-one-more : (xs : List ℕ) (i : ℕ) → i < length xs → numberFrom 0 (take (i + 1) xs) ≡ numberFrom 0 (take i xs) * 10 + getD xs i 0 % 16
+number-one-more xs i h = rw (add-one, take-suc xs i 0) (number-append 0 (take i xs) (getD xs i 0))
+
+pub number-last : (bytes : List ℕ) → 1 ≤ length bytes → numberFrom 0 (butLast bytes) * 10 + lastByte bytes % 16 ≡ numberFrom 0 bytes
+number-last bytes h =
+    sym (number-one-more bytes (length bytes - 1) (omega arith))
+    ∙ ap (numberFrom 0) (take-all (length bytes - 1 + 1) bytes (omega arith))
+
+-- how large it is: of 18 digits, those before one leave room for it
+number-below : (n : ℕ) (xs : List ℕ) → numberFrom n xs + 2 ≤ (n + 2) * 10 ^ length xs
+unfolding numberFrom
+number-below n [] = omega arith
+number-below n (x ∷ xs) =
+    let digit : n * 10 + x % 16 + 2 ≤ (n + 2) * 10 = omega arith in
+    let rest : numberFrom n (x ∷ xs) + 2 ≤ (n * 10 + x % 16 + 2) * 10 ^ length xs = number-below (n * 10 + x % 16) xs in
+    let ten : 10 ^ suc (length xs) ≡ 10 * 10 ^ length xs = rw pow-suc (mul-comm _ _) in
+    let more : (n + 2) * 10 ^ length (x ∷ xs) ≡ (n + 2) * 10 * 10 ^ length xs =
+    ap (λ (t : ℕ). (n + 2) * t) ten ∙ sym (mul-assoc (n + 2) 10 (10 ^ length xs)) in
+    omega (arith, more, rest, mul-le-mul-right (10 ^ length xs) digit)
+
+number-small : (xs : List ℕ) (i : ℕ) → i ≤ length xs → numberFrom 0 (take i xs) + 2 ≤ 2 * 10 ^ i
+number-small xs i h = rw (length-take-le i xs h) at (number-below 0 (take i xs))
+
+pub number-room : (xs : List ℕ) (i : ℕ) → i < length xs → length xs ≤ 18 → numberFrom 0 (take i xs) * 10 + 20 ≤ 2 * 10 ^ 18
+number-room xs i h few = omega (arith, number-small xs i (omega arith), ten-more i, ten-most (i + 1) (omega arith))
+
+-- the same of pairs of digits, and how large ten bytes can be
+packed-append : (n : ℕ) (xs : List ℕ) (b : ℕ) → packedFrom n (xs ++ b ∷ []) ≡ packedFrom n xs * 100 + leftHalf b * 10 + rightHalf b
+unfolding packedFrom
+packed-append n [] b = refl
+packed-append n (x ∷ xs) b = packed-append (n * 100 + leftHalf x * 10 + rightHalf x) xs b
+
+pub packed-one-more : (xs : List ℕ) (i : ℕ) → i < length xs
+    → packedFrom 0 (take (i + 1) xs) ≡ packedFrom 0 (take i xs) * 100 + leftHalf (getD xs i 0) * 10 + rightHalf (getD xs i 0)
+packed-one-more xs i h = rw (add-one, take-suc xs i 0) (packed-append 0 (take i xs) (getD xs i 0))
+
+packed-below : (n : ℕ) (xs : List ℕ) → packedFrom n xs * 99 + 165 ≤ (n * 99 + 165) * 100 ^ length xs
+unfolding packedFrom
+packed-below n [] = omega arith
+packed-below n (x ∷ xs) =
+    let next : ℕ = n * 100 + leftHalf x * 10 + rightHalf x in
+    let digits : next * 99 + 165 ≤ (n * 99 + 165) * 100 = omega arith in
+    let rest : packedFrom n (x ∷ xs) * 99 + 165 ≤ (next * 99 + 165) * 100 ^ length xs = packed-below next xs in
+    let hundred : 100 ^ suc (length xs) ≡ 100 * 100 ^ length xs = rw pow-suc (mul-comm _ _) in
+    let more : (n * 99 + 165) * 100 ^ length (x ∷ xs) ≡ (n * 99 + 165) * 100 * 100 ^ length xs =
+    ap (λ (t : ℕ). (n * 99 + 165) * t) hundred ∙ sym (mul-assoc (n * 99 + 165) 100 (100 ^ length xs)) in
+    omega (arith, more, rest, mul-le-mul-right (100 ^ length xs) digits)
+
+-- how large it is: nine bytes leave room for the digit of the tenth, and eight for the ninth byte
+pub packed-room : (xs : List ℕ) (i most : ℕ) → i ≤ length xs → i ≤ most → packedFrom 0 (take i xs) * 99 ≤ 165 * 100 ^ most
+packed-room xs i most h few =
+    let below : packedFrom 0 (take i xs) * 99 + 165 ≤ 165 * 100 ^ i = rw (length-take-le i xs h) at (packed-below 0 (take i xs)) in
+    let powers : 100 ^ i ≤ 100 ^ most = pow-le-pow-right (omega arith) few in
+    omega (arith, below, mul-le-mul-left 165 powers)
+
+-- D1 × 10^s2 against D2 × 10^s1: at one scale the digits decide
+pub same-scale : (d1 d2 : ℕ) {s1 s2 : ℕ} → s1 ≡ s2 → order (d1 * 10 ^ s2) (d2 * 10 ^ s1) ≡ order d1 d2
+same-scale d1 d2 {s1} {s2} e = rw e (order-scale (10 ^ s2) d1 d2 (ten-pos s2))
+
+-- whole parts that differ decide
+whole-less : (d1 d2 p1 p2 : ℕ) → 0 < p1 → 0 < p2 → d1 / p1 < d2 / p2 → d1 * p2 < d2 * p1
+whole-less d1 d2 p1 p2 z1 z2 h =
+    omega (arith, mul-lt-mul-of-pos-right (div-lt-iff-lt-mul z1 .0 h) z2, mul-le-mul-right p1 (div-mul-le-self d2 p2))
+
+-- with equal whole parts the rests decide, each brought to the same power
+rest-order : (d1 d2 p1 p2 q1 q2 t : ℕ) → 0 < q1 → 0 < q2 → 0 < t → p1 * q1 ≡ t → p2 * q2 ≡ t → d1 / p1 ≡ d2 / p2
+    → order (d1 * p2) (d2 * p1) ≡ order (d1 % p1 * q1) (d2 % p2 * q2)
+rest-order d1 d2 p1 p2 q1 q2 t z1 z2 zt e1 e2 same =
+    let r1 : ℕ = d1 % p1 in
+    let r2 : ℕ = d2 % p2 in
+    let k : ℕ = d2 / p2 * (p1 * p2) in
+    let u1 : d1 * p2 ≡ k + r1 * p2 = omega (arith, ap (λ (x : ℕ). x * p2) (div-add-mod' d1 p1), ap (λ (x : ℕ). x * (p1 * p2)) same) in
+    let u2 : d2 * p1 ≡ k + r2 * p1 = omega (arith, ap (λ (x : ℕ). x * p1) (div-add-mod' d2 p2)) in
+    let w1 : r1 * p2 * (q1 * q2) ≡ r1 * q1 * t = omega (arith, ap (λ (x : ℕ). r1 * q1 * x) e2) in
+    let w2 : r2 * p1 * (q1 * q2) ≡ r2 * q2 * t = omega (arith, ap (λ (x : ℕ). r2 * q2 * x) e1) in
+    ap₂ order u1 u2
+    ∙ order-shift k (r1 * p2) (r2 * p1)
+    ∙ sym (order-scale (q1 * q2) (r1 * p2) (r2 * p1) (mul-pos z1 z2))
+    ∙ ap₂ order w1 w2
+    ∙ order-scale t (r1 * q1) (r2 * q2) zt
+
+-- the same at the powers p that calls return
+module _ (d1 d2 s1 s2 : ℕ) {p1 p2 : ℕ} (e1 : p1 ≡ 10 ^ s1) (e2 : p2 ≡ 10 ^ s2) where
+  pub by-whole-less : d1 / p1 < d2 / p2 → order (d1 * 10 ^ s2) (d2 * 10 ^ s1) ≡ Less
+  by-whole-less h = order-lt _ _ (whole-less d1 d2 (10 ^ s1) (10 ^ s2) (ten-pos s1) (ten-pos s2) (rw (e1, e2) at h))
+
+  pub by-whole-greater : d2 / p2 < d1 / p1 → order (d1 * 10 ^ s2) (d2 * 10 ^ s1) ≡ Greater
+  by-whole-greater h = order-gt _ _ (whole-less d2 d1 (10 ^ s2) (10 ^ s1) (ten-pos s2) (ten-pos s1) (rw (e1, e2) at h))
+
+  pub by-rest : {q1 q2 : ℕ} → q1 ≡ 10 ^ (18 - s1) → q2 ≡ 10 ^ (18 - s2) → s1 ≤ 18 → s2 ≤ 18 → d2 / p2 ≤ d1 / p1 → d1 / p1 ≤ d2 / p2
+      → order (d1 * 10 ^ s2) (d2 * 10 ^ s1) ≡ order (d1 % p1 * q1) (d2 % p2 * q2)
+  by-rest f1 f2 h1 h2 g l =
+      rw (f1, f2, e1, e2)
+      (rest-order d1 d2 (10 ^ s1) (10 ^ s2) (10 ^ (18 - s1)) (10 ^ (18 - s2)) (10 ^ 18)
+      (ten-pos (18 - s1)) (ten-pos (18 - s2)) (ten-pos 18) (tens s1 h1) (tens s2 h2)
+      (rw (e1, e2) at (le-antisymm l g)))
+
+-- a rest brought to 18 places is below 10^18
+pub rest-below : (d s : ℕ) {p q : ℕ} → s ≤ 18 → p ≡ 10 ^ s → q ≡ 10 ^ (18 - s) → d % p * q < 10 ^ 18
+rest-below d s h e f = rw (e, f, ← tens s h) (mul-lt-mul-of-pos-right (mod-lt d (ten-pos s)) (ten-pos (18 - s)))
+
+-- the order of two values, each a sign and a magnitude
+minus-minus : (a b : ℕ) → orderℤ (signed true a) (signed true b) ≡ order b a
+minus-minus zero zero = refl
+minus-minus zero (suc b) = sym (order-gt (suc b) 0 (omega arith))
+minus-minus (suc a) zero = sym (order-lt 0 (suc a) (omega arith))
+minus-minus (suc a) (suc b) = sym (order-same (suc b) (suc a) b a (λ h. omega arith) (λ h. omega arith) (λ h. omega arith))
+
+pub minus-plus : (a b : ℕ) → 0 < a + b → orderℤ (signed true a) (signed false b) ≡ Less
+minus-plus zero b h = order-lt 0 b (omega arith)
+minus-plus (suc a) b h = refl
+
+plus-minus : (a b : ℕ) → 0 < a + b → orderℤ (signed false a) (signed true b) ≡ Greater
+plus-minus a zero h = order-gt a 0 (omega arith)
+plus-minus a (suc b) h = refl
+
+pub zero-zero : (m n : Bool) → orderℤ (signed m 0) (signed n 0) ≡ Equal
+zero-zero true true = refl
+zero-zero true false = refl
+zero-zero false true = refl
+zero-zero false false = refl
+
+-- a value keeps its sign when it is scaled
+scaled : (m : Bool) (d p : ℕ) → signed m d *ℤ pos p ≡ signed m (d * p)
+scaled true zero p = rw (zero-mul p)
+scaled true (suc d) p = refl
+scaled false d p = refl
+
+-- two values of which both are 0, or not both
+both-zero : (a b : ℕ) → eqb a 0 && eqb b 0 ≡ true → (a ≡ 0) × (b ≡ 0)
+both-zero zero b e = (refl, eqb-true b 0 e)
+both-zero (suc a) b e = absurd (false≢true (rw (eqb·suc-zero a) at e))
+
+not-both : (a b s t : ℕ) → eqb a 0 && eqb b 0 ≡ false → 0 < a * 10 ^ s + b * 10 ^ t
+not-both zero b s t e = let n = eqb-false b 0 e in omega (arith, mul-le-mul-left b (ten-pos t))
+not-both (suc a) b s t e = omega (arith, mul-le-mul-left (suc a) (ten-pos s))
+
+-- the ways of a comparison of two values at their scales
+module _ (d1 s1 d2 s2 : ℕ) where
+  scaled-order : (m n : Bool) → scaledOrder (signed m d1) s1 (signed n d2) s2 ≡ orderℤ (signed m (d1 * 10 ^ s2)) (signed n (d2 * 10 ^ s1))
+  scaled-order m n = ap₂ orderℤ (scaled m d1 (10 ^ s2)) (scaled n d2 (10 ^ s1))
+
+  pub scaled-minus : scaledOrder (signed true d1) s1 (signed true d2) s2 ≡ order (d2 * 10 ^ s1) (d1 * 10 ^ s2)
+  scaled-minus = scaled-order true true ∙ minus-minus (d1 * 10 ^ s2) (d2 * 10 ^ s1)
+
+  pub scaled-zero : (m n : Bool) → eqb d1 0 && eqb d2 0 ≡ true → scaledOrder (signed m d1) s1 (signed n d2) s2 ≡ Equal
+  scaled-zero m n e =
+      let z = both-zero d1 d2 e in
+      scaled-order m n ∙ rw (z .0, z .1, zero-mul (10 ^ s2), zero-mul (10 ^ s1)) (zero-zero m n)
+
+  pub scaled-less : eqb d1 0 && eqb d2 0 ≡ false → scaledOrder (signed true d1) s1 (signed false d2) s2 ≡ Less
+  scaled-less e = scaled-order true false ∙ minus-plus (d1 * 10 ^ s2) (d2 * 10 ^ s1) (not-both d1 d2 s2 s1 e)
+
+  pub scaled-greater : eqb d1 0 && eqb d2 0 ≡ false → scaledOrder (signed false d1) s1 (signed true d2) s2 ≡ Greater
+  scaled-greater e = scaled-order false true ∙ plus-minus (d1 * 10 ^ s2) (d2 * 10 ^ s1) (not-both d1 d2 s2 s1 e)

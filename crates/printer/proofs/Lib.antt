@@ -1,0 +1,3 @@
+pub mod Literally
+pub mod Wording
+pub mod Lining

@@ -1,0 +1,128 @@
+-- The word of a token, by its kind.
+use mathlib.Core.Path.{_≡_, refl, sym, ap, _∙_}
+use mathlib.Core.Bool.{Bool, true, false, cond, not, _&&_, _||_}
+use mathlib.Core.List.{List, [], _∷_, map}
+use Prim.Native.Nat.{ℕ, _+_, _*_, _/_, _%_, _≤_, _<_}
+use native.Mathlib.Omega.{arith}
+use lib.Dec.{eqb, leb, ltb}
+use lib.ListN.{length, getD, drop}
+use borrow.Author.Tests.{leb-true, ltb-true, ne-eqb, not-true}
+use Rattle.tables.specs.declared.Row.{Row}
+use Rattle.tables.specs.Rows.{rowCount, rowAt}
+use Rattle.tables.specs.Tokens.{isItem, isLiteral, isOn, isOff, isWord, exists}
+use Rattle.tables.specs.Tables.{literalSound}
+use Rattle.tables.proofs.Tests.{both}
+use Rattle.description.specs.Grammar.{same}
+use Rattle.spelling.specs.Literals.{written}
+use Rattle.spelling.specs.Keywords.{spellings, UPSI}
+use Rattle.spelling.specs.Names.{leading, namesAt}
+use Rattle.spelling.specs.Printing.{printable, wordOf, literalAt}
+use Rattle.spelling.proofs.Cutting.{same-true}
+use Rattle.naming.proofs.Finding.{names-length, name-at}
+use Rattle.vocabulary.specs.Spellings.{spelt}
+use Rattle.vocabulary.proofs.Cells.{allBelow, below}
+use Rattle.printer.specs.Prints.{literalOf, Printable}
+
+-- words and switches in the table
+abbrev words-right : ℕ → Bool
+words-right k = same (getD spelt k []) (getD spellings k [])
+
+abbrev switches-right : ℕ → Bool
+switches-right k = same (getD spelt (17 + k) []) (UPSI k)
+
+all-words : allBelow 17 words-right ≡ true
+unfolding allBelow same
+all-words = refl
+
+all-switches : allBelow 8 switches-right ≡ true
+unfolding allBelow same
+all-switches = refl
+
+-- which of four is true
+only-first : (a b c d : Bool) → b ≡ false → c ≡ false → d ≡ false → a || b || c || d ≡ true → a ≡ true
+only-first true b c d p q r e = refl
+only-first false b c d p q r e = rw (p, q, r) at e
+
+only-second : (a b c d : Bool) → a ≡ false → c ≡ false → d ≡ false → a || b || c || d ≡ true → b ≡ true
+only-second a true c d p q r e = refl
+only-second a false c d p q r e = rw (p, q, r) at e
+
+only-third : (a b c d : Bool) → a ≡ false → b ≡ false → d ≡ false → a || b || c || d ≡ true → c ≡ true
+only-third a b true d p q r e = refl
+only-third a b false d p q r e = rw (p, q, r) at e
+
+only-fourth : (a b c d : Bool) → a ≡ false → b ≡ false → c ≡ false → a || b || c || d ≡ true → d ≡ true
+only-fourth a b c true p q r e = refl
+only-fourth a b c false p q r e = rw (p, q, r) at e
+
+module _ (description places rows content : List ℕ) (t : ℕ) (P : Printable (namesAt description places) rows content t) where
+  abbrev names : List (List ℕ)
+  names = namesAt description places
+
+  abbrev v : ℕ
+  v = t % 65536
+
+  abbrev a : Bool
+  a = isItem t && ltb v (length names)
+
+  abbrev b : Bool
+  b = isLiteral t && ltb v (rowCount rows)
+
+  abbrev c : Bool
+  c = (isOn t || isOff t && true) && leb v 7
+
+  abbrev d : Bool
+  d = isWord t && leb v 16
+
+  there : (a || b || c || d ≡ true) × (isOff t ≡ false)
+  there = let e = both (exists true (length names) (rowCount rows) t) (not (isOff t)) (P .there) in (e .0, not-true (isOff t) (e .1))
+
+  -- an item
+  module _ (k : t / 65536 ≡ 0) where
+    pub item-there : v < length places
+    item-there =
+        let e = only-first a b c d (rw k) (rw k) (rw k) (there .0) in
+        omega (arith, ltb-true v (length names) (both (isItem t) (ltb v (length names)) e .1), names-length description places)
+
+    pub item-word : wordOf names rows content t ≡ leading (drop (getD places v 0) description)
+    item-word = rw k (name-at description places v item-there)
+
+  -- a literal
+  module _ (k : t / 65536 ≡ 1) where
+    pub literal-there : v * 5 + 4 < length rows
+    literal-there =
+        let e = only-second a b c d (rw k) (rw k) (rw k) (there .0) in
+        omega (arith, ltb-true v (rowCount rows) (both (isLiteral t) (ltb v (rowCount rows)) e .1))
+
+    pub literal-sound : literalSound content (rowAt rows v) ≡ true
+    literal-sound = P .sound v (omega (arith, literal-there))
+
+    pub literal-word : wordOf names rows content t ≡ written (literalOf (rowAt rows v) content)
+    literal-word = rw k
+
+  -- a switch
+  module _ (k : t / 65536 ≡ 2) where
+    pub switch-there : v ≤ 7
+    switch-there =
+        let e = only-third a b c d (rw k) (rw k) (rw k) (there .0) in
+        leb-true v 7 (both (isOn t || isOff t && true) (leb v 7) e .1)
+
+    pub switch-word : wordOf names rows content t ≡ getD spelt (17 + v) []
+    switch-word = rw k (sym (same-true (getD spelt (17 + v) []) (UPSI v) (below 8 switches-right all-switches v (omega (arith, switch-there)))))
+
+  -- a word
+  module _ (p : t / 65536 ≡ 0 → ⊥) (q : t / 65536 ≡ 1 → ⊥) (r : t / 65536 ≡ 2 → ⊥) where
+    pub word-there : v ≤ 16
+    word-there =
+        let i : isItem t ≡ false = ne-eqb (t / 65536) 0 p in
+        let l : isLiteral t ≡ false = ne-eqb (t / 65536) 1 q in
+        let o : isOn t ≡ false = ne-eqb (t / 65536) 2 r in
+        let e = only-fourth a b c d (rw i) (rw l) (rw (o, there .1)) (there .0) in
+        leb-true v 16 (both (isWord t) (leb v 16) e .1)
+
+    pub word-word : wordOf names rows content t ≡ getD spelt v []
+    word-word =
+        let i : isItem t ≡ false = ne-eqb (t / 65536) 0 p in
+        let l : isLiteral t ≡ false = ne-eqb (t / 65536) 1 q in
+        let o : isOn t ≡ false = ne-eqb (t / 65536) 2 r in
+        rw (i, l, o) (sym (same-true (getD spelt v []) (getD spellings v []) (below 17 words-right all-words v (omega (arith, word-there)))))

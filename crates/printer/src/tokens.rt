@@ -1,0 +1,119 @@
+// The word of one token.
+ghost use mathlib.Core.Path.{_≡_};
+ghost use mathlib.Core.Bool.{true};
+ghost use Prim.Native.Nat.{_≤_};
+ghost use lib.ListN.{length, drop};
+ghost use Rattle.tables.specs.Tables.{literalSound};
+ghost use Rattle.spelling.specs.Literals.{written};
+ghost use Rattle.spelling.specs.Names.{leading, namesAt};
+ghost use Rattle.spelling.specs.Printing.{wordOf};
+ghost use Rattle.literal_words.specs.Found.{writtenOver};
+ghost use Rattle.printer.specs.Prints.{literalOf, Printable};
+use literal_words::copies::copy_bytes;
+use naming::parts::name_part;
+use quoting::parts::pointed_size;
+use quoting::parts::put_pointed;
+use quoting::parts::put_quoted;
+use quoting::parts::quoted_size;
+use tables::Row;
+use tables::rows::row_at;
+use tables::rows::row_part;
+use vocabulary::spellings::copy_word;
+use vocabulary::spellings::word_size;
+
+fn wide(x: u32) -> usize
+    ensures { λ r. ⌜ r ≡ x ⌝ }
+{
+    x as usize
+}
+
+fn literal_size(row: Row, bytes: &[u8]) -> usize
+    requires { ⌜ literalSound (now bytes) row ≡ true ⌝ }
+    ensures { λ r. ⌜ r ≡ length (written (literalOf row (now (bytes .entry)))) ⌝ }
+{
+    let part = row_part(row, bytes);
+    if row.kind == 2 {
+        return quoted_size(part);
+    }
+    pointed_size(wide(row.scale), part)
+}
+
+fn put_literal(row: Row, bytes: &[u8], out: &mut [u8])
+    requires { ⌜ (literalSound (now bytes) row ≡ true) × (length (written (literalOf row (now bytes))) ≤ length (now out)) ⌝ }
+    ensures { λ _. ⌜ now (out .exit) ≡ writtenOver (written (literalOf row (now (bytes .entry)))) (now (out .entry)) ⌝ }
+{
+    let part = row_part(row, bytes);
+    if row.kind == 2 {
+        put_quoted(part, out);
+        return;
+    }
+    put_pointed(wide(row.scale), part, out);
+}
+
+fn name_size(description: &[u8], place: u32) -> usize
+    ensures { λ r. ⌜ r ≡ length (leading (drop place (now (description .entry)))) ⌝ }
+{
+    let name = name_part(description, place);
+    name.len()
+}
+
+fn put_name(description: &[u8], place: u32, out: &mut [u8])
+    requires { ⌜ length (leading (drop place (now description))) ≤ length (now out) ⌝ }
+    ensures { λ _. ⌜ now (out .exit) ≡ writtenOver (leading (drop place (now (description .entry)))) (now (out .entry)) ⌝ }
+{
+    let name = name_part(description, place);
+    copy_bytes(name, out);
+}
+
+pub fn token_size(
+    description: &[u8],
+    places: &[u32],
+    literals: &[u32],
+    bytes: &[u8],
+    token: u32,
+) -> usize
+    requires { ⌜ Printable (namesAt (now description) (now places)) (now literals) (now bytes) token ⌝ }
+    ensures { λ r. ⌜ r ≡ length (wordOf (namesAt (now (description .entry)) (now (places .entry))) (now (literals .entry)) (now (bytes .entry)) token) ⌝ }
+{
+    let v = wide(token % 65536);
+    let kind = token / 65536;
+    if kind == 0 {
+        return name_size(description, places[v]);
+    }
+    if kind == 1 {
+        return literal_size(row_at(literals, v), bytes);
+    }
+    if kind == 2 {
+        return word_size(17 + v);
+    }
+    word_size(v)
+}
+
+pub fn put_token(
+    description: &[u8],
+    places: &[u32],
+    literals: &[u32],
+    bytes: &[u8],
+    token: u32,
+    out: &mut [u8],
+)
+    requires { ⌜ Printable (namesAt (now description) (now places)) (now literals) (now bytes) token ⌝ }
+    requires { ⌜ length (wordOf (namesAt (now description) (now places)) (now literals) (now bytes) token) ≤ length (now out) ⌝ }
+    ensures { λ _. ⌜ now (out .exit) ≡ writtenOver (wordOf (namesAt (now (description .entry)) (now (places .entry))) (now (literals .entry)) (now (bytes .entry)) token) (now (out .entry)) ⌝ }
+{
+    let v = wide(token % 65536);
+    let kind = token / 65536;
+    if kind == 0 {
+        put_name(description, places[v], out);
+        return;
+    }
+    if kind == 1 {
+        put_literal(row_at(literals, v), bytes, out);
+        return;
+    }
+    if kind == 2 {
+        copy_word(17 + v, out);
+        return;
+    }
+    copy_word(v, out);
+}

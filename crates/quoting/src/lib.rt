@@ -1,0 +1,3 @@
+// Literals as they are written: in quotes, or with a point.
+
+pub mod parts; // their bytes

@@ -1,0 +1,3 @@
+pub mod Joined
+pub mod Looking
+pub mod Numbered

@@ -1,0 +1,71 @@
+// What a word means.
+ghost use mathlib.Core.Path.{_≡_};
+ghost use mathlib.Core.Bool.{true};
+ghost use Prim.Native.Nat.{_≤_};
+ghost use lib.ListN.{length};
+ghost use Rattle.description.specs.Reader.{isName};
+ghost use Rattle.spelling.specs.Names.{namesAt};
+ghost use Rattle.spelling.specs.Keywords.{vocabulary};
+ghost use Rattle.spelling.specs.Meanings.{lookup, named, meaning};
+ghost use Rattle.senses.specs.Senses.{textRow, senseOf};
+use crate::Sense;
+use crate::vocables::vocable;
+use literal_words::Number;
+use literal_words::Text;
+use literal_words::numbers::read_number;
+use literal_words::quotes::read_text;
+use naming::Called;
+use naming::names::row_named;
+use tables::Row;
+use words::names::is_name;
+
+fn text_row(size: usize) -> Row
+    requires { ⌜ size ≤ 256 ⌝ }
+    ensures { λ r. ⌜ r ≡ textRow size ⌝ }
+{
+    Row {
+        kind: 2,
+        offset: 0,
+        size: size as u32,
+        scale: 0,
+        digits: 0,
+    }
+}
+
+// A name's row.
+fn item(description: &[u8], places: &[u32], word: &[u8]) -> Sense
+    requires { ⌜ (isName (now word) ≡ true) × (length (now places) ≤ 64) ⌝ }
+    ensures { λ r. ⌜ r ≡ senseOf (named (namesAt (now (description .entry)) (now (places .entry))) (now (word .entry))) ⌝ }
+{
+    let called = row_named(description, places, word);
+    match called {
+        Called::Row(v) => Sense::Item(v),
+        Called::Not => Sense::Fault(16),
+    }
+}
+
+// A word that is no literal.
+fn plain(description: &[u8], places: &[u32], word: &[u8]) -> Sense
+    requires { ⌜ length (now places) ≤ 64 ⌝ }
+    ensures { λ r. ⌜ r ≡ senseOf (lookup (now (word .entry)) (named (namesAt (now (description .entry)) (now (places .entry))) (now (word .entry))) vocabulary) ⌝ }
+{
+    if is_name(word) {
+        return item(description, places, word);
+    }
+    vocable(word)
+}
+
+pub fn sense_of(description: &[u8], places: &[u32], word: &[u8]) -> Sense
+    requires { ⌜ length (now places) ≤ 64 ⌝ }
+    ensures { λ r. ⌜ r ≡ senseOf (meaning (namesAt (now (description .entry)) (now (places .entry))) (now (word .entry))) ⌝ }
+{
+    let text = read_text(word);
+    if let Text::Is(size) = text {
+        return Sense::Literal(text_row(size));
+    }
+    let number = read_number(word);
+    match number {
+        Number::Is(row) => Sense::Literal(row),
+        Number::Not => plain(description, places, word),
+    }
+}

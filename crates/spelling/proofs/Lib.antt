@@ -1,0 +1,10 @@
+pub mod Cutting
+pub mod Joining
+pub mod Laying
+pub mod Plain
+pub mod Spelling
+pub mod Accepted
+pub mod Describing
+pub mod RoundTrip
+pub mod Taken
+pub mod Examples

@@ -1,0 +1,9 @@
+pub mod Words
+pub mod Literals
+pub mod Keywords
+pub mod Names
+pub mod Meanings
+pub mod Reading
+pub mod Printing
+pub mod RoundTrip
+pub mod Examples

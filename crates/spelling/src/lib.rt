@@ -1,0 +1,1 @@
+// Conditions as printed: definitions and theorems.

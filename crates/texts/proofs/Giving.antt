@@ -1,0 +1,120 @@
+-- What is read, given where there is room.
+use mathlib.Core.Path.{_≡_, refl, sym, ap, ap₂, _∙_, subst}
+use mathlib.Core.Bool.{Bool, true, false, cond, not, _&&_}
+use mathlib.Core.List.{List, [], _∷_, _++_}
+use Prim.Native.Nat.{ℕ, suc, _+_, _*_, _≤_, _<_}
+use native.Mathlib.Omega.{arith}
+use lib.Dec.{eqb, leb}
+use lib.ListN.{length, take, drop}
+use lib.Seq.{length-take-le}
+use borrow.Author.Tests.{le-leb, lt-leb}
+use Rattle.spelling.specs.Keywords.{Piece}
+use Rattle.spelling.specs.Reading.{pieces, Found, none, refusal, faultOf, tokensFrom, rowsFrom, bytesOf, Reading, read, refused, result, reading, readAfter, readCondition}
+use Rattle.description.specs.Limits.{Outcome, table, refusal as undescribed, describe}
+use Rattle.spelling.specs.Names.{namesAt, namesOf}
+use Rattle.literal_words.specs.Found.{writtenOver}
+use Rattle.lexer.specs.declared.Gathered.{Gathered}
+use Rattle.lexer.specs.declared.Lexed.{Lexed}
+use Rattle.lexer.specs.declared.Lexed.the-variants.{Whole, Fault}
+use Rattle.lexer.specs.Gathers.{Holds, Lexes}
+use Rattle.texts.specs.declared.Recognized.{Recognized}
+use Rattle.texts.specs.declared.Recognized.the-variants.{Counts, Description, Word, Name, TokenCount, Room}
+use Rattle.texts.specs.declared.Named.{Named}
+use Rattle.texts.specs.declared.Named.the-variants.{Places, Faulty}
+use Rattle.texts.specs.Calls.{refusedAs, outputOf, counted, ReadAs, NamesFound, NamedBy}
+
+-- n tokens, v numbers of rows and k bytes
+module _ (t r b tokens literals content : List ℕ) (n v k : ℕ) (en : n ≡ length t) (ev : v ≡ length r) (ek : k ≡ length b) where
+  abbrev Given : Recognized → List ℕ → List ℕ → List ℕ → Type 0
+  Given answer x y z = ReadAs (counted t r b) tokens literals content answer x y z
+
+  pub not-counted : leb 1 n && leb n 256 ≡ false → Given TokenCount tokens literals content
+  not-counted e = rw (rw en at e) record { answered = refl; tokens-written = refl; literals-written = refl; content-written = refl }
+
+  module _ (e : leb 1 n && leb n 256 ≡ true) where
+    counted-so : leb 1 (length t) && leb (length t) 256 ≡ true
+    counted-so = rw en at e
+
+    pub no-tokens : length tokens < n → Given (Room n) tokens literals content
+    no-tokens h =
+        let a = lt-leb (length t) (length tokens) (omega (arith, en)) in
+        rw (counted-so, en) record { answered = rw a; tokens-written = refl; literals-written = refl; content-written = refl }
+
+    module _ (h : n ≤ length tokens) where
+      first : leb (length t) (length tokens) ≡ true
+      first = le-leb (length t) (length tokens) (omega (arith, en))
+
+      pub no-rows : length literals < v → Given (Room v) tokens literals content
+      no-rows g =
+          let a = lt-leb (length r) (length literals) (omega (arith, ev)) in
+          rw (counted-so, ev) record { answered = rw (first, a); tokens-written = refl; literals-written = refl; content-written = refl }
+
+      module _ (g : v ≤ length literals) where
+        second : leb (length r) (length literals) ≡ true
+        second = le-leb (length r) (length literals) (omega (arith, ev))
+
+        pub no-bytes : length content < k → Given (Room k) tokens literals content
+        no-bytes l =
+            let a = lt-leb (length b) (length content) (omega (arith, ek)) in
+            rw (counted-so, ek) record { answered = rw (first, second, a); tokens-written = refl; literals-written = refl; content-written = refl }
+
+        pub all-given : {x y z : List ℕ} → k ≤ length content → x ≡ writtenOver t tokens → y ≡ writtenOver r literals → z ≡ writtenOver b content
+            → Given (Counts n v k) x y z
+        all-given l p q s =
+            let a = le-leb (length b) (length content) (omega (arith, ek)) in
+            rw (counted-so, en, ev, ek) record { answered = rw (first, second, a); tokens-written = p; literals-written = q; content-written = s }
+
+-- what was gathered is the reading
+module _ {names : List (List ℕ)} {text tokens rows bytes : List ℕ} (x : Lexed) (L : Lexes names text x tokens rows bytes) where
+  pub whole-sizes : {g : Gathered} → x ≡ Whole g → (g .tokens ≤ 2048) × (g .literals ≤ 64) × (g .bytes ≤ 2048)
+  whole-sizes e = let H = subst (λ (y : Lexed). Lexes names text y tokens rows bytes) e L .gives in (H .few-tokens, H .few-literals, H .few-bytes)
+
+  pub whole-reading : {g : Gathered} → x ≡ Whole g → counted (take (g .tokens) tokens) (take (g .literals * 5) rows) (take (g .bytes) bytes) ≡ reading names text
+  unfolding reading
+  whole-reading e =
+      let H = subst (λ (y : Lexed). Lexes names text y tokens rows bytes) e L .gives in
+      rw (H .faultless, H .tokens-are, H .rows-are, H .bytes-are)
+
+  pub fault-reading : {number place : ℕ} → x ≡ Fault number place → refused number place ≡ reading names text
+  unfolding reading
+  fault-reading e = let f = subst (λ (y : Lexed). Lexes names text y tokens rows bytes) e L .gives in rw f
+
+-- a refusal changes no output
+kept : (p q s : Bool) (place : ℕ) (out before : List ℕ)
+    → before ≡ outputOf (cond p (Description place) (cond q (Word place) (cond s (Name place) TokenCount))) out before
+kept true q s place out before = refl
+kept false true s place out before = refl
+kept false false true place out before = refl
+kept false false false place out before = refl
+
+pub refused-reading : {R : Reading} {number place : ℕ} {answer : Recognized} {tokens literals content : List ℕ} → refused number place ≡ R → answer ≡ refusedAs number place
+    → ReadAs R tokens literals content answer tokens literals content
+refused-reading {R} {number} {place} {answer} {tokens} {literals} {content} e f =
+    rw (← e, f)
+    record {
+      answered = refl;
+      tokens-written = kept (eqb number 14) (eqb number 15) (eqb number 16) place [] tokens;
+      literals-written = kept (eqb number 14) (eqb number 15) (eqb number 16) place [] literals;
+      content-written = kept (eqb number 14) (eqb number 15) (eqb number 16) place [] content;
+    }
+
+pub as-reading : {R S : Reading} {tokens literals content x y z : List ℕ} {answer : Recognized} → R ≡ S → ReadAs R tokens literals content answer x y z → ReadAs S tokens literals content answer x y z
+as-reading e r = rw (← e) r
+
+-- the description's names are those of its table
+module _ {description : List ℕ} (d : Named) {places : List ℕ} (N : NamedBy description d places) where
+  pub places-found : {n : ℕ} → d ≡ Places n → NamesFound description places n
+  places-found e = subst (λ (y : Named). NamedBy description y places) e N .gives
+
+  pub named-reading : {n : ℕ} (condition : List ℕ) → d ≡ Places n → reading (namesAt description (take n places)) condition ≡ readCondition description condition
+  named-reading {n} condition e =
+      let F = places-found e in
+      ap (λ (names : List (List ℕ)). reading names condition) (F .names-are) ∙ sym (ap (λ (o : Outcome). readAfter description o condition) (F .described))
+
+  pub undescribed-reading : {p : ℕ} (condition : List ℕ) → d ≡ Faulty p → refused 14 p ≡ readCondition description condition
+  undescribed-reading condition e =
+      let f = subst (λ (y : Named). NamedBy description y places) e N .gives in
+      sym (ap (λ (o : Outcome). readAfter description o condition) f)
+
+  pub places-few : {n : ℕ} → d ≡ Places n → length (take n places) ≤ 64
+  places-few {n} e = let F = places-found e in omega (arith, length-take-le n places (F .there), F .few)

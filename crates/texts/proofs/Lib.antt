@@ -1,0 +1,3 @@
+pub mod Describing
+pub mod Giving
+pub mod Refusing

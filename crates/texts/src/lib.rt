@@ -1,0 +1,33 @@
+// Conditions as printed: the calls.
+
+pub mod calls; // the calls that users make
+mod names; // the names of a description
+mod outputs; // what is given where there is room
+
+use tables::Refusal;
+
+// What `read` answers: the counts of numbers or bytes written, outputs in the order named; or a refusal:
+// the place of 14, of 15, of 16; 5; or what is needed in the first output that is too short.
+// Numbers and places: specs/Calls.antt.
+pub enum Recognized {
+    Counts(usize, usize, usize),
+    Description(usize),
+    Word(usize),
+    Name(usize),
+    TokenCount,
+    Room(usize),
+}
+
+// What `print` answers: the count of bytes written; or a refusal: the place of 14; 3 to 6 or 10; the token of 16.
+pub enum Printed {
+    Count(usize),
+    Description(usize),
+    Refused(Refusal),
+    Name(usize),
+}
+
+// The places of a description's names, so many; or the place of 14.
+pub enum Named {
+    Places(usize),
+    Faulty(usize),
+}
