@@ -6,7 +6,7 @@ use Prim.Native.Nat.{ℕ, zero, suc, _+_, _-_, _≤_, _<_}
 use native.Mathlib.Omega.{arith}
 use native.Mathlib.Numerals.{add-one}
 use lib.ListN.{length, getD, take, drop, length-drop, drop-of-length-le}
-use lib.Seq.{drop-cons, drop-drop, take-append-seam}
+use lib.Seq.{drop-cons, drop-drop, take-append-seam, getD-take}
 use lib.Dec.{eqb}
 use borrow.Author.Tests.{eq-eqb, ne-eqb, eqb-true, not-true, not-false}
 use Rattle.description.specs.Grammar.{all, isNameByte, same}
@@ -62,6 +62,16 @@ module _ (rest : List ℕ) (n : ℕ) (e : n ≡ length (leading rest)) where
 -- a word beside the name at the head of some bytes
 pub too-short : (word rest : List ℕ) → length rest < length word → false ≡ same word (leading rest)
 too-short word rest h = same-lengths word (leading rest) (λ e. omega (arith, leading-short rest))
+
+-- a word that is the name has the bytes that stand there, the last one too
+pub byte-differs : (word rest : List ℕ) (k : ℕ) → k < length word → (getD rest k 0 ≡ getD word k 0 → ⊥) → same word (leading rest) ≡ false
+byte-differs word rest k h e = by (same word (leading rest)) refl
+  where
+    by : (t : Bool) → same word (leading rest) ≡ t → t ≡ false
+    by false q = refl
+    by true q =
+        let name : word ≡ leading rest = same-true word (leading rest) q in
+        absurd (e (sym (getD-take (length (leading rest)) rest k 0 (omega (arith, ap length name))) ∙ ap (λ (v : List ℕ). getD v k 0) (leading-first rest ∙ sym name)))
 
 every-at : (word : List ℕ) (k : ℕ) → all isNameByte word ≡ true → k < length word → isNameByte (getD word k 0) ≡ true
 unfolding all

@@ -1,6 +1,6 @@
 // The row that has a name.
 ghost use mathlib.Core.Path.{_≡_};
-ghost use mathlib.Core.Bool.{true};
+ghost use mathlib.Core.Bool.{true, false};
 ghost use Prim.Native.Nat.{_+_, _≤_};
 ghost use lib.ListN.{length, drop};
 ghost use Rattle.description.specs.Grammar.{all, isNameByte, same};
@@ -12,12 +12,27 @@ use crate::parts::rest_from;
 use words::bytes::byte_at;
 use words::bytes::is_name_byte;
 
+// Whether the name at the head of these bytes is another one by the word's last byte alone: names are often alike but for their ends.
+fn ends_apart(word: &[u8], rest: &[u8]) -> bool
+    requires { ⌜ length (now word) ≤ length (now rest) ⌝ }
+    ensures { λ r. ⌜ (r ≡ true → same (now (word .entry)) (leading (now (rest .entry))) ≡ false) ⌝ }
+{
+    let n = word.len();
+    if n == 0 {
+        return false;
+    }
+    rest[n - 1] != word[n - 1]
+}
+
 // Whether the word is the name at the head of these bytes.
 fn same_name(word: &[u8], rest: &[u8]) -> bool
     requires { ⌜ all isNameByte (now word) ≡ true ⌝ }
     ensures { λ r. ⌜ r ≡ same (now (word .entry)) (leading (now (rest .entry))) ⌝ }
 {
     if rest.len() < word.len() {
+        return false;
+    }
+    if ends_apart(word, rest) {
         return false;
     }
     let mut k: usize = 0;

@@ -22,17 +22,27 @@ abbrev μ-loop : tie.MeasureT-loop
 returns : tie.Need-returns Inv-loop μ-loop
 returns c = too-short (now (c .before .before .before .args .word)) (now (c .before .before .before .args .rest)) (c .if1 .taken)
 
+ends-apart-requires : tie.Need-ends-apart-requires Inv-loop μ-loop
+ends-apart-requires c κs = omega (arith, c .if1 .left)
+
+returns-2 : tie.Need-returns-2 Inv-loop μ-loop
+returns-2 c = sym (c .before .ends-apart .ensures (c .if2 .taken))
+
 loop-holds : tie.Need-loop-holds Inv-loop μ-loop
 loop-holds c = (omega arith, omega arith, refl)
 
-shared-slice-read-if2 : tie.Need-shared-slice-read-if2 Inv-loop μ-loop
-shared-slice-read-if2 c = search needs
+shared-slice-read-if3 : tie.Need-shared-slice-read-if3 Inv-loop μ-loop
+shared-slice-read-if3 c = search needs
 
-shared-slice-read-if2-2 : tie.Need-shared-slice-read-if2-2 Inv-loop μ-loop
-shared-slice-read-if2-2 c = search needs
+shared-slice-read-if3-2 : tie.Need-shared-slice-read-if3-2 Inv-loop μ-loop
+shared-slice-read-if3-2 c = search needs
 
-returns-2 : tie.Need-returns-2 Inv-loop μ-loop
-returns-2 c = sym (c .before .before .before .before .loop .inv .2 ∙ name-differs (now (c .before .before .before .before .before .before .before .before .args .word)) (now (c .before .before .before .before .before .before .before .before .args .rest)) (c .before .before .before .before .loop .k) (c .before .before .before .before .before .before .before .before .pre) (c .before .before .before .loop-test .taken) (omega (arith, c .before .before .before .before .loop .inv .1)) (c .if2 .taken))
+returns-3 : tie.Need-returns-3 Inv-loop μ-loop
+returns-3 c =
+    let l = c .before .before .before .before .loop in
+    let start = c .before .before .before .before .before .before .before .before .before .before in
+    let there = name-differs (now (start .args .word)) (now (start .args .rest)) (l .k) (start .pre) (c .before .before .before .loop-test .taken) in
+    sym (l .inv .2 ∙ there (omega (arith, l .inv .1)) (c .if3 .taken))
 
 add-k : tie.Need-add-k Inv-loop μ-loop
 add-k c = search needs
@@ -41,7 +51,11 @@ loop-less : tie.Need-loop-less Inv-loop μ-loop
 loop-less c = search needs
 
 loop-again : tie.Need-loop-again Inv-loop μ-loop
-loop-again c = (omega arith, c .before .before .before .before .loop .inv .1, c .before .before .before .before .loop .inv .2 ∙ name-goes-on (now (c .before .before .before .before .before .before .before .before .args .word)) (now (c .before .before .before .before .before .before .before .before .args .rest)) (c .before .before .before .before .loop .k) (c .before .before .before .before .before .before .before .before .pre) (c .before .before .before .loop-test .taken) (omega (arith, c .before .before .before .before .loop .inv .1)) (c .if2 .left))
+loop-again c =
+    let l = c .before .before .before .before .loop in
+    let start = c .before .before .before .before .before .before .before .before .before .before in
+    let there = name-goes-on (now (start .args .word)) (now (start .args .rest)) (l .k) (start .pre) (c .before .before .before .loop-test .taken) in
+    (omega arith, l .inv .1, l .inv .2 ∙ there (omega (arith, l .inv .1)) (c .if3 .left))
 
 byte-at-requires : tie.Need-byte-at-requires Inv-loop μ-loop
 byte-at-requires c κs = search needs
@@ -49,8 +63,12 @@ byte-at-requires c κs = search needs
 is-name-byte-requires : tie.Need-is-name-byte-requires Inv-loop μ-loop
 is-name-byte-requires c κs = search needs
 
-returns-3 : tie.Need-returns-3 Inv-loop μ-loop
-returns-3 c = name-ends (now (c .before .before .before .before .before .before .before .args .word)) (now (c .before .before .before .before .before .before .before .args .rest)) (c .before .before .before .loop .k) (c .before .byte-at .result) (c .is-name-byte .result) (c .before .before .loop-test .left) (c .before .byte-at .ensures) (c .is-name-byte .ensures) ∙ sym (c .before .before .before .loop .inv .2)
+returns-4 : tie.Need-returns-4 Inv-loop μ-loop
+returns-4 c =
+    let l = c .before .before .before .loop in
+    let start = c .before .before .before .before .before .before .before .before .before in
+    let ended = name-ends (now (start .args .word)) (now (start .args .rest)) (l .k) (c .before .byte-at .result) (c .is-name-byte .result) in
+    ended (c .before .before .loop-test .left) (c .before .byte-at .ensures) (c .is-name-byte .ensures) ∙ sym (l .inv .2)
 
 pub same-name-spec : {M : Type 1} → statement M
 same-name-spec =
@@ -59,13 +77,15 @@ same-name-spec =
     Inv-loop
     μ-loop
     returns
-    loop-holds
-    shared-slice-read-if2
-    shared-slice-read-if2-2
+    ends-apart-requires
     returns-2
+    loop-holds
+    shared-slice-read-if3
+    shared-slice-read-if3-2
+    returns-3
     add-k
     loop-less
     loop-again
     byte-at-requires
     is-name-byte-requires
-    returns-3)
+    returns-4)
