@@ -6,14 +6,17 @@ ghost use Rattle.content.specs.Content.{all};
 ghost use Rattle.content.specs.Letters.{isSpace};
 ghost use Rattle.mending.specs.Mend.{filled, leading, signOf, attempt, isZoned, mendedItem};
 use content::fields::valid_content;
+use content::marks::is_space;
+use content::marks::marks;
 use items::parts::copy_bytes;
 
 fn all_spaces(bytes: &[u8]) -> bool
     ensures { λ r. ⌜ r ≡ all isSpace (now (bytes .entry)) ⌝ }
 {
+    let marks = marks();
     let mut i: usize = 0;
     while i < bytes.len() {
-        if bytes[i] != 0x20 {
+        if !is_space(&marks, bytes[i]) {
             return false;
         }
         i += 1;
@@ -25,9 +28,10 @@ fn all_spaces(bytes: &[u8]) -> bool
 fn fill(bytes: &mut [u8])
     ensures { λ r. ⌜ now (bytes .exit) ≡ filled (now (bytes .entry)) ⌝ }
 {
+    let marks = marks();
     let mut i: usize = 0;
     while i < bytes.len() {
-        if bytes[i] != 0x20 {
+        if !is_space(&marks, bytes[i]) {
             return;
         }
         bytes[i] = 0x30;
@@ -48,7 +52,8 @@ fn lead(bytes: &mut [u8])
 fn sign_of(b: u8) -> u8
     ensures { λ r. ⌜ r ≡ signOf b ⌝ }
 {
-    if b == 0x20 {
+    let marks = marks();
+    if is_space(&marks, b) {
         return 0x2b;
     }
     b

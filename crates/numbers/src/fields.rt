@@ -8,10 +8,11 @@ ghost use Rattle.content.specs.Packed.{isPacked};
 ghost use Rattle.compare.specs.Compared.{numberOf, pairsOf};
 ghost use Rattle.compare.specs.Fields.{NumberField};
 use compare::Number;
-use content::fields::is_digit;
 use content::fields::is_minus;
 use content::fields::is_sign;
 use content::fields::is_signed_digit;
+use content::marks::is_digit;
+use content::marks::marks;
 use content::packed::digit_and_sign;
 use content::packed::is_packed;
 use content::packed::left_half;
@@ -29,12 +30,13 @@ fn read_digits(bytes: &[u8]) -> Number
     requires { ⌜ length (now bytes) ≤ 18 ⌝ }
     ensures { λ r. ⌜ r ≡ numberOf 3 0 (now (bytes .entry)) ⌝ }
 {
+    let marks = marks();
     let mut fine = true;
     let mut n: u64 = 0;
     let mut i: usize = 0;
     while i < bytes.len() {
         let b = bytes[i];
-        fine = fine & is_digit(b);
+        fine = fine & is_digit(&marks, b);
         n = n * 10 + wide(b % 16);
         i += 1;
     }

@@ -2,23 +2,27 @@
 ghost use mathlib.Core.Path.{_≡_};
 ghost use lib.ListN.{getD};
 ghost use Rattle.description.specs.Grammar.{isBlank, isLetter, isDigit, isHyphen, isNameByte};
+use content::marks::marks;
 
 pub fn is_blank(b: u8) -> bool
     ensures { λ r. ⌜ r ≡ isBlank b ⌝ }
 {
-    (b == 0x20) | (b == 0x0a)
+    let marks = marks();
+    content::marks::is_space(&marks, b) | (b == 0x0a)
 }
 
 pub fn is_digit(b: u8) -> bool
     ensures { λ r. ⌜ r ≡ isDigit b ⌝ }
 {
-    (0x30 <= b) & (b <= 0x39)
+    let marks = marks();
+    content::marks::is_digit(&marks, b)
 }
 
 pub fn is_letter(b: u8) -> bool
     ensures { λ r. ⌜ r ≡ isLetter b ⌝ }
 {
-    (0x41 <= b) & (b <= 0x5a)
+    let marks = marks();
+    content::marks::is_upper(&marks, b)
 }
 
 pub fn is_name_byte(b: u8) -> bool

@@ -11,16 +11,20 @@ use Rattle.content.proofs.fields.first_wrong.Statement.{statement}
 use Rattle.content.proofs.fields.first_wrong.Tie as tie
 
 abbrev Inv-loop : tie.InvT-loop
-Inv-loop kind digits bytes at₀ at =
+Inv-loop kind digits bytes marks at₀ at =
     (at < length bytes) × (firstWrong kind digits bytes ≡ firstFrom (rightAt kind digits (length bytes)) at (drop at bytes))
 
 abbrev μ-loop : tie.MeasureT-loop
-μ-loop kind digits bytes at₀ at = length bytes - at
+μ-loop kind digits bytes marks at₀ at = length bytes - at
+
+marks-requires : tie.Need-marks-requires Inv-loop μ-loop
+marks-requires c κs = search needs
 
 loop-holds : tie.Need-loop-holds Inv-loop μ-loop
 loop-holds c =
-    let a = c .before .args in
-    (some-left (rightAt (a .kind) (a .digits) (length (now (a .bytes)))) (now (a .bytes)) 0 (some-wrong (a .kind) (a .digits) (now (a .bytes)) (c .before .pre)), refl)
+    let start = c .before .before in
+    let a = start .args in
+    (some-left (rightAt (a .kind) (a .digits) (length (now (a .bytes)))) (now (a .bytes)) 0 (some-wrong (a .kind) (a .digits) (now (a .bytes)) (start .pre)), refl)
 
 add-is-right : tie.Need-add-is-right Inv-loop μ-loop
 add-is-right c = omega arith
@@ -29,7 +33,7 @@ shared-slice-read-is-right : tie.Need-shared-slice-read-is-right Inv-loop μ-loo
 shared-slice-read-is-right c = omega arith
 
 is-right-requires : tie.Need-is-right-requires Inv-loop μ-loop
-is-right-requires c κs = search needs
+is-right-requires c κs = c .before .before .before .marks .ensures
 
 add-at : tie.Need-add-at Inv-loop μ-loop
 add-at c = omega arith
@@ -39,8 +43,8 @@ loop-less c = omega arith
 
 loop-again : tie.Need-loop-again Inv-loop μ-loop
 loop-again c =
-    let l = c .before .before .before .loop in
-    let start = c .before .before .before .before .before in
+    let l = c .before .before .before .before .loop in
+    let start = c .before .before .before .before .before .before .before in
     let bytes = now (start .args .bytes) in
     let right = rightAt (start .args .kind) (start .args .digits) (length bytes) in
     let next = l .inv .1 ∙ wrong-then right bytes (l .at) (l .inv .0) (sym (c .before .is-right .ensures) ∙ c .if1 .taken) in
@@ -48,8 +52,8 @@ loop-again c =
 
 returns : tie.Need-returns Inv-loop μ-loop
 returns c =
-    let l = c .before .before .before .loop in
-    let start = c .before .before .before .before .before in
+    let l = c .before .before .before .before .loop in
+    let start = c .before .before .before .before .before .before .before in
     let bytes = now (start .args .bytes) in
     l .inv .1 ∙ wrong-then (rightAt (start .args .kind) (start .args .digits) (length bytes)) bytes (l .at) (l .inv .0) (sym (c .before .is-right .ensures) ∙ c .if1 .left)
 
@@ -59,6 +63,7 @@ first-wrong-spec =
     (tie.spec
     Inv-loop
     μ-loop
+    marks-requires
     loop-holds
     add-is-right
     shared-slice-read-is-right

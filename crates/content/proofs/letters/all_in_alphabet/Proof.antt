@@ -13,31 +13,34 @@ use Rattle.content.proofs.letters.all_in_alphabet.Statement.{statement}
 use Rattle.content.proofs.letters.all_in_alphabet.Tie as tie
 
 abbrev Inv-loop : tie.InvT-loop
-Inv-loop word bytes i₀ i = (i ≤ length bytes) × (all (inAlphabet word) bytes ≡ all (inAlphabet word) (drop i bytes))
+Inv-loop word bytes marks i₀ i = (i ≤ length bytes) × (all (inAlphabet word) bytes ≡ all (inAlphabet word) (drop i bytes))
 
 abbrev μ-loop : tie.MeasureT-loop
-μ-loop word bytes i₀ i = length bytes - i
+μ-loop word bytes marks i₀ i = length bytes - i
+
+marks-requires : tie.Need-marks-requires Inv-loop μ-loop
+marks-requires c κs = search needs
 
 alphabet-blocks-requires : tie.Need-alphabet-blocks-requires Inv-loop μ-loop
-alphabet-blocks-requires c κs = search needs
+alphabet-blocks-requires c κs = c .before .marks .ensures
 
 loop-holds : tie.Need-loop-holds Inv-loop μ-loop
 loop-holds c =
     let (within, pass) = c .alphabet-blocks .ensures in
-    (within, all-past _ (now (c .before .before .args .bytes)) (c .alphabet-blocks .result) pass)
+    (within, all-past _ (now (c .before .before .before .before .args .bytes)) (c .alphabet-blocks .result) pass)
 
 shared-slice-read-in-alphabet : tie.Need-shared-slice-read-in-alphabet Inv-loop μ-loop
 shared-slice-read-in-alphabet c = omega arith
 
 in-alphabet-requires : tie.Need-in-alphabet-requires Inv-loop μ-loop
-in-alphabet-requires c κs = search needs
+in-alphabet-requires c κs = c .before .before .before .before .before .before .marks .ensures
 
 returns : tie.Need-returns Inv-loop μ-loop
 returns c =
-    let l = c .before .before .before .before .loop in
-    let bytes = now (c .before .before .before .before .before .before .before .args .bytes) in
+    let l = c .before .before .before .before .before .loop in
+    let bytes = now (c .before .before .before .before .before .before .before .before .before .before .args .bytes) in
     let fails = sym (c .before .in-alphabet .ensures) ∙ not-true _ (c .if1 .taken) in
-    sym (l .inv .1 ∙ all-then _ bytes (l .i) (c .before .before .before .loop-test .taken) fails)
+    sym (l .inv .1 ∙ all-then _ bytes (l .i) (c .before .before .before .before .loop-test .taken) fails)
 
 add-i : tie.Need-add-i Inv-loop μ-loop
 add-i c = omega arith
@@ -47,13 +50,13 @@ loop-less c = omega arith
 
 loop-again : tie.Need-loop-again Inv-loop μ-loop
 loop-again c =
-    let l = c .before .before .before .before .loop in
-    let bytes = now (c .before .before .before .before .before .before .before .args .bytes) in
+    let l = c .before .before .before .before .before .loop in
+    let bytes = now (c .before .before .before .before .before .before .before .before .before .before .args .bytes) in
     let holds = sym (c .before .in-alphabet .ensures) ∙ not-false _ (c .if1 .left) in
-    (omega arith, l .inv .1 ∙ all-then _ bytes (l .i) (c .before .before .before .loop-test .taken) holds)
+    (omega arith, l .inv .1 ∙ all-then _ bytes (l .i) (c .before .before .before .before .loop-test .taken) holds)
 
 returns-2 : tie.Need-returns-2 Inv-loop μ-loop
-returns-2 c = sym (c .before .loop .inv .1 ∙ all-end _ (now (c .before .before .before .before .args .bytes)) _ (c .loop-test .left))
+returns-2 c = sym (c .before .loop .inv .1 ∙ all-end _ (now (c .before .before .before .before .before .before .args .bytes)) _ (c .loop-test .left))
 
 pub all-in-alphabet-spec : {M : Type 1} → statement M
 all-in-alphabet-spec =
@@ -61,6 +64,7 @@ all-in-alphabet-spec =
     (tie.spec
     Inv-loop
     μ-loop
+    marks-requires
     alphabet-blocks-requires
     loop-holds
     shared-slice-read-in-alphabet

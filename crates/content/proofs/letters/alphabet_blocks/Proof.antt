@@ -15,10 +15,10 @@ use Rattle.content.proofs.letters.alphabet_blocks.Statement.{statement}
 use Rattle.content.proofs.letters.alphabet_blocks.Tie as tie
 
 abbrev Inv-loop : tie.InvT-loop
-Inv-loop word bytes i₀ i = (i ≤ length bytes) × (all (inAlphabet word) (take i bytes) ≡ true)
+Inv-loop marks word bytes i₀ i = (i ≤ length bytes) × (all (inAlphabet word) (take i bytes) ≡ true)
 
 abbrev μ-loop : tie.MeasureT-loop
-μ-loop word bytes i₀ i = length bytes - i
+μ-loop marks word bytes i₀ i = length bytes - i
 
 loop-holds : tie.Need-loop-holds Inv-loop μ-loop
 unfolding all
@@ -37,7 +37,7 @@ part-block-in-alphabet-end : tie.Need-part-block-in-alphabet-end Inv-loop μ-loo
 part-block-in-alphabet-end c = omega arith
 
 block-in-alphabet-requires : tie.Need-block-in-alphabet-requires Inv-loop μ-loop
-block-in-alphabet-requires c κs = simp (length-take, length-drop) (omega arith)
+block-in-alphabet-requires c κs = (c .before .before .before .before .pre, simp (length-take, length-drop) (omega arith))
 
 returns : tie.Need-returns Inv-loop μ-loop
 returns c = c .before .before .before .before .loop .inv

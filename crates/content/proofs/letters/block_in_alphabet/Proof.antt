@@ -12,10 +12,10 @@ use Rattle.content.proofs.letters.block_in_alphabet.Statement.{statemen
 use Rattle.content.proofs.letters.block_in_alphabet.Tie as tie
 
 abbrev Inv-loop : tie.InvT-loop
-Inv-loop word bytes fine₀ k₀ fine k = (k ≤ 16) × (fine ≡ all (inAlphabet word) (take k bytes))
+Inv-loop marks word bytes fine₀ k₀ fine k = (k ≤ 16) × (fine ≡ all (inAlphabet word) (take k bytes))
 
 abbrev μ-loop : tie.MeasureT-loop
-μ-loop word bytes fine₀ k₀ fine k = 16 - k
+μ-loop marks word bytes fine₀ k₀ fine k = 16 - k
 
 loop-holds : tie.Need-loop-holds Inv-loop μ-loop
 unfolding all

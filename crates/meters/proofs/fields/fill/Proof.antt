@@ -2,28 +2,36 @@ use Prim.Native.Nat.{_-_}
 use native.Mathlib.Omega.{arith}
 use mathlib.Core.Path.{_≡_, refl, sym, _∙_}
 use lib.ListN.{length}
+use borrow.Author.Tests.{eqb-true, eqb-false, not-true, not-false}
+use borrow.Author.Needs.{needs}
 use denote.Ref.{now}
 use Rattle.meters.proofs.Filling.{Filling, filling-start, filling-more, filling-stop, filling-end}
 use Rattle.meters.proofs.fields.fill.Statement.{statement}
 use Rattle.meters.proofs.fields.fill.Tie as tie
 
 abbrev Inv-loop : tie.InvT-loop
-Inv-loop bytes₀ i₀ bytes i = Filling bytes₀ bytes i
+Inv-loop bytes₀ marks i₀ bytes i = Filling bytes₀ bytes i
 
 abbrev μ-loop : tie.MeasureT-loop
-μ-loop bytes₀ i₀ bytes i = length bytes₀ - i
+μ-loop bytes₀ marks i₀ bytes i = length bytes₀ - i
+
+marks-requires : tie.Need-marks-requires Inv-loop μ-loop
+marks-requires c κs = search needs
 
 loop-holds : tie.Need-loop-holds Inv-loop μ-loop
-loop-holds c = filling-start (now (c .args .bytes))
+loop-holds c = filling-start (now (c .before .before .args .bytes))
 
-slice-read-if1 : tie.Need-slice-read-if1 Inv-loop μ-loop
-slice-read-if1 c = omega arith
+slice-read-is-space : tie.Need-slice-read-is-space Inv-loop μ-loop
+slice-read-is-space c = omega arith
+
+is-space-requires : tie.Need-is-space-requires Inv-loop μ-loop
+is-space-requires c κs = c .before .before .before .before .marks .ensures
 
 same-length : tie.Need-same-length Inv-loop μ-loop
-same-length c = c .before .before .before .loop .inv .long
+same-length c = c .before .before .before .before .before .loop .inv .long
 
 returns : tie.Need-returns Inv-loop μ-loop
-returns c = filling-stop (c .before .before .before .loop .inv) (c .before .before .loop-test .taken) (c .if1 .taken)
+returns c = filling-stop (c .before .before .before .before .before .loop .inv) (c .before .before .before .before .loop-test .taken) (eqb-false _ _ (sym (c .before .is-space .ensures) ∙ not-true _ (c .if1 .taken)))
 
 slice-write-bytes : tie.Need-slice-write-bytes Inv-loop μ-loop
 slice-write-bytes c = omega arith
@@ -35,7 +43,7 @@ loop-less : tie.Need-loop-less Inv-loop μ-loop
 loop-less c = omega arith
 
 loop-again : tie.Need-loop-again Inv-loop μ-loop
-loop-again c = filling-more (c .before .before .before .loop .inv) (c .before .before .loop-test .taken) (c .if1 .left)
+loop-again c = filling-more (c .before .before .before .before .before .loop .inv) (c .before .before .before .before .loop-test .taken) (eqb-true _ _ (sym (c .before .is-space .ensures) ∙ not-false _ (c .if1 .left)))
 
 same-length-2 : tie.Need-same-length-2 Inv-loop μ-loop
 same-length-2 c = c .before .loop .inv .long
@@ -49,8 +57,10 @@ fill-spec =
     (tie.spec
     Inv-loop
     μ-loop
+    marks-requires
     loop-holds
-    slice-read-if1
+    slice-read-is-space
+    is-space-requires
     same-length
     returns
     slice-write-bytes
