@@ -2,6 +2,7 @@
 use borrow.Author.Needs.{needs}
 use Rattle.tables.proofs.Lines.{passes, fails}
 use Rattle.typing.specs.Typing.{typed}
+use Rattle.typing.proofs.Lending.{shape-operands}
 use Rattle.typing.proofs.shape.condition_sound.Statement.{statement}
 use Rattle.typing.proofs.shape.condition_sound.Tie as tie
 
@@ -15,7 +16,8 @@ returns : tie.Need-returns
 returns c = rw (← c .before .before .test-of .ensures, fails (c .before .shape-sound .ensures) (c .if1 .taken))
 
 test-typed-requires : tie.Need-test-typed-requires
-test-typed-requires c κs = passes (c .before .shape-sound .ensures) (c .if1 .left)
+test-typed-requires c κs =
+    shape-operands _ _ _ _ (c .before .before .test-of .result) _ _ (passes (c .before .shape-sound .ensures) (c .if1 .left))
 
 returns-2 : tie.Need-returns-2
 unfolding typed
