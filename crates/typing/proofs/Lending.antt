@@ -18,7 +18,7 @@ module _ (items literals bytes names : List ℕ) where
   shape-lent x subject object =
       elim x [ Alone ↦ refl | Relation w n ↦ refl | Class w n ↦ refl | Sign w n ↦ refl | Unknown ↦ refl ]
 
-  test-lent : (x : Test) (subject object : ℕ)
+  pub test-lent : (x : Test) (subject object : ℕ)
       → testTyped (lendNames items literals bytes names) x subject object ≡ testTyped (lend items literals []) x subject object
   test-lent x subject object =
       elim x [ Alone ↦ refl | Relation w n ↦ refl | Class w n ↦ refl | Sign w n ↦ refl | Unknown ↦ refl ]

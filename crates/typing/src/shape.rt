@@ -219,7 +219,7 @@ pub fn condition_sound(
     relation: u32,
     object: u32,
 ) -> bool
-    ensures { λ r. ⌜ r ≡ (shapeSound (lendNames (now (items .entry)) (now (literals .entry)) [] (now (names .entry))) (testOf relation) subject object && typed (lend (now (items .entry)) (now (literals .entry)) []) subject relation object) ⌝ }
+    ensures { λ r. ⌜ r ≡ (shapeSound (lendNames (now (items .entry)) (now (literals .entry)) [] (now (names .entry))) (testOf relation) subject object && typed (lendNames (now (items .entry)) (now (literals .entry)) [] (now (names .entry))) subject relation object) ⌝ }
 {
     let test = test_of(relation);
     if !shape_sound(items, literals, names, test, subject, object) {
