@@ -27,8 +27,6 @@ use Rattle.tables.specs.Names.{nameItem, namePairs, nameLow, nameHigh, namesLen
 use Rattle.tables.proofs.Tests.{both, four, either, and-both}
 use Rattle.tables.proofs.Lines.{test-sound, every-sound, lines-sound, AllSound}
 use Rattle.typing.specs.Typing.{relationTyped, typed}
-use Rattle.compare.specs.declared.Order.{Order}
-use Rattle.compare.specs.declared.Order.the-variants.{Less, Equal, Greater}
 use Rattle.compare.specs.Order.{relationHolds}
 use Rattle.values.specs.Comparison.{Side, side, sideOf, comparison, wrongByte, fault}
 use Rattle.values.specs.Names.{some, itemSide, literalSide, comparable, nameHolds, lentLines}
@@ -38,15 +36,6 @@ use Rattle.grammar.specs.Grammar.{Tree, simple, both as chained, either as join
 use Rattle.grammar.specs.Judging.{Outcomes, leaves, when, at, judged}
 use Rattle.rules.specs.Demands.{WellTyped}
 use Rattle.rules.specs.Names.{pairTree, pairsTree, nameTree, Means, NamesMean}
-
--- a single value: to lie between it and itself is to equal it
-pub single-value : (item value : Side) → relationHolds 8 (comparison item value) && relationHolds 9 (comparison item value) ≡ relationHolds 7 (comparison item value)
-single-value item value = by (comparison item value)
-  where
-    by : (o : Order) → relationHolds 8 o && relationHolds 9 o ≡ relationHolds 7 o
-    by Less = refl
-    by Equal = refl
-    by Greater = refl
 
 -- what is true or false, as a verdict
 abbrev told : Bool → Verdict

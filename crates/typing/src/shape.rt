@@ -136,7 +136,8 @@ fn fits_beside(row: Row) -> bool
     (row.scale == 0) & !((row.kind == 8) | (row.kind == 9))
 }
 
-fn sides_fit(side: Row, other: Row) -> bool
+// Whether two sides may be compared: an item with a literal of a condition-name too.
+pub fn sides_fit(side: Row, other: Row) -> bool
     ensures { λ r. ⌜ r ≡ (sideFits side other && sideFits other side) ⌝ }
 {
     let numeric = is_numeric(side);

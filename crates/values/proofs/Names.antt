@@ -1,5 +1,5 @@
 -- Laws of condition-names: what sound tables and a sound row of theirs say, in numbers and of sides.
-use mathlib.Core.Path.{_≡_}
+use mathlib.Core.Path.{_≡_, refl}
 use mathlib.Core.Bool.{Bool, true, _&&_, _||_}
 use mathlib.Core.List.{List}
 use Prim.Native.Nat.{ℕ, zero, suc, _≤_, _<_}
@@ -19,8 +19,21 @@ use Rattle.tables.specs.Names.{nameItem, namePairs, nameLow, nameHigh, namesLen
 use Rattle.tables.proofs.Tests.{both, four}
 use Rattle.tables.proofs.Lines.{every-sound, lines-sound, AllSound}
 use Rattle.tables.proofs.Bytes.{part-length}
+use Rattle.compare.specs.declared.Order.{Order}
+use Rattle.compare.specs.declared.Order.the-variants.{Less, Equal, Greater}
+use Rattle.compare.specs.Order.{relationHolds}
+use Rattle.values.specs.Comparison.{Side, comparison}
 use Rattle.values.specs.Names.{every, itemSide, literalSide, comparable, endsAlike, pairSound, placeSound, nameSound, lentLines}
 use Rattle.values.specs.Truth.{Fit, Named}
+
+-- a single value: to lie between it and itself is to equal it
+pub single-value : (item value : Side) → relationHolds 8 (comparison item value) && relationHolds 9 (comparison item value) ≡ relationHolds 7 (comparison item value)
+single-value item value = by (comparison item value)
+  where
+    by : (o : Order) → relationHolds 8 o && relationHolds 9 o ≡ relationHolds 7 o
+    by Less = refl
+    by Equal = refl
+    by Greater = refl
 
 pub every-at : (test : ℕ → Bool) (n : ℕ) → every test n ≡ true → (k : ℕ) → k < n → test k ≡ true
 unfolding every

@@ -75,7 +75,7 @@ abbrev pub lentLines : Lent → List Check
 lentLines lent = tableLines lent ++ nameCheck lent ∷ []
 
 -- "is true if the item equals one value or lies in one range by 01's comparison", "ends included": word 8 is >=, 9 is <=. A single value
--- is a range of which both ends are alike; to lie in it is to equal the value (rules/proofs/Names.antt).
+-- is a range of which both ends are alike; to lie in it is to equal the value (`single-value` in proofs/Names.antt).
 abbrev pub inRange : Side → Side → Side → Bool
 inRange item low high = relationHolds 8 (comparison item low) && relationHolds 9 (comparison item high)
 
