@@ -17,7 +17,7 @@ use Rattle.typing.specs.declared.Test.the-variants.{Alone, Relation, Class, Sig
 use Rattle.tables.specs.Tokens.{isItem, isOn, isOff, isSwitch, isName, indexOf, exists, nameThere}
 use Rattle.tables.specs.Rows.{rowCount, nameCount, rowSound, isNumeric}
 use Rattle.content.specs.Content.{digitBytes, digitCharacters, unsignedLast}
-use Rattle.tables.specs.Operands.{Lent, operandSound, switchSound, aloneSound, rowOf, operandBytes, liesWithin, Within}
+use Rattle.tables.specs.Operands.{Lent, lend, lendNames, operandSound, switchSound, aloneSound, rowOf, operandBytes, liesWithin, Within}
 use Rattle.tables.specs.Refusals.{firstOf}
 use Rattle.typing.specs.Tests.{testOf}
 use Rattle.typing.specs.Typing.{typed}
@@ -131,6 +131,10 @@ module _ {lent : Lent} {content : List ℕ} {x : ℕ} (s : Sided lent content x)
 
   pub read-fit : Fit (side item row bytes)
   read-fit = subst⁻¹ Fit read-side (s .fit)
+
+-- a side is what it is without the names
+pub side-unnamed : {items literals bytes names content : List ℕ} {x : ℕ} → Sided (lendNames items literals bytes names) content x → Sided (lend items literals bytes) content x
+side-unnamed s = record { within = record { there = s .within .there; lies = s .within .lies }; fit = s .fit }
 
 -- what a readable condition gives to the code, by what it tests
 module _ {lent : Lent} {content : List ℕ} {subject relation object : ℕ} (readable : Readable lent content subject relation object) where
