@@ -132,7 +132,7 @@ pub fn check_names(items: &[u32], literals: &[u32], bytes: &[u8], names: &[u32])
 }
 
 // 1 to 4, and 18 just after 4.
-pub fn check_lent(items: &[u32], literals: &[u32], bytes: &[u8], names: &[u32]) -> Check
+pub fn check_lent_tables(items: &[u32], literals: &[u32], bytes: &[u8], names: &[u32]) -> Check
     ensures { λ r. ⌜ r ≡ firstOf (lentLines (lendNames (now (items .entry)) (now (literals .entry)) (now (bytes .entry)) (now (names .entry)))) ⌝ }
 {
     let tables = check_tables(items, literals, bytes);

@@ -6,10 +6,10 @@ use Rattle.tables.specs.Tables.{tableLines}
 use Rattle.tables.proofs.Lines.{lines-before, line-sound, line-refused, line-last}
 use Rattle.values.specs.Names.{nameCheck}
 use borrow.Author.Needs.{needs}
-use Rattle.names.proofs.table.check_lent.Statement.{statement}
-use Rattle.names.proofs.table.check_lent.Tie as tie
-use Rattle.names.proofs.table.check_lent.Reads as reads
-use Rattle.names.proofs.table.check_lent.Lts as lts
+use Rattle.names.proofs.table.check_lent_tables.Statement.{statement}
+use Rattle.names.proofs.table.check_lent_tables.Tie as tie
+use Rattle.names.proofs.table.check_lent_tables.Reads as reads
+use Rattle.names.proofs.table.check_lent_tables.Lts as lts
 use Rattle.checks.proofs.lent.check_tables.Reads as check-tables-reads
 use Rattle.names.proofs.table.check_names.Reads as check-names-reads
 
@@ -43,8 +43,8 @@ returns-2 c =
     let tables = sym (c .before .before .before .check-tables .ensures) ∙ c .before .enum-told .given .1 in
     c .check-names .ensures ∙ sym (lines-before (tableLines lent) (nameCheck lent ∷ []) ∙ line-sound _ tables ∙ line-last _)
 
-pub check-lent-spec : {M : Type 1} → statement M
-check-lent-spec =
+pub check-lent-tables-spec : {M : Type 1} → statement M
+check-lent-tables-spec =
     tie.close
     (tie.spec
     check-tables-requires
