@@ -7,8 +7,8 @@ use Rattle.conditions.proofs.Calling.{plan-refuses, run-record-refuses,
 use Rattle.conditions.proofs.calls.run.Statement.{statement}
 use Rattle.conditions.proofs.calls.run.Tie as tie
 
-check-tables-requires : tie.Need-check-tables-requires
-check-tables-requires c κs = search needs
+check-lent-tables-requires : tie.Need-check-lent-tables-requires
+check-lent-tables-requires c κs = search needs
 
 enum-known-tables : tie.Need-enum-known-tables
 enum-known-tables c = search needs
@@ -17,7 +17,7 @@ unjudged-requires : tie.Need-unjudged-requires
 unjudged-requires c κs = search needs
 
 returns : tie.Need-returns
-returns c = c .unjudged .ensures ∙ ap told (tables-refuse _ _ _ _ (sym (c .before .before .before .before .check-tables .ensures) ∙ c .before .before .tables .given .1))
+returns c = c .unjudged .ensures ∙ ap told (tables-refuse _ _ _ _ (sym (c .before .before .before .before .check-lent-tables .ensures) ∙ c .before .before .tables .given .1))
 
 enum-told : tie.Need-enum-told
 enum-told c = search needs
@@ -33,7 +33,7 @@ unjudged-requires-2 c κs = search needs
 
 returns-2 : tie.Need-returns-2
 returns-2 c =
-    c .unjudged2 .ensures ∙ plan-refuses _ _ _ _ _ (sym (c .before .before .before .before .before .before .before .check-tables .ensures) ∙ c .before .before .before .before .before .enum-told .given .1) _
+    c .unjudged2 .ensures ∙ plan-refuses _ _ _ _ _ _ (sym (c .before .before .before .before .before .before .before .check-lent-tables .ensures) ∙ c .before .before .before .before .before .enum-told .given .1) _
     (sym (c .before .before .before .before .check-plan .ensures) ∙ c .before .before .rows .given .1)
 
 enum-told-2 : tie.Need-enum-told-2
@@ -50,7 +50,7 @@ unjudged-requires-3 c κs = search needs
 
 returns-3 : tie.Need-returns-3
 returns-3 c =
-    c .unjudged3 .ensures ∙ run-record-refuses _ _ _ _ _ (sym (c .before .before .before .before .before .before .before .before .before .before .check-tables .ensures) ∙ c .before .before .before .before .before .before .before .before .enum-told .given .1) _
+    c .unjudged3 .ensures ∙ run-record-refuses _ _ _ _ _ _ (sym (c .before .before .before .before .before .before .before .before .before .before .check-lent-tables .ensures) ∙ c .before .before .before .before .before .before .before .before .enum-told .given .1) _
     (sym (c .before .before .before .before .before .before .before .check-plan .ensures) ∙ c .before .before .before .before .before .enum-told2 .given .1)
     (sym (c .before .before .before .before .check-record .ensures) ∙ c .before .before .held .given .1)
 
@@ -59,14 +59,14 @@ enum-told-3 c = search needs
 
 run-rows-requires : tie.Need-run-rows-requires
 run-rows-requires c κs =
-    plan-runnable _ _ _ _ _ (sym (c .before .before .before .before .before .before .before .before .check-tables .ensures) ∙ c .before .before .before .before .before .before .enum-told .given .1)
+    plan-runnable _ _ _ _ _ _ (sym (c .before .before .before .before .before .before .before .before .check-lent-tables .ensures) ∙ c .before .before .before .before .before .before .enum-told .given .1)
     (sym (c .before .before .before .before .before .check-plan .ensures) ∙ c .before .before .before .enum-told2 .given .1)
     (sym (c .before .before .check-record .ensures) ∙ c .enum-told3 .given .1)
 
 returns-4 : tie.Need-returns-4
 returns-4 c =
     run-answers _ _ _ _
-    (plan-runnable _ _ _ _ _ (sym (c .before .before .before .before .before .before .before .before .before .check-tables .ensures) ∙ c .before .before .before .before .before .before .before .enum-told .given .1)
+    (plan-runnable _ _ _ _ _ _ (sym (c .before .before .before .before .before .before .before .before .before .check-lent-tables .ensures) ∙ c .before .before .before .before .before .before .before .enum-told .given .1)
     (sym (c .before .before .before .before .before .before .check-plan .ensures) ∙ c .before .before .before .before .enum-told2 .given .1)
     (sym (c .before .before .before .check-record .ensures) ∙ c .before .enum-told3 .given .1))
     (c .run-rows .ensures)
@@ -75,7 +75,7 @@ pub run-spec : {M : Type 1} → statement M
 run-spec =
     tie.close
     (tie.spec
-    check-tables-requires
+    check-lent-tables-requires
     enum-known-tables
     unjudged-requires
     returns
