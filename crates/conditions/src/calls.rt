@@ -116,7 +116,15 @@ pub fn judge<'a>(
                 return unjudged(refusal);
             }
             let end = count * 5;
-            run_rows(items, literals, bytes, names, &rows[..end], record, switches)
+            run_rows(
+                items,
+                literals,
+                bytes,
+                names,
+                &rows[..end],
+                record,
+                switches,
+            )
         }
     }
 }

@@ -94,14 +94,7 @@ fn compare_end(
     ensures { λ r. ⌜ r ≡ comparison (side true row (now (part .entry))) (literalSide (lend [] (now (literals .entry)) (now (bytes .entry))) end) ⌝ }
 {
     let literal = row_at(literals, end);
-    compare_literal(
-        true,
-        row,
-        part,
-        number,
-        literal,
-        row_part(literal, bytes),
-    )
+    compare_literal(true, row, part, number, literal, row_part(literal, bytes))
 }
 
 // The item lies in a range, ends included; of a single value, whose ends are one literal, one comparison tells.
@@ -125,10 +118,7 @@ fn in_range(
     if !relation_holds(8, order) {
         return false;
     }
-    relation_holds(
-        9,
-        compare_end(row, part, number, literals, bytes, high),
-    )
+    relation_holds(9, compare_end(row, part, number, literals, bytes, high))
 }
 
 // Whether the item lies in one of the name's ranges: they are tried in order.

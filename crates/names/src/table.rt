@@ -11,12 +11,12 @@ ghost use Rattle.tables.specs.Tables.{tableLines};
 ghost use Rattle.values.specs.Names.{every, pairSound, nameSound, nameCheck, lentLines, literalSide};
 ghost use Rattle.values.specs.Comparison.{comparison};
 ghost use Rattle.names.specs.Ranges.{Literals, placeOf};
-use checks::lent::check_tables;
-use compare::Order;
-use compare::orders::relation_holds;
 use crate::ranges::compare_literal;
 use crate::ranges::held;
 use crate::ranges::number_at;
+use checks::lent::check_tables;
+use compare::Order;
+use compare::orders::relation_holds;
 use tables::Check;
 use tables::Refusal;
 use tables::Row;
@@ -64,14 +64,7 @@ fn pair_sound(item: Row, literals: &[u32], bytes: &[u8], low: usize, high: usize
 }
 
 // Place k of the eight: a pair, or zeros.
-fn place_sound(
-    item: Row,
-    literals: &[u32],
-    bytes: &[u8],
-    names: &[u32],
-    v: usize,
-    k: usize,
-) -> bool
+fn place_sound(item: Row, literals: &[u32], bytes: &[u8], names: &[u32], v: usize, k: usize) -> bool
     requires { ⌜ Literals (now literals) (now bytes) × (v * 18 + 17 < length (now names)) × (k < 8) ⌝ }
     ensures { λ r. ⌜ r ≡ placeOf (now (literals .entry)) (now (bytes .entry)) (now (names .entry)) item v k ⌝ }
 {

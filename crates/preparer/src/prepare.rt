@@ -21,13 +21,7 @@ use tables::Refusal;
 use tables::refusals::place_of;
 
 // 1 to 6, and 18 just after 4.
-fn check_lent(
-    items: &[u32],
-    literals: &[u32],
-    bytes: &[u8],
-    names: &[u32],
-    tokens: &[u32],
-) -> Check
+fn check_lent(items: &[u32], literals: &[u32], bytes: &[u8], names: &[u32], tokens: &[u32]) -> Check
     ensures { λ r. ⌜ r ≡ firstOf (tokenLines (lendNames (now (items .entry)) (now (literals .entry)) (now (bytes .entry)) (now (names .entry))) (now (tokens .entry))) ⌝ }
 {
     let tables = check_lent_tables(items, literals, bytes, names);

@@ -37,7 +37,15 @@ pub fn show<'a>(
     match planned {
         Written::Refused(refusal) => Shown::Refused(refusal),
         Written::Count(count) => {
-            let judged = run(items, literals, bytes, names, &rows[..count], record, switches);
+            let judged = run(
+                items,
+                literals,
+                bytes,
+                names,
+                &rows[..count],
+                record,
+                switches,
+            );
             let expanded = expand(items, literals, bytes, names, tokens, form);
             match expanded {
                 Written::Refused(refusal) => Shown::Calls {

@@ -26,7 +26,7 @@ compare-literal-requires c κs = ((c .before .before .before .before .before .pr
 
 -- src/ranges.rt:84:1
 returns : tie.Need-returns
-returns c = 
+returns c =
     let start = c .before .before .before .before .before .before in
     let read = literal-read (start .pre .1 .0) (start .pre .1 .1) (c .before .before .row-at .ensures) (c .before .row-part .ensures) in
     c .compare-literal .ensures ∙ ap (comparison (side true (start .args .row) (now (start .args .part)))) read

@@ -28,13 +28,13 @@ read-number-requires c κs = numeral (c .before .before .before .before .before 
 
 -- src/ranges.rt:71:9
 compare-scaled-requires : tie.Need-compare-scaled-requires
-compare-scaled-requires c κs = 
+compare-scaled-requires c κs =
     let n = both _ _ (c .before .if1 .taken) in
     (numeral (c .before .before .before .before .before .before .pre .0 .0) (sym (c .before .before .before .is-numeric .ensures) ∙ n .0) .scaled, numeral (c .before .before .before .before .before .before .pre .0 .1) (sym (c .before .before .is-numeric2 .ensures) ∙ n .1) .scaled)
 
 -- src/ranges.rt:71:9
 returns : tie.Need-returns
-returns c = 
+returns c =
     let start = c .before .before .before .before .before .before .before in
     let a = start .args in
     let n = both _ _ (c .before .before .if1 .taken) in

@@ -26,7 +26,7 @@ relation-holds-requires c κs = search needs
 
 -- src/ranges.rt:123:9
 returns : tie.Need-returns
-returns c = 
+returns c =
     let a = c .before .before .before .before .before .before .args in
     let item = side true (a .row) (now (a .part)) in
     let lent = lend [] (now (a .literals)) (now (a .bytes)) in
@@ -53,7 +53,7 @@ relation-holds-requires-3 c κs = search needs
 
 -- src/ranges.rt:108:1
 returns-3 : tie.Need-returns-3
-returns-3 c = 
+returns-3 c =
     rw (passes (rw (c .before .before .before .before .before .compare-end .ensures) at (c .before .before .before .relation-holds2 .ensures)) (c .before .before .if2 .left))
     (rw (c .before .compare-end2 .ensures) at (c .relation-holds3 .ensures))
 
