@@ -1,81 +1,29 @@
-use Prim.Native.Nat.{ℕ, _-_}
-use native.Mathlib.Omega.{arith}
-use mathlib.Core.Path.{_≡_, refl, sym, _∙_}
-use mathlib.Core.Bool.{false, not}
-use mathlib.Core.List.{List, [], _∷_}
+-- An empty table has no row that could be unsound; else what `check_name_rows` returns.
+use mathlib.Core.Path.{_≡_, refl}
+use mathlib.Core.List.{List}
+use Prim.Native.Nat.{ℕ}
+use lib.ListN.{length}
+use borrow.Author.Needs.{needs}
 use denote.Ref.{now}
-use Rattle.tables.specs.declared.Check.{Check}
-use Rattle.tables.specs.declared.Refusal.the-variants.{Name}
-use Rattle.tables.specs.Operands.{lend, lendNames}
-use Rattle.tables.specs.Refusals.{unless, firstOf}
-use Rattle.tables.specs.Names.{namesLengthSound}
-use Rattle.tables.proofs.Lines.{test-passed, test-failed, Passed, passed-none, passed-more, failed-at, passed-all, line-sound, line-refused, line-last}
-use Rattle.values.specs.Names.{nameSound}
-use Rattle.values.proofs.Names.{literal-fit}
+use Rattle.tables.specs.declared.Check.the-variants.{Sound}
+use Rattle.tables.specs.Operands.{lendNames}
+use Rattle.tables.specs.Refusals.{firstFailing, firstOf}
+use Rattle.values.specs.Names.{nameCheck}
 use Rattle.names.proofs.table.check_names.Statement.{statement}
 use Rattle.names.proofs.table.check_names.Tie as tie
-use Rattle.names.proofs.table.check_names.Reads as reads
-use Rattle.names.proofs.table.check_names.Lts as lts
-use Rattle.names.proofs.table.name_sound.Reads as name-sound-reads
 
--- the line on the table's length does not apply
-past : (names : List ℕ) {line : Check} → not (namesLengthSound names) ≡ false → line ≡ firstOf (unless (namesLengthSound names) (Name 0) ∷ line ∷ [])
-past names e = sym (line-sound _ (test-passed {b = namesLengthSound names} (Name 0) refl e) ∙ line-last _)
+none : (items literals bytes names : List ℕ) → length names ≡ 0 → Sound ≡ nameCheck (lendNames items literals bytes names)
+unfolding firstFailing firstOf
+none items literals bytes names e = rw e
 
-abbrev Inv-loop : tie.InvT-loop
-Inv-loop items literals bytes names rows v₀ v = Passed (nameSound (lendNames items literals bytes names)) Name rows v
+returns : tie.Need-returns
+returns c = let a = c .before .before .before .before .before .args in none (now (a .items)) (now (a .literals)) (now (a .bytes)) (now (a .names)) (c .if1 .taken)
 
-abbrev μ-loop : tie.MeasureT-loop
-μ-loop items literals bytes names rows v₀ v = rows - v
+check-name-rows-requires : tie.Need-check-name-rows-requires
+check-name-rows-requires c κs = search needs
 
--- src/table.rt:122:9
-returns : tie.Need-returns Inv-loop μ-loop
-returns c =
-    sym (line-refused _ (test-failed {b = namesLengthSound (now (c .before .before .before .before .before .args .names))} (Name 0) refl (c .if1 .taken)))
-
--- src/table.rt:125:5
-loop-holds : tie.Need-loop-holds Inv-loop μ-loop
-loop-holds c = passed-none _ _ _
-
--- src/table.rt:126:13
-name-sound-requires : tie.Need-name-sound-requires Inv-loop μ-loop
-name-sound-requires c κs =
-    let start = c .before .before .before .before .before .before .before in
-    let a = start .args in
-    (record { fits = literal-fit (lend (now (a .items)) (now (a .literals)) (now (a .bytes))) (start .pre) }, omega arith)
-
--- src/table.rt:127:13
-returns-2 : tie.Need-returns-2 Inv-loop μ-loop
-returns-2 c =
-    failed-at (c .before .before .before .loop .inv) (c .before .before .loop-test .taken) (c .before .name-sound .ensures) (c .if2 .taken) ∙ past (now (c .before .before .before .before .before .before .before .before .before .args .names)) (c .before .before .before .before .if1 .left)
-
--- src/table.rt:129:9
-add-v : tie.Need-add-v Inv-loop μ-loop
-add-v c = omega arith
-
--- src/table.rt:125:5
-loop-less : tie.Need-loop-less Inv-loop μ-loop
-loop-less c = omega arith
-
--- src/table.rt:125:5
-loop-again : tie.Need-loop-again Inv-loop μ-loop
-loop-again c = passed-more (c .before .before .before .loop .inv) (c .before .before .loop-test .taken) (c .before .name-sound .ensures) (c .if2 .left)
-
--- src/table.rt:116:1
-returns-3 : tie.Need-returns-3 Inv-loop μ-loop
-returns-3 c = passed-all (c .before .loop .inv) (c .loop-test .left) ∙ past (now (c .before .before .before .before .before .before .before .args .names)) (c .before .before .if1 .left)
+returns-2 : tie.Need-returns-2
+returns-2 c = search needs
 
 pub check-names-spec : {M : Type 1} → statement M
-check-names-spec =
-    tie.close
-    (tie.spec
-    Inv-loop
-    μ-loop
-    returns
-    loop-holds
-    name-sound-requires
-    returns-2
-    add-v
-    loop-less
-    loop-again
-    returns-3)
+check-names-spec = tie.close (tie.spec returns check-name-rows-requires returns-2)
