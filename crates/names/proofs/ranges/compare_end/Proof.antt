@@ -15,7 +15,8 @@ row-part-requires : tie.Need-row-part-requires
 row-part-requires c κs = literal-lies (c .before .before .before .before .pre .1 .0) (c .before .before .before .before .pre .1 .1) (c .row-at .ensures)
 
 compare-literal-requires : tie.Need-compare-literal-requires
-compare-literal-requires c κs = ((c .before .before .before .before .before .pre .0 .0, literal-read-fit (c .before .before .before .before .before .pre .1 .0) (c .before .before .before .before .before .pre .1 .1) (c .before .row-at .ensures) (c .row-part .ensures)), c .before .before .before .before .before .pre .0 .1)
+compare-literal-requires c κs =
+    ((c .before .before .before .before .before .pre .0 .0, literal-read-fit (c .before .before .before .before .before .pre .1 .0) (c .before .before .before .before .before .pre .1 .1) (c .before .row-at .ensures) (c .row-part .ensures)), c .before .before .before .before .before .pre .0 .1)
 
 returns : tie.Need-returns
 returns c =

@@ -16,12 +16,17 @@ is-numeric-requires-2 : tie.Need-is-numeric-requires-2
 is-numeric-requires-2 c κs = search needs
 
 read-number-requires : tie.Need-read-number-requires
-read-number-requires c κs = numeral (c .before .before .before .before .before .pre .0 .1) (sym (c .before .is-numeric2 .ensures) ∙ both (c .before .before .is-numeric .result) _ (c .if1 .taken) .1) .field
+read-number-requires c κs =
+    numeral (c .before .before .before .before .before .pre .0 .1)
+    (sym (c .before .is-numeric2 .ensures) ∙ both (c .before .before .is-numeric .result) _ (c .if1 .taken) .1) .field
 
 compare-scaled-requires : tie.Need-compare-scaled-requires
 compare-scaled-requires c κs =
-    let n = both _ _ (c .before .if1 .taken) in
-    (numeral (c .before .before .before .before .before .before .pre .0 .0) (sym (c .before .before .before .is-numeric .ensures) ∙ n .0) .scaled, numeral (c .before .before .before .before .before .before .pre .0 .1) (sym (c .before .before .is-numeric2 .ensures) ∙ n .1) .scaled)
+    let n = both _ _ (c .before .if1 .taken) in (
+      numeral (c .before .before .before .before .before .before .pre .0 .0) (sym (c .before .before .before .is-numeric .ensures) ∙ n .0) .scaled,
+      numeral
+          (c .before .before .before .before .before .before .pre .0 .1) (sym (c .before .before .is-numeric2 .ensures) ∙ n .1) .scaled,
+    )
 
 returns : tie.Need-returns
 returns c =

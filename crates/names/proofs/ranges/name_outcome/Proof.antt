@@ -25,27 +25,38 @@ held-requires c κs = item-read-fit (c .before .before .before .before .before .
 
 stop-at-requires : tie.Need-stop-at-requires
 stop-at-requires c κs =
-    let fit = item-read-fit (c .before .before .before .before .before .before .before .before .before .before .before .pre) (c .before .before .before .before .before .number-at .ensures) (c .before .before .before .before .row-at .ensures) (c .before .before .before .row-part .ensures) in
+    let fit = item-read-fit (c .before .before .before .before .before .before .before .before .before .before .before .pre)
+    (c .before .before .before .before .before .number-at .ensures) (c .before .before .before .before .row-at .ensures) (c .before .before .before .row-part .ensures) in
     (fit-near fit, sym (c .before .before .held .ensures .valid) ∙ not-true _ (c .if1 .taken))
 
 returns : tie.Need-returns
-returns c = name-stops (c .before .before .before .before .before .before .before .before .before .before .before .before .pre) (c .before .before .before .before .before .before .number-at .ensures) (c .before .before .before .before .before .row-at .ensures) (c .before .before .before .before .row-part .ensures) (c .stop-at .ensures)
+returns c =
+    name-stops (c .before .before .before .before .before .before .before .before .before .before .before .before .pre)
+    (c .before .before .before .before .before .before .number-at .ensures) (c .before .before .before .before .before .row-at .ensures)
+    (c .before .before .before .before .row-part .ensures) (c .stop-at .ensures)
 
 some-range-requires : tie.Need-some-range-requires
 some-range-requires c κs =
     let start = c .before .before .before .before .before .before .before .before .before .before .before in
-    let fit = item-read-fit (start .pre) (c .before .before .before .before .before .number-at .ensures) (c .before .before .before .before .row-at .ensures) (c .before .before .before .row-part .ensures) in
+    let fit = item-read-fit (start .pre) (c .before .before .before .before .before .number-at .ensures) (c .before .before .before .before .row-at .ensures)
+    (c .before .before .before .row-part .ensures) in
     ((fit, c .before .before .held .ensures), (name-literals (start .pre), name-pairs (start .pre) (omega (arith, start .pre .there))))
 
 returns-2 : tie.Need-returns-2
 returns-2 c =
     let valid = sym (c .before .before .before .before .held .ensures .valid) ∙ not-false _ (c .before .before .if1 .left) in
-    rw (c .if2 .taken) at (name-goes (c .before .before .before .before .before .before .before .before .before .before .before .before .before .pre) (c .before .before .before .before .before .before .before .number-at .ensures) (c .before .before .before .before .before .before .row-at .ensures) (c .before .before .before .before .before .row-part .ensures) valid (c .before .some-range .ensures))
+    rw (c .if2 .taken) at
+    (name-goes (c .before .before .before .before .before .before .before .before .before .before .before .before .before .pre)
+    (c .before .before .before .before .before .before .before .number-at .ensures) (c .before .before .before .before .before .before .row-at .ensures)
+    (c .before .before .before .before .before .row-part .ensures) valid (c .before .some-range .ensures))
 
 returns-3 : tie.Need-returns-3
 returns-3 c =
     let valid = sym (c .before .before .before .before .held .ensures .valid) ∙ not-false _ (c .before .before .if1 .left) in
-    rw (c .if2 .left) at (name-goes (c .before .before .before .before .before .before .before .before .before .before .before .before .before .pre) (c .before .before .before .before .before .before .before .number-at .ensures) (c .before .before .before .before .before .before .row-at .ensures) (c .before .before .before .before .before .row-part .ensures) valid (c .before .some-range .ensures))
+    rw (c .if2 .left) at
+    (name-goes (c .before .before .before .before .before .before .before .before .before .before .before .before .before .pre)
+    (c .before .before .before .before .before .before .before .number-at .ensures) (c .before .before .before .before .before .before .row-at .ensures)
+    (c .before .before .before .before .before .row-part .ensures) valid (c .before .some-range .ensures))
 
 pub name-outcome-spec : {M : Type 1} → statement M
 name-outcome-spec =

@@ -41,7 +41,8 @@ name-sound-requires c κs =
 
 returns-2 : tie.Need-returns-2 Inv-loop μ-loop
 returns-2 c =
-    failed-at (c .before .before .before .loop .inv) (c .before .before .loop-test .taken) (c .before .name-sound .ensures) (c .if2 .taken) ∙ past (now (c .before .before .before .before .before .before .before .before .before .args .names)) (c .before .before .before .before .if1 .left)
+    failed-at (c .before .before .before .loop .inv) (c .before .before .loop-test .taken) (c .before .name-sound .ensures) (c .if2 .taken) ∙ past
+    (now (c .before .before .before .before .before .before .before .before .before .args .names)) (c .before .before .before .before .if1 .left)
 
 add-v : tie.Need-add-v Inv-loop μ-loop
 add-v c = omega arith

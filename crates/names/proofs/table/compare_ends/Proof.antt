@@ -17,7 +17,9 @@ row-part-requires : tie.Need-row-part-requires
 row-part-requires c κs = literal-lies (c .before .before .before .before .pre .0) (c .before .before .before .before .pre .1) (c .before .row-at .ensures)
 
 held-requires : tie.Need-held-requires
-held-requires c κs = fit-as false true (literal-read-fit (c .before .before .before .before .before .pre .0) (c .before .before .before .before .before .pre .1) (c .before .before .row-at .ensures) (c .row-part .ensures))
+held-requires c κs =
+    fit-as false true (literal-read-fit (c .before .before .before .before .before .pre .0) (c .before .before .before .before .before .pre .1)
+    (c .before .before .row-at .ensures) (c .row-part .ensures))
 
 row-part-requires-2 : tie.Need-row-part-requires-2
 row-part-requires-2 c κs = literal-lies (c .before .before .before .before .before .before .pre .0) (c .before .before .before .before .before .before .pre .2) (c .before .before .row-at2 .ensures)

@@ -43,7 +43,8 @@ row-at-requires c κs =
     let a = c .before .before .before .before .before .before .before .args in
     let e : counted (now (a .items)) (c .before .before .number-at .result) (c .before .number-at2 .result) ≡ true = not-false _ (c .if1 .left) in
     let f = both (ltb (c .before .before .number-at .result) (rowCount (now (a .items))) && leb 1 (c .before .number-at2 .result)) (leb (c .before .number-at2 .result) 8) e in
-    let l : c .before .before .number-at .result < rowCount (now (a .items)) = ltb-true _ _ (both (ltb (c .before .before .number-at .result) (rowCount (now (a .items)))) (leb 1 (c .before .number-at2 .result)) (f .0) .0) in
+    let l : c .before .before .number-at .result < rowCount (now (a .items)) = ltb-true _ _
+    (both (ltb (c .before .before .number-at .result) (rowCount (now (a .items)))) (leb 1 (c .before .number-at2 .result)) (f .0) .0) in
     omega arith
 
 places-sound-requires : tie.Need-places-sound-requires

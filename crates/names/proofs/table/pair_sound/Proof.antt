@@ -47,7 +47,9 @@ returns-2 c =
     let a = c .before .before .before .before .before .before .before .before .args in
     let e : there (now (a .literals)) (a .low) (a .high) ≡ true = not-false _ (c .before .before .before .before .before .if1 .left) in
     let ends =
-    alike (rowAt (now (a .literals)) (a .low)) (rowAt (now (a .literals)) (a .high)) (c .before .before .is-numeric .ensures ∙ ap isNumeric (c .before .before .before .before .row-at .ensures)) (c .before .is-numeric2 .ensures ∙ ap isNumeric (c .before .before .before .row-at2 .ensures)) in
+    alike (rowAt (now (a .literals)) (a .low)) (rowAt (now (a .literals)) (a .high))
+    (c .before .before .is-numeric .ensures ∙ ap isNumeric (c .before .before .before .before .row-at .ensures))
+    (c .before .is-numeric2 .ensures ∙ ap isNumeric (c .before .before .before .row-at2 .ensures)) in
     rw (e, fails ends (c .if2 .taken))
 
 compare-ends-requires : tie.Need-compare-ends-requires
@@ -65,7 +67,9 @@ returns-3 c =
     let a = c .before .before .before .before .before .before .before .before .before .before .before .args in
     let e : there (now (a .literals)) (a .low) (a .high) ≡ true = not-false _ (c .before .before .before .before .before .before .before .before .if1 .left) in
     let ends =
-    alike (rowAt (now (a .literals)) (a .low)) (rowAt (now (a .literals)) (a .high)) (c .before .before .before .before .before .is-numeric .ensures ∙ ap isNumeric (c .before .before .before .before .before .before .before .row-at .ensures)) (c .before .before .before .before .is-numeric2 .ensures ∙ ap isNumeric (c .before .before .before .before .before .before .row-at2 .ensures)) in
+    alike (rowAt (now (a .literals)) (a .low)) (rowAt (now (a .literals)) (a .high))
+    (c .before .before .before .before .before .is-numeric .ensures ∙ ap isNumeric (c .before .before .before .before .before .before .before .row-at .ensures))
+    (c .before .before .before .before .is-numeric2 .ensures ∙ ap isNumeric (c .before .before .before .before .before .before .row-at2 .ensures)) in
     let exceeds = sym (rw (c .before .before .compare-ends .ensures) at (c .before .relation-holds .ensures)) ∙ c .if3 .taken in
     rw (e, passes ends (c .before .before .before .if2 .left), exceeds)
 
@@ -80,10 +84,13 @@ returns-4 c =
     let a = c .before .before .before .before .before .before .before .before .before .before .before .before .before .args in
     let e : there (now (a .literals)) (a .low) (a .high) ≡ true = not-false _ (c .before .before .before .before .before .before .before .before .before .before .if1 .left) in
     let ends =
-    alike (rowAt (now (a .literals)) (a .low)) (rowAt (now (a .literals)) (a .high)) (c .before .before .before .before .before .before .before .is-numeric .ensures ∙ ap isNumeric (c .before .before .before .before .before .before .before .before .before .row-at .ensures)) (c .before .before .before .before .before .before .is-numeric2 .ensures ∙ ap isNumeric (c .before .before .before .before .before .before .before .before .row-at2 .ensures)) in
+    alike (rowAt (now (a .literals)) (a .low)) (rowAt (now (a .literals)) (a .high))
+    (c .before .before .before .before .before .before .before .is-numeric .ensures ∙ ap isNumeric
+    (c .before .before .before .before .before .before .before .before .before .row-at .ensures)) (c .before .before .before .before .before .before .is-numeric2 .ensures ∙ ap isNumeric (c .before .before .before .before .before .before .before .before .row-at2 .ensures)) in
     let exceeds = sym (rw (c .before .before .before .before .compare-ends .ensures) at (c .before .before .before .relation-holds .ensures)) ∙ c .before .before .if3 .left in
     rw (e, passes ends (c .before .before .before .before .before .if2 .left), exceeds)
-    (ap₂ _&&_ (rw (c .before .before .before .before .before .before .before .before .before .row-at .ensures) at (c .before .sides-fit .ensures)) (rw (c .before .before .before .before .before .before .before .before .row-at2 .ensures) at (c .sides-fit2 .ensures)))
+    (ap₂ _&&_ (rw (c .before .before .before .before .before .before .before .before .before .row-at .ensures) at (c .before .sides-fit .ensures))
+    (rw (c .before .before .before .before .before .before .before .before .row-at2 .ensures) at (c .sides-fit2 .ensures)))
 
 pub pair-sound-spec : {M : Type 1} → statement M
 pair-sound-spec =

@@ -32,7 +32,8 @@ returns-2 : tie.Need-returns-2
 returns-2 c =
     let a = c .before .before .before .before .before .before .before .before .before .before .before .before .args in
     let lent = lendNames (a .items .now) (a .literals .now) (a .bytes .now) (a .names .now) in
-    let tried = names-tried lent (c .before .before .before .before .before .before .check-tables .ensures) (c .before .before .before .before .enum-told .given .1) (c .before .before .before .check-names .ensures) in
+    let tried = names-tried lent (c .before .before .before .before .before .before .check-tables .ensures) (c .before .before .before .before .enum-told .given .1)
+    (c .before .before .before .check-names .ensures) in
     tables-refused lent (a .tokens .now) tried (c .before .named .given .1)
 
 enum-told-2 : tie.Need-enum-told-2
@@ -64,7 +65,8 @@ returns-4 c =
     let a = n .before .before .before .before .before .before .before .before .before .args in
     let lent = lendNames (a .items .now) (a .literals .now) (a .bytes .now) (a .names .now) in
     let tried = names-tried lent (n .before .before .before .check-tables .ensures) (n .before .enum-told .given .1) (n .check-names .ensures) in
-    tokens-checked lent (a .tokens .now) tried (c .before .before .before .before .enum-told2 .given .1) (c .before .before .before .check-token-count .ensures) (c .before .enum-told3 .given .1) (c .check-tokens .ensures)
+    tokens-checked lent (a .tokens .now) tried (c .before .before .before .before .enum-told2 .given .1) (c .before .before .before .check-token-count .ensures)
+    (c .before .enum-told3 .given .1) (c .check-tokens .ensures)
 
 pub check-lent-spec : {M : Type 1} → statement M
 check-lent-spec =
