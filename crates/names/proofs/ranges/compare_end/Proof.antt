@@ -16,7 +16,9 @@ row-part-requires c κs = literal-lies (c .before .before .before .before .pre .
 
 compare-literal-requires : tie.Need-compare-literal-requires
 compare-literal-requires c κs =
-    ((c .before .before .before .before .before .pre .0 .0, literal-read-fit (c .before .before .before .before .before .pre .1 .0) (c .before .before .before .before .before .pre .1 .1) (c .before .row-at .ensures) (c .row-part .ensures)), c .before .before .before .before .before .pre .0 .1)
+    let start = c .before .before .before .before .before in
+    let literal = literal-read-fit (start .pre .1 .0) (start .pre .1 .1) (c .before .row-at .ensures) (c .row-part .ensures) in
+    ((start .pre .0 .0, literal), start .pre .0 .1)
 
 returns : tie.Need-returns
 returns c =

@@ -64,7 +64,9 @@ in-range-requires : tie.Need-in-range-requires Inv-loop μ-loop
 in-range-requires c κs =
     let start = c .before .before .before .before .before .before .before .before .before in
     let l = rw (c .before .before .before .before .number-at .ensures) at (c .before .before .loop-test .taken) in
-    (start .pre .0, (start .pre .1 .0, rw (c .before .number-at2 .ensures) (start .pre .1 .1 .low (c .before .before .before .loop .k) l), rw (c .number-at3 .ensures) (start .pre .1 .1 .high (c .before .before .before .loop .k) l)))
+    let low = start .pre .1 .1 .low (c .before .before .before .loop .k) l in
+    let high = start .pre .1 .1 .high (c .before .before .before .loop .k) l in
+    (start .pre .0, (start .pre .1 .0, rw (c .before .number-at2 .ensures) low, rw (c .number-at3 .ensures) high))
 
 returns : tie.Need-returns Inv-loop μ-loop
 returns c =

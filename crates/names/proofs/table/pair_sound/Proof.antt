@@ -83,10 +83,11 @@ returns-4 : tie.Need-returns-4
 returns-4 c =
     let a = c .before .before .before .before .before .before .before .before .before .before .before .before .before .args in
     let e : there (now (a .literals)) (a .low) (a .high) ≡ true = not-false _ (c .before .before .before .before .before .before .before .before .before .before .if1 .left) in
+    let s = c .before .before .before .before .before .before in
     let ends =
     alike (rowAt (now (a .literals)) (a .low)) (rowAt (now (a .literals)) (a .high))
-    (c .before .before .before .before .before .before .before .is-numeric .ensures ∙ ap isNumeric
-    (c .before .before .before .before .before .before .before .before .before .row-at .ensures)) (c .before .before .before .before .before .before .is-numeric2 .ensures ∙ ap isNumeric (c .before .before .before .before .before .before .before .before .row-at2 .ensures)) in
+    (s .before .is-numeric .ensures ∙ ap isNumeric (s .before .before .before .row-at .ensures))
+    (s .is-numeric2 .ensures ∙ ap isNumeric (s .before .before .row-at2 .ensures)) in
     let exceeds = sym (rw (c .before .before .before .before .compare-ends .ensures) at (c .before .before .before .relation-holds .ensures)) ∙ c .before .before .if3 .left in
     rw (e, passes ends (c .before .before .before .before .before .if2 .left), exceeds)
     (ap₂ _&&_ (rw (c .before .before .before .before .before .before .before .before .before .row-at .ensures) at (c .before .sides-fit .ensures))
