@@ -10,6 +10,8 @@
  *
  * items, literals  tables of rows of five numbers: kind, offset, size in bytes, scale, digits (0 where the kind is not numeric)
  * bytes            the literal bytes
+ * names            condition-names, rows of 18 numbers: item row, a count of 1 to 8, that many pairs of literal rows (low and high, ends
+ *                  included, alike for a single value), zeros
  * tokens           the condition, each made by OBOECURLEW_TOKEN or one of the macros over it
  * output           room for at least 634 numbers holds every expanded form, 640 every plan
  * plan             rows of five numbers, as oboecurlew_plan writes them
@@ -54,6 +56,7 @@ enum oboecurlew_refusal {
     OBOECURLEW_SPELLING = 15,     /* a faulty word of a condition text: its first byte */
     OBOECURLEW_NAME = 16,         /* read: an unknown or doubled name, its first byte; print: an item without a name of its own, its token */
     OBOECURLEW_LETTERS = 17,      /* invalid alphabetic data reached: as 13 */
+    OBOECURLEW_CONDITION_NAME = 18, /* name table length not a multiple of 18, or over 1,152: 0; else the first unsound row; just after 4 */
     OBOECURLEW_OVERLAP = 19       /* two elementary items share a byte: the first row that overlaps an earlier one */
 };
 
@@ -79,6 +82,7 @@ enum oboecurlew_kind {
 #define OBOECURLEW_ON(number) OBOECURLEW_TOKEN(2, number)
 #define OBOECURLEW_OFF(number) OBOECURLEW_TOKEN(3, number)
 #define OBOECURLEW_WORD(word) OBOECURLEW_TOKEN(4, word)
+#define OBOECURLEW_CONDITION(row) OBOECURLEW_TOKEN(5, row) /* a condition-name, of which names has the row */
 
 /* The words, for OBOECURLEW_WORD; a plan's relation is the word's number too, plus OBOECURLEW_NEGATED where NOT belongs to it. */
 enum oboecurlew_word {
@@ -105,24 +109,28 @@ enum oboecurlew_word {
 /* A plan's targets are later rows, or these verdicts. */
 enum oboecurlew_target { OBOECURLEW_FALSE = 65534, OBOECURLEW_TRUE = 65535 };
 
-/* Writes the expanded form of a condition from the start of the output. Refusals 1 to 10. */
+/* Writes the expanded form of a condition from the start of the output. Refusals 1 to 10, 18. */
 uint32_t oboecurlew_expand(const uint32_t *items, size_t item_numbers, const uint32_t *literals, size_t literal_numbers,
-                           const uint8_t *bytes, size_t byte_count, const uint32_t *tokens, size_t token_count,
+                           const uint8_t *bytes, size_t byte_count, const uint32_t *names, size_t name_numbers,
+                           const uint32_t *tokens, size_t token_count,
                            uint32_t *output, size_t output_numbers, oboecurlew_answer *answer);
 
-/* Writes the plan of a condition, five numbers for each simple condition, from the start of the output. Refusals 1 to 10. */
+/* Writes the plan of a condition, five numbers for each simple condition, from the start of the output. Refusals 1 to 10, 18. */
 uint32_t oboecurlew_plan(const uint32_t *items, size_t item_numbers, const uint32_t *literals, size_t literal_numbers,
-                         const uint8_t *bytes, size_t byte_count, const uint32_t *tokens, size_t token_count,
+                         const uint8_t *bytes, size_t byte_count, const uint32_t *names, size_t name_numbers,
+                         const uint32_t *tokens, size_t token_count,
                          uint32_t *output, size_t output_numbers, oboecurlew_answer *answer);
 
-/* Judges a condition on a record and a switch byte. Refusals 1 to 9, 12, 13, 17. */
+/* Judges a condition on a record and a switch byte. Refusals 1 to 9, 18, 12, 13, 17. */
 uint32_t oboecurlew_judge(const uint32_t *items, size_t item_numbers, const uint32_t *literals, size_t literal_numbers,
-                          const uint8_t *bytes, size_t byte_count, const uint32_t *tokens, size_t token_count,
+                          const uint8_t *bytes, size_t byte_count, const uint32_t *names, size_t name_numbers,
+                          const uint32_t *tokens, size_t token_count,
                           const uint8_t *record, size_t record_size, uint8_t switches, oboecurlew_answer *answer);
 
-/* Runs a plan on a record and a switch byte. Refusals 1 to 4, 11, 12, 13, 17. */
+/* Runs a plan on a record and a switch byte. Refusals 1 to 4, 18, 11, 12, 13, 17. */
 uint32_t oboecurlew_run(const uint32_t *items, size_t item_numbers, const uint32_t *literals, size_t literal_numbers,
-                        const uint8_t *bytes, size_t byte_count, const uint32_t *plan, size_t plan_numbers,
+                        const uint8_t *bytes, size_t byte_count, const uint32_t *names, size_t name_numbers,
+                        const uint32_t *plan, size_t plan_numbers,
                         const uint8_t *record, size_t record_size, uint8_t switches, oboecurlew_answer *answer);
 
 /* Lists each elementary item whose bytes differ between two copies of a record, in row order: its row, and 'V' where the values differ,

@@ -5,6 +5,7 @@
 mod condition;
 mod content;
 mod damage;
+mod names;
 mod plans;
 pub(crate) mod records;
 mod tables;
@@ -14,7 +15,9 @@ mod tests;
 use crate::answers::ENOUGH;
 use crate::case::Case;
 use crate::random::Random;
+use crate::rules::names::NAME_ROW;
 use crate::rules::tables::ROW;
+use crate::rules::tokens::NAME;
 use crate::rules::{self, Refusal};
 
 /// Case `index` of a seed.
@@ -33,12 +36,8 @@ pub fn case(seed: u64, index: u64) -> Case {
     case
 }
 
-/// Literals and a condition over given items, each sometimes damaged.
-pub fn over_items(random: &mut Random, items: Vec<u32>) -> Case {
-    let mut case = Case {
-        items,
-        ..Case::default()
-    };
+/// More literals and a condition over given tables, each sometimes damaged.
+pub fn over_tables(random: &mut Random, mut case: Case) -> Case {
     let theme = content::Theme::choose(random);
     tables::fill_literals(random, &theme, &mut case);
     case.tokens = condition::tokens(random, &case);
@@ -151,10 +150,22 @@ fn any_switch(random: &mut Random) -> u32 {
     random.between(2, 3) * 65_536 + random.below(8)
 }
 
+fn any_name(random: &mut Random, case: &Case) -> Option<u32> {
+    let names = (case.names.len() / NAME_ROW) as u32;
+    (names > 0).then(|| NAME + random.below(names))
+}
+
+/// A condition-name if there is one and chance wills it, or a switch.
+fn any_whole(random: &mut Random, case: &Case) -> u32 {
+    let name = any_name(random, case).filter(|_| random.chance(600));
+    name.unwrap_or_else(|| any_switch(random))
+}
+
 /// A well-typed simple condition as the first three numbers of a plan row.
 fn simple_condition(random: &mut Random, case: &Case) -> [u32; 3] {
     let triple = match random.below(20) {
-        0..=2 => None,
+        0..=1 => None,
+        2 | 19 => any_name(random, case).map(|name| [name, 0, 0]),
         3..=5 => test_of(random, case, &[10, 10, 11, 12, 13]),
         6..=7 => test_of(random, case, &[14, 15, 16]),
         _ => relation_of(random, case),

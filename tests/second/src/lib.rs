@@ -11,6 +11,7 @@ mod comparison;
 pub mod descriptions;
 pub mod differ;
 pub mod generate;
+pub mod literals;
 pub mod mend;
 pub mod outside;
 pub mod random;

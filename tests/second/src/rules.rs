@@ -11,6 +11,7 @@ pub(crate) mod content;
 mod expand;
 mod grammar;
 mod judge;
+pub(crate) mod names;
 mod parts;
 mod plan;
 pub(crate) mod tables;
@@ -18,7 +19,7 @@ pub(crate) mod tables;
 mod tests;
 pub(crate) mod tokens;
 mod typing;
-mod values;
+pub(crate) mod values;
 
 pub use plan::{VERDICT_FALSE, VERDICT_TRUE};
 pub use tables::Tables;
@@ -113,7 +114,7 @@ pub fn run(tables: &Tables, plan: &[u32], record: &[u8], switches: u8) -> Judged
     }
 }
 
-/// Refusals 1 to 9 in their order; 7 and 8 come out of one walk. Gives the
+/// Refusals 1 to 4, 18, 5 to 9 in their order; 7 and 8 come out of one walk. Gives the
 /// number of simple conditions.
 fn check_condition(tables: &Tables, tokens: &[u32]) -> Result<usize, Refusal> {
     tables::check_tables(tables)?;

@@ -1,9 +1,11 @@
 //! Damage: one rule broken, mostly by one.
 
-use super::{any_operand, condition, find_operand, tables, Facts};
+use super::{any_operand, condition, find_operand, names, tables, Facts};
 use crate::case::Case;
 use crate::random::Random;
+use crate::rules::names::NAME_ROW;
 use crate::rules::tables::ROW;
+use crate::rules::tokens::NAME;
 
 const WORD: u32 = 4 * 65_536;
 const WORD_10: u32 = WORD + 10;
@@ -89,8 +91,8 @@ pub fn missing_token(random: &mut Random, case: &Case) -> u32 {
         2 => 2 * 65_536 + 8,
         3 => 3 * 65_536 + 8,
         4 => WORD + 17,
-        5 => 5 * 65_536 + random.below(8),
-        6 => random.below(5) * 65_536 + 65_535,
+        5 => NAME + (case.names.len() / NAME_ROW) as u32,
+        6 => random.below(7) * 65_536 + 65_535,
         7 => 0xFFFF_0000 + random.below(17),
         _ => random.any() as u32 | 0x8_0000,
     }
@@ -109,7 +111,7 @@ pub fn cut_record(random: &mut Random, case: &mut Case) {
 
 /// Leaves the tables of nine cases in ten alone; sometimes breaks two rules.
 pub fn damage_tables(random: &mut Random, case: &mut Case) {
-    if random.chance(100) {
+    if random.chance(120) {
         damage_a_table(random, case);
         if random.chance(200) {
             damage_a_table(random, case);
@@ -139,7 +141,8 @@ fn damage_a_table(random: &mut Random, case: &mut Case) {
     match random.below(20) {
         0..=3 => break_length(random, &mut case.items),
         4..=8 => break_item_row(random, case),
-        9..=12 => break_length(random, &mut case.literals),
+        9..=11 => break_length(random, &mut case.literals),
+        12..=15 => names::damage(random, case),
         _ => break_literal_row(random, case),
     }
 }
@@ -259,7 +262,21 @@ pub fn damage_plan(random: &mut Random, plan: &mut Vec<u32>) {
         7 => plan[start + 1] = random.pick(&[5, 7, 9, 10, 11, 14, 37, 42]),
         8 => plan[start + 2] = plan[start + 2].wrapping_add(1),
         9 => plan[start + 2] = random.pick(&[0, 1, 64, 65_536, 65_600, 131_072, WORD]),
-        10 => plan[start] = random.pick(&[0, 1, 64, 65_536, 131_079, 131_080, 196_616, WORD]),
+        10 => {
+            let tokens = [
+                0,
+                1,
+                64,
+                65_536,
+                131_079,
+                131_080,
+                196_616,
+                WORD,
+                NAME,
+                NAME + 64,
+            ];
+            plan[start] = random.pick(&tokens);
+        }
         11 => plan[start] = random.any() as u32,
         12 => plan[start + 2] = 0,
         _ => plan[start + random.index(5)] ^= 1 << random.below(32),
