@@ -61,7 +61,15 @@ pub fn judge<'a>(store: &[u32], bytes: &'a [u8], record: &'a [u8]) {
     let literals = part(store, LITERALS);
     let names = part(store, NAMES);
     let tokens = part(store, TOKENS);
-    let given = calls::judge(items, literals, bytes, names, tokens, record, switches(store));
+    let given = calls::judge(
+        items,
+        literals,
+        bytes,
+        names,
+        tokens,
+        record,
+        switches(store),
+    );
     print::judged(b"judge: ", given);
 }
 

@@ -29,7 +29,15 @@ pub fn judge<'a>(words: &[u32], bytes: &'a [u8], record: &'a [u8]) -> Judged {
     let literals = part(words, LITERALS);
     let names = part(words, NAMES);
     let tokens = part(words, TOKENS);
-    calls::judge(items, literals, bytes, names, tokens, record, switches(words))
+    calls::judge(
+        items,
+        literals,
+        bytes,
+        names,
+        tokens,
+        record,
+        switches(words),
+    )
 }
 
 pub fn run<'a>(words: &[u32], bytes: &'a [u8], plan: &[u32], record: &'a [u8]) -> Judged {
