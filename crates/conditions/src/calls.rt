@@ -8,9 +8,10 @@ ghost use Rattle.tables.specs.Operands.{lendNames};
 ghost use Rattle.grammar.specs.Judging.{walk};
 ghost use Rattle.rules.specs.Calls.{expandGives, planGives, told, judgeGives, runGives, Leaves};
 use checks::lent::check_record;
+use checks::lent::check_tables;
 use expander::expand::expanded_length;
 use expander::expand::write_expanded;
-use names::table::check_lent_tables;
+use names::table::check_names;
 use plans::checks::check_plan;
 use preparer::Prepared;
 use preparer::prepare::prepare;
@@ -141,8 +142,12 @@ pub fn run<'a>(
 ) -> Judged
     ensures { λ r. ⌜ r ≡ runGives (lendNames (now (items .entry)) (now (literals .entry)) (now (bytes .entry)) (now (names .entry))) (now (plan .entry)) (now («record» .entry)) switches ⌝ }
 {
-    let tables = check_lent_tables(items, literals, bytes, names);
+    let tables = check_tables(items, literals, bytes);
     if let Check::Refused(refusal) = tables {
+        return unjudged(refusal);
+    }
+    let named = check_names(items, literals, bytes, names);
+    if let Check::Refused(refusal) = named {
         return unjudged(refusal);
     }
     let rows = check_plan(items, literals, names, plan);

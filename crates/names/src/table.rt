@@ -1,4 +1,4 @@
-// Refusal 18: the rows of the name table, after 1 to 4.
+// Refusal 18: the rows of the name table, of tables that 1 to 4 let pass.
 ghost use mathlib.Core.Path.{_≡_};
 ghost use mathlib.Core.List.{[]};
 ghost use Prim.Native.Nat.{_+_, _*_, _<_};
@@ -8,13 +8,12 @@ ghost use Rattle.tables.specs.Rows.{rowCount};
 ghost use Rattle.tables.specs.Operands.{lend, lendNames};
 ghost use Rattle.tables.specs.Refusals.{firstOf};
 ghost use Rattle.tables.specs.Tables.{tableLines};
-ghost use Rattle.values.specs.Names.{every, pairSound, nameSound, nameCheck, lentLines, literalSide};
+ghost use Rattle.values.specs.Names.{every, pairSound, nameSound, nameCheck, literalSide};
 ghost use Rattle.values.specs.Comparison.{comparison};
 ghost use Rattle.names.specs.Ranges.{Literals, placeOf};
 use crate::ranges::compare_literal;
 use crate::ranges::held;
 use crate::ranges::number_at;
-use checks::lent::check_tables;
 use compare::Order;
 use compare::orders::relation_holds;
 use tables::Check;
@@ -124,7 +123,7 @@ fn check_name_rows(items: &[u32], literals: &[u32], bytes: &[u8], names: &[u32])
     Check::Sound
 }
 
-// 18. Most rules have no names: a test of the length, which stands in the caller, is then all.
+// 18. Most rules have no names: a test of the length is then all.
 pub fn check_names(items: &[u32], literals: &[u32], bytes: &[u8], names: &[u32]) -> Check
     requires { ⌜ firstOf (tableLines (lend (now items) (now literals) (now bytes))) ≡ Sound ⌝ }
     ensures { λ r. ⌜ r ≡ nameCheck (lendNames (now (items .entry)) (now (literals .entry)) (now (bytes .entry)) (now (names .entry))) ⌝ }
@@ -133,15 +132,4 @@ pub fn check_names(items: &[u32], literals: &[u32], bytes: &[u8], names: &[u32])
         return Check::Sound;
     }
     check_name_rows(items, literals, bytes, names)
-}
-
-// 1 to 4, and 18 just after 4.
-pub fn check_lent_tables(items: &[u32], literals: &[u32], bytes: &[u8], names: &[u32]) -> Check
-    ensures { λ r. ⌜ r ≡ firstOf (lentLines (lendNames (now (items .entry)) (now (literals .entry)) (now (bytes .entry)) (now (names .entry)))) ⌝ }
-{
-    let tables = check_tables(items, literals, bytes);
-    if let Check::Refused(refusal) = tables {
-        return Check::Refused(refusal);
-    }
-    check_names(items, literals, bytes, names)
 }

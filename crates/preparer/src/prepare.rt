@@ -9,9 +9,10 @@ ghost use Rattle.grammar.specs.Depth.{depthCheck};
 ghost use Rattle.rules.specs.Calls.{earlier, tokenLines};
 ghost use Rattle.preparer.specs.Prepared.{parseCheck, parsedTokens, There, Resolves, Prepares};
 use crate::Prepared;
+use checks::lent::check_tables;
 use checks::tokens::check_token_count;
 use checks::tokens::check_tokens;
-use names::table::check_lent_tables;
+use names::table::check_names;
 use parser::Parse;
 use parser::cycle::parse;
 use plans::checks::check_typing;
@@ -24,8 +25,12 @@ use tables::refusals::place_of;
 fn check_lent(items: &[u32], literals: &[u32], bytes: &[u8], names: &[u32], tokens: &[u32]) -> Check
     ensures { λ r. ⌜ r ≡ firstOf (tokenLines (lendNames (now (items .entry)) (now (literals .entry)) (now (bytes .entry)) (now (names .entry))) (now (tokens .entry))) ⌝ }
 {
-    let tables = check_lent_tables(items, literals, bytes, names);
+    let tables = check_tables(items, literals, bytes);
     if let Check::Refused(refusal) = tables {
+        return Check::Refused(refusal);
+    }
+    let named = check_names(items, literals, bytes, names);
+    if let Check::Refused(refusal) = named {
         return Check::Refused(refusal);
     }
     let count = check_token_count(tokens);

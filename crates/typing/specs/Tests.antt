@@ -9,7 +9,8 @@ abbrev pub within : ℕ → ℕ → ℕ → Bool
 within low high x = leb low x && leb x high
 
 -- "The relation is the word number, plus 32 where NOT belongs to it. A switch has 0, 0 after its token", and (02, h) a
--- condition-name's "plan row is the token, 0, 0 and targets": 0 is a token alone. Words 5 to 9 are relations, of which NOT may stand before 5, 6, 7; 10 to 13 are classes and 14 to 16 signs, each with or without NOT.
+-- condition-name's "plan row is the token, 0, 0 and targets": 0 is a token alone. Words 5 to 9 are relations, of which NOT may stand before
+-- 5, 6, 7; 10 to 13 are classes and 14 to 16 signs, each with or without NOT.
 abbrev pub testOf : ℕ → Test
 testOf relation =
     cond (eqb relation 0) Alone

@@ -1,30 +1,25 @@
+-- Rests on the side that the code reads of a literal.
 use mathlib.Core.Bool.{true}
-use mathlib.Core.Path.{_≡_, ap, _∙_}
+use mathlib.Core.Path.{ap, _∙_}
 use denote.Ref.{now}
+use borrow.Author.Needs.{needs}
 use Rattle.values.specs.Comparison.{side, comparison}
 use Rattle.names.proofs.Ends.{literal-lies, literal-read, literal-read-fit}
-use borrow.Author.Needs.{needs}
 use Rattle.names.proofs.ranges.compare_end.Statement.{statement}
 use Rattle.names.proofs.ranges.compare_end.Tie as tie
-use Rattle.names.proofs.ranges.compare_end.Reads as reads
-use Rattle.names.proofs.ranges.compare_end.Lts as lts
-use Rattle.names.proofs.ranges.compare_literal.Reads as compare-literal-reads
-use Rattle.tables.proofs.rows.row_at.Reads as row-at-reads
-use Rattle.tables.proofs.rows.row_part.Reads as row-part-reads
 
--- src/ranges.rt:96:9
 row-at-requires : tie.Need-row-at-requires
 row-at-requires c κs = search needs
 
--- src/ranges.rt:103:9
 row-part-requires : tie.Need-row-part-requires
 row-part-requires c κs = literal-lies (c .before .before .before .before .pre .1 .0) (c .before .before .before .before .pre .1 .1) (c .row-at .ensures)
 
--- src/ranges.rt:97:5
 compare-literal-requires : tie.Need-compare-literal-requires
-compare-literal-requires c κs = ((c .before .before .before .before .before .pre .0 .0, literal-read-fit (c .before .before .before .before .before .pre .1 .0) (c .before .before .before .before .before .pre .1 .1) (c .before .row-at .ensures) (c .row-part .ensures)), c .before .before .before .before .before .pre .0 .1)
+compare-literal-requires c κs =
+    let start = c .before .before .before .before .before in
+    let literal = literal-read-fit (start .pre .1 .0) (start .pre .1 .1) (c .before .row-at .ensures) (c .row-part .ensures) in
+    ((start .pre .0 .0, literal), start .pre .0 .1)
 
--- src/ranges.rt:84:1
 returns : tie.Need-returns
 returns c =
     let start = c .before .before .before .before .before .before in

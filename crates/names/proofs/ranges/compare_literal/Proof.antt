@@ -1,38 +1,33 @@
-use mathlib.Core.Path.{_≡_, refl, sym, ap₂, _∙_}
+-- By value where both sides are numeric, else by characters: what the callees return.
+use mathlib.Core.Path.{sym, ap₂, _∙_}
 use mathlib.Core.Bool.{false, _&&_}
 use denote.Ref.{now}
+use borrow.Author.Needs.{needs}
 use Rattle.tables.proofs.Tests.{both}
 use Rattle.values.specs.Comparison.{side}
 use Rattle.values.proofs.Reading.{numeral, by-value}
-use borrow.Author.Needs.{needs}
 use Rattle.names.proofs.ranges.compare_literal.Statement.{statement}
 use Rattle.names.proofs.ranges.compare_literal.Tie as tie
-use Rattle.names.proofs.ranges.compare_literal.Reads as reads
-use Rattle.names.proofs.ranges.compare_literal.Lts as lts
-use Rattle.numbers.proofs.fields.read_number.Reads as read-number-reads
-use Rattle.numbers.proofs.scaled.compare_scaled.Reads as compare-scaled-reads
-use Rattle.tables.proofs.rows.is_numeric.Reads as is-numeric-reads
-use Rattle.values.proofs.sides.compare_sides.Reads as compare-sides-reads
 
--- src/ranges.rt:69:8
 is-numeric-requires : tie.Need-is-numeric-requires
 is-numeric-requires c κs = search needs
 
--- src/ranges.rt:69:26
 is-numeric-requires-2 : tie.Need-is-numeric-requires-2
 is-numeric-requires-2 c κs = search needs
 
--- src/ranges.rt:70:13
 read-number-requires : tie.Need-read-number-requires
-read-number-requires c κs = numeral (c .before .before .before .before .before .pre .0 .1) (sym (c .before .is-numeric2 .ensures) ∙ both (c .before .before .is-numeric .result) _ (c .if1 .taken) .1) .field
+read-number-requires c κs =
+    numeral (c .before .before .before .before .before .pre .0 .1)
+    (sym (c .before .is-numeric2 .ensures) ∙ both (c .before .before .is-numeric .result) _ (c .if1 .taken) .1) .field
 
--- src/ranges.rt:71:9
 compare-scaled-requires : tie.Need-compare-scaled-requires
 compare-scaled-requires c κs =
-    let n = both _ _ (c .before .if1 .taken) in
-    (numeral (c .before .before .before .before .before .before .pre .0 .0) (sym (c .before .before .before .is-numeric .ensures) ∙ n .0) .scaled, numeral (c .before .before .before .before .before .before .pre .0 .1) (sym (c .before .before .is-numeric2 .ensures) ∙ n .1) .scaled)
+    let n = both _ _ (c .before .if1 .taken) in (
+      numeral (c .before .before .before .before .before .before .pre .0 .0) (sym (c .before .before .before .is-numeric .ensures) ∙ n .0) .scaled,
+      numeral
+          (c .before .before .before .before .before .before .pre .0 .1) (sym (c .before .before .is-numeric2 .ensures) ∙ n .1) .scaled,
+    )
 
--- src/ranges.rt:71:9
 returns : tie.Need-returns
 returns c =
     let start = c .before .before .before .before .before .before .before in
@@ -43,11 +38,9 @@ returns c =
     rw (start .pre .1 .counts m, c .before .read-number .ensures) at (c .compare-scaled .ensures)
     ∙ sym (by-value (side (a .item) (a .row) (now (a .bytes))) (side false (a .literal) (now (a .value))) m o)
 
--- src/ranges.rt:80:5
 compare-sides-requires : tie.Need-compare-sides-requires
 compare-sides-requires c κs = (c .before .before .before .before .before .pre .0, sym (ap₂ _&&_ (c .before .before .is-numeric .ensures) (c .before .is-numeric2 .ensures)) ∙ c .if1 .left)
 
--- src/ranges.rt:57:1
 returns-2 : tie.Need-returns-2
 returns-2 c = search needs
 

@@ -1,30 +1,24 @@
-use mathlib.Core.Path.{_≡_, sym, ap, _∙_}
+-- Of a single value one comparison tells; else the low end and then the high end.
+use mathlib.Core.Path.{sym, ap, _∙_}
 use mathlib.Core.Bool.{true, _&&_}
 use mathlib.Core.List.{[]}
 use denote.Ref.{now}
+use borrow.Author.Needs.{needs}
 use Rattle.tables.specs.Operands.{lend}
 use Rattle.tables.proofs.Lines.{passes, fails}
 use Rattle.compare.specs.Order.{relationHolds}
 use Rattle.values.specs.Comparison.{side, comparison}
 use Rattle.values.specs.Names.{literalSide}
 use Rattle.values.proofs.Names.{single-value}
-use borrow.Author.Needs.{needs}
 use Rattle.names.proofs.ranges.in_range.Statement.{statement}
 use Rattle.names.proofs.ranges.in_range.Tie as tie
-use Rattle.names.proofs.ranges.in_range.Reads as reads
-use Rattle.names.proofs.ranges.in_range.Lts as lts
-use Rattle.compare.proofs.orders.relation_holds.Reads as relation-holds-reads
-use Rattle.names.proofs.ranges.compare_end.Reads as compare-end-reads
 
--- src/ranges.rt:121:9
 compare-end-requires : tie.Need-compare-end-requires
 compare-end-requires c κs = search needs
 
--- src/ranges.rt:123:9
 relation-holds-requires : tie.Need-relation-holds-requires
 relation-holds-requires c κs = search needs
 
--- src/ranges.rt:123:9
 returns : tie.Need-returns
 returns c =
     let a = c .before .before .before .before .before .before .args in
@@ -35,23 +29,18 @@ returns c =
     ∙ sym (single-value item (literalSide lent (a .low)))
     ∙ ap (λ h. relationHolds 8 (comparison item (literalSide lent (a .low))) && relationHolds 9 (comparison item (literalSide lent h))) (c .before .if1 .taken)
 
--- src/ranges.rt:125:9
 relation-holds-requires-2 : tie.Need-relation-holds-requires-2
 relation-holds-requires-2 c κs = search needs
 
--- src/ranges.rt:126:9
 returns-2 : tie.Need-returns-2
 returns-2 c = rw (fails (rw (c .before .before .before .compare-end .ensures) at (c .before .relation-holds2 .ensures)) (c .if2 .taken))
 
--- src/ranges.rt:130:9
 compare-end-requires-2 : tie.Need-compare-end-requires-2
 compare-end-requires-2 c κs = search needs
 
--- src/ranges.rt:128:5
 relation-holds-requires-3 : tie.Need-relation-holds-requires-3
 relation-holds-requires-3 c κs = search needs
 
--- src/ranges.rt:108:1
 returns-3 : tie.Need-returns-3
 returns-3 c =
     rw (passes (rw (c .before .before .before .before .before .compare-end .ensures) at (c .before .before .before .relation-holds2 .ensures)) (c .before .before .if2 .left))

@@ -1,4 +1,5 @@
-use Prim.Native.Nat.{_-_, _≤_}
+-- The invariant: none of the ranges passed holds the item.
+use Prim.Native.Nat.{_-_, _≤_, ℕ}
 use native.Mathlib.Omega.{arith}
 use mathlib.Core.Path.{_≡_, sym, ap, _∙_}
 use mathlib.Core.Bool.{Bool, true, false}
@@ -9,13 +10,8 @@ use Rattle.tables.specs.Names.{namePairs, nameLow, nameHigh}
 use Rattle.values.specs.Comparison.{Side, side}
 use Rattle.values.specs.Names.{some, literalSide, inRange}
 use Rattle.names.proofs.Counting.{none-yet, some-more, some-holds}
-use Prim.Native.Nat.{ℕ}
 use Rattle.names.proofs.ranges.some_range.Statement.{statement}
 use Rattle.names.proofs.ranges.some_range.Tie as tie
-use Rattle.names.proofs.ranges.some_range.Reads as reads
-use Rattle.names.proofs.ranges.some_range.Lts as lts
-use Rattle.names.proofs.ranges.in_range.Reads as in-range-reads
-use Rattle.names.proofs.ranges.number_at.Reads as number-at-reads
 
 -- range j of the name
 abbrev lies : Side → List ℕ → List ℕ → List ℕ → ℕ → ℕ → Bool
@@ -28,62 +24,50 @@ Inv-loop row part number literals bytes names v at pairs k₀ k = (k ≤ pairs) 
 abbrev μ-loop : tie.MeasureT-loop
 μ-loop row part number literals bytes names v at pairs k₀ k = pairs - k
 
--- src/ranges.rt:148:14
 mul-at : tie.Need-mul-at Inv-loop μ-loop
 mul-at c = omega arith
 
--- src/ranges.rt:149:34
 add-number-at : tie.Need-add-number-at Inv-loop μ-loop
 add-number-at c = omega arith
 
--- src/ranges.rt:149:9
 number-at-requires : tie.Need-number-at-requires Inv-loop μ-loop
 number-at-requires c κs = omega arith
 
--- src/ranges.rt:151:5
 loop-holds : tie.Need-loop-holds Inv-loop μ-loop
 loop-holds c = (omega arith, none-yet _)
 
--- src/ranges.rt:152:36
 add-number-at-2 : tie.Need-add-number-at-2 Inv-loop μ-loop
 add-number-at-2 c = omega arith
 
--- src/ranges.rt:152:45
 mul-number-at : tie.Need-mul-number-at Inv-loop μ-loop
 mul-number-at c = omega arith
 
--- src/ranges.rt:152:36
 add-number-at-3 : tie.Need-add-number-at-3 Inv-loop μ-loop
 add-number-at-3 c = omega arith
 
--- src/ranges.rt:152:13
 number-at-requires-2 : tie.Need-number-at-requires-2 Inv-loop μ-loop
 number-at-requires-2 c κs = omega arith
 
--- src/ranges.rt:153:37
 add-number-at-4 : tie.Need-add-number-at-4 Inv-loop μ-loop
 add-number-at-4 c = omega arith
 
--- src/ranges.rt:153:46
 mul-number-at-2 : tie.Need-mul-number-at-2 Inv-loop μ-loop
 mul-number-at-2 c = omega arith
 
--- src/ranges.rt:153:37
 add-number-at-5 : tie.Need-add-number-at-5 Inv-loop μ-loop
 add-number-at-5 c = omega arith
 
--- src/ranges.rt:153:13
 number-at-requires-3 : tie.Need-number-at-requires-3 Inv-loop μ-loop
 number-at-requires-3 c κs = omega arith
 
--- src/ranges.rt:154:12
 in-range-requires : tie.Need-in-range-requires Inv-loop μ-loop
 in-range-requires c κs =
     let start = c .before .before .before .before .before .before .before .before .before in
     let l = rw (c .before .before .before .before .number-at .ensures) at (c .before .before .loop-test .taken) in
-    (start .pre .0, (start .pre .1 .0, rw (c .before .number-at2 .ensures) (start .pre .1 .1 .low (c .before .before .before .loop .k) l), rw (c .number-at3 .ensures) (start .pre .1 .1 .high (c .before .before .before .loop .k) l)))
+    let low = start .pre .1 .1 .low (c .before .before .before .loop .k) l in
+    let high = start .pre .1 .1 .high (c .before .before .before .loop .k) l in
+    (start .pre .0, (start .pre .1 .0, rw (c .before .number-at2 .ensures) low, rw (c .number-at3 .ensures) high))
 
--- src/ranges.rt:155:13
 returns : tie.Need-returns Inv-loop μ-loop
 returns c =
     let start = c .before .before .before .before .before .before .before .before .before .before .before in
@@ -93,15 +77,12 @@ returns c =
     let found = rw (c .before .before .before .number-at2 .ensures, c .before .before .number-at3 .ensures) at (c .before .in-range .ensures) in
     sym (some-holds test (c .before .before .before .before .before .loop .k) (namePairs (now (a .names)) (a .v)) l (sym found ∙ c .if1 .taken))
 
--- src/ranges.rt:157:9
 add-k : tie.Need-add-k Inv-loop μ-loop
 add-k c = omega arith
 
--- src/ranges.rt:151:5
 loop-less : tie.Need-loop-less Inv-loop μ-loop
 loop-less c = omega arith
 
--- src/ranges.rt:151:5
 loop-again : tie.Need-loop-again Inv-loop μ-loop
 loop-again c =
     let start = c .before .before .before .before .before .before .before .before .before .before .before in
@@ -110,7 +91,6 @@ loop-again c =
     let found = rw (c .before .before .before .number-at2 .ensures, c .before .before .number-at3 .ensures) at (c .before .in-range .ensures) in
     (omega arith, some-more test (c .before .before .before .before .before .loop .k) (c .before .before .before .before .before .loop .inv .1) (sym found ∙ c .if1 .left))
 
--- src/ranges.rt:135:1
 returns-2 : tie.Need-returns-2 Inv-loop μ-loop
 returns-2 c =
     let a = c .before .before .before .before .before .before .before .args in

@@ -1,3 +1,4 @@
+-- The laws of a loop that seeks the first place that fails a test.
 use Prim.Native.Nat.{ℕ, _-_}
 use native.Mathlib.Omega.{arith}
 use mathlib.Core.Path.{_≡_, refl, sym, _∙_}
@@ -14,9 +15,6 @@ use Rattle.values.specs.Names.{nameSound}
 use Rattle.values.proofs.Names.{literal-fit}
 use Rattle.names.proofs.table.check_name_rows.Statement.{statement}
 use Rattle.names.proofs.table.check_name_rows.Tie as tie
-use Rattle.names.proofs.table.check_name_rows.Reads as reads
-use Rattle.names.proofs.table.check_name_rows.Lts as lts
-use Rattle.names.proofs.table.name_sound.Reads as name-sound-reads
 
 -- the line on the table's length does not apply
 past : (names : List ℕ) {line : Check} → not (namesLengthSound names) ≡ false → line ≡ firstOf (unless (namesLengthSound names) (Name 0) ∷ line ∷ [])
@@ -28,40 +26,33 @@ Inv-loop items literals bytes names rows v₀ v = Passed (nameSound (lendNames i
 abbrev μ-loop : tie.MeasureT-loop
 μ-loop items literals bytes names rows v₀ v = rows - v
 
--- src/table.rt:122:9
 returns : tie.Need-returns Inv-loop μ-loop
 returns c =
     sym (line-refused _ (test-failed {b = namesLengthSound (now (c .before .before .before .before .before .args .names))} (Name 0) refl (c .if1 .taken)))
 
--- src/table.rt:125:5
 loop-holds : tie.Need-loop-holds Inv-loop μ-loop
 loop-holds c = passed-none _ _ _
 
--- src/table.rt:126:13
 name-sound-requires : tie.Need-name-sound-requires Inv-loop μ-loop
 name-sound-requires c κs =
     let start = c .before .before .before .before .before .before .before in
     let a = start .args in
     (record { fits = literal-fit (lend (now (a .items)) (now (a .literals)) (now (a .bytes))) (start .pre) }, omega arith)
 
--- src/table.rt:127:13
 returns-2 : tie.Need-returns-2 Inv-loop μ-loop
 returns-2 c =
-    failed-at (c .before .before .before .loop .inv) (c .before .before .loop-test .taken) (c .before .name-sound .ensures) (c .if2 .taken) ∙ past (now (c .before .before .before .before .before .before .before .before .before .args .names)) (c .before .before .before .before .if1 .left)
+    failed-at (c .before .before .before .loop .inv) (c .before .before .loop-test .taken) (c .before .name-sound .ensures) (c .if2 .taken) ∙ past
+    (now (c .before .before .before .before .before .before .before .before .before .args .names)) (c .before .before .before .before .if1 .left)
 
--- src/table.rt:129:9
 add-v : tie.Need-add-v Inv-loop μ-loop
 add-v c = omega arith
 
--- src/table.rt:125:5
 loop-less : tie.Need-loop-less Inv-loop μ-loop
 loop-less c = omega arith
 
--- src/table.rt:125:5
 loop-again : tie.Need-loop-again Inv-loop μ-loop
 loop-again c = passed-more (c .before .before .before .loop .inv) (c .before .before .loop-test .taken) (c .before .name-sound .ensures) (c .if2 .left)
 
--- src/table.rt:116:1
 returns-3 : tie.Need-returns-3 Inv-loop μ-loop
 returns-3 c = passed-all (c .before .loop .inv) (c .loop-test .left) ∙ past (now (c .before .before .before .before .before .before .before .args .names)) (c .before .before .if1 .left)
 

@@ -1,45 +1,35 @@
-use Prim.Native.Nat.{_<_}
-use Prim.Native.Nat.{ℕ, _/_}
+-- Rests on the numbers that the code reads of the row, and on its places.
+use Prim.Native.Nat.{_<_, ℕ}
+use native.Mathlib.Omega.{arith}
 use mathlib.Core.Bool.{Bool, true, false, _&&_}
 use mathlib.Core.List.{List}
+use mathlib.Core.Path.{_≡_}
 use lib.Dec.{ltb, leb}
 use denote.Ref.{now}
+use borrow.Author.Tests.{ltb-true, not-true, not-false}
+use borrow.Author.Needs.{needs}
 use Rattle.tables.specs.Rows.{rowCount}
 use Rattle.tables.specs.Names.{nameItem, namePairs}
-use native.Mathlib.Omega.{arith}
-use mathlib.Core.Path.{_≡_}
-use borrow.Author.Tests.{ltb-true, not-true, not-false}
 use Rattle.tables.proofs.Tests.{both}
-use borrow.Author.Needs.{needs}
 use Rattle.names.proofs.table.name_sound.Statement.{statement}
 use Rattle.names.proofs.table.name_sound.Tie as tie
-use Rattle.names.proofs.table.name_sound.Reads as reads
-use Rattle.names.proofs.table.name_sound.Lts as lts
-use Rattle.names.proofs.ranges.number_at.Reads as number-at-reads
-use Rattle.names.proofs.table.places_sound.Reads as places-sound-reads
-use Rattle.tables.proofs.rows.row_at.Reads as row-at-reads
 
 -- the item is a row of its table, and there are 1 to 8 pairs
 abbrev counted : List ℕ → ℕ → ℕ → Bool
 counted items item pairs = ltb item (rowCount items) && leb 1 pairs && leb pairs 8
 
--- src/table.rt:106:14
 mul-at : tie.Need-mul-at
 mul-at c = search needs
 
--- src/table.rt:107:9
 number-at-requires : tie.Need-number-at-requires
 number-at-requires c κs = search needs
 
--- src/table.rt:108:34
 add-number-at : tie.Need-add-number-at
 add-number-at c = search needs
 
--- src/table.rt:108:9
 number-at-requires-2 : tie.Need-number-at-requires-2
 number-at-requires-2 c κs = search needs
 
--- src/table.rt:110:9
 returns : tie.Need-returns
 returns c =
     let a = c .before .before .before .before .before .before .before .args in
@@ -48,20 +38,18 @@ returns c =
     rw (c .before .before .number-at .ensures, c .before .number-at2 .ensures) at f in
     rw e
 
--- src/table.rt:112:18
 row-at-requires : tie.Need-row-at-requires
 row-at-requires c κs =
     let a = c .before .before .before .before .before .before .before .args in
     let e : counted (now (a .items)) (c .before .before .number-at .result) (c .before .number-at2 .result) ≡ true = not-false _ (c .if1 .left) in
     let f = both (ltb (c .before .before .number-at .result) (rowCount (now (a .items))) && leb 1 (c .before .number-at2 .result)) (leb (c .before .number-at2 .result) 8) e in
-    let l : c .before .before .number-at .result < rowCount (now (a .items)) = ltb-true _ _ (both (ltb (c .before .before .number-at .result) (rowCount (now (a .items)))) (leb 1 (c .before .number-at2 .result)) (f .0) .0) in
+    let l : c .before .before .number-at .result < rowCount (now (a .items)) = ltb-true _ _
+    (both (ltb (c .before .before .number-at .result) (rowCount (now (a .items)))) (leb 1 (c .before .number-at2 .result)) (f .0) .0) in
     omega arith
 
--- src/table.rt:112:5
 places-sound-requires : tie.Need-places-sound-requires
 places-sound-requires c κs = search needs
 
--- src/table.rt:102:1
 returns-2 : tie.Need-returns-2
 returns-2 c =
     let a = c .before .before .before .before .before .before .before .before .before .args in

@@ -1,38 +1,27 @@
-use Prim.Native.Nat.{_<_}
-use Prim.Native.Nat.{ℕ}
+-- Each return is where one part of the conjunction fails, or where all but the last two are known to hold.
+use Prim.Native.Nat.{_<_, ℕ}
+use native.Mathlib.Omega.{arith}
 use mathlib.Core.Bool.{Bool, true, false, _&&_}
 use mathlib.Core.List.{List}
+use mathlib.Core.Path.{_≡_, sym, ap, ap₂, _∙_}
 use lib.Dec.{ltb}
 use denote.Ref.{now}
-use Rattle.tables.specs.Rows.{rowCount, rowAt, isNumeric}
-use native.Mathlib.Omega.{arith}
-use mathlib.Core.Path.{_≡_, sym, ap, ap₂, _∙_}
-use mathlib.Core.Bool.{_&&_}
 use borrow.Author.Tests.{ltb-true, not-true, not-false}
-use Rattle.tables.specs.Rows.{isNumeric}
+use borrow.Author.Needs.{needs}
+use Rattle.tables.specs.Rows.{rowCount, rowAt, isNumeric}
 use Rattle.tables.proofs.Tests.{both}
 use Rattle.tables.proofs.Lines.{passes, fails}
 use Rattle.names.proofs.Ends.{alike}
-use borrow.Author.Needs.{needs}
 use Rattle.names.proofs.table.pair_sound.Statement.{statement}
 use Rattle.names.proofs.table.pair_sound.Tie as tie
-use Rattle.names.proofs.table.pair_sound.Reads as reads
-use Rattle.names.proofs.table.pair_sound.Lts as lts
-use Rattle.compare.proofs.orders.relation_holds.Reads as relation-holds-reads
-use Rattle.names.proofs.table.compare_ends.Reads as compare-ends-reads
-use Rattle.tables.proofs.rows.is_numeric.Reads as is-numeric-reads
-use Rattle.tables.proofs.rows.row_at.Reads as row-at-reads
-use Rattle.typing.proofs.shape.sides_fit.Reads as sides-fit-reads
 
 -- both ends are rows of the literal table
 abbrev there : List ℕ → ℕ → ℕ → Bool
 there literals low high = ltb low (rowCount literals) && ltb high (rowCount literals)
 
--- src/table.rt:53:9
 returns : tie.Need-returns
 returns c = let a = c .before .before .before .args in let e : there (now (a .literals)) (a .low) (a .high) ≡ false = not-true _ (c .if1 .taken) in rw e
 
--- src/table.rt:55:9
 row-at-requires : tie.Need-row-at-requires
 row-at-requires c κs =
     let a = c .before .before .before .args in
@@ -40,7 +29,6 @@ row-at-requires c κs =
     let l : a .low < rowCount (now (a .literals)) = ltb-true _ _ (both (ltb (a .low) _) _ e .0) in
     omega arith
 
--- src/table.rt:56:9
 row-at-requires-2 : tie.Need-row-at-requires-2
 row-at-requires-2 c κs =
     let a = c .before .before .before .before .args in
@@ -48,24 +36,22 @@ row-at-requires-2 c κs =
     let l : a .high < rowCount (now (a .literals)) = ltb-true _ _ (both (ltb (a .low) _) _ e .1) in
     omega arith
 
--- src/table.rt:57:10
 is-numeric-requires : tie.Need-is-numeric-requires
 is-numeric-requires c κs = search needs
 
--- src/table.rt:57:31
 is-numeric-requires-2 : tie.Need-is-numeric-requires-2
 is-numeric-requires-2 c κs = search needs
 
--- src/table.rt:58:9
 returns-2 : tie.Need-returns-2
 returns-2 c =
     let a = c .before .before .before .before .before .before .before .before .args in
     let e : there (now (a .literals)) (a .low) (a .high) ≡ true = not-false _ (c .before .before .before .before .before .if1 .left) in
     let ends =
-    alike (rowAt (now (a .literals)) (a .low)) (rowAt (now (a .literals)) (a .high)) (c .before .before .is-numeric .ensures ∙ ap isNumeric (c .before .before .before .before .row-at .ensures)) (c .before .is-numeric2 .ensures ∙ ap isNumeric (c .before .before .before .row-at2 .ensures)) in
+    alike (rowAt (now (a .literals)) (a .low)) (rowAt (now (a .literals)) (a .high))
+    (c .before .before .is-numeric .ensures ∙ ap isNumeric (c .before .before .before .before .row-at .ensures))
+    (c .before .is-numeric2 .ensures ∙ ap isNumeric (c .before .before .before .row-at2 .ensures)) in
     rw (e, fails ends (c .if2 .taken))
 
--- src/table.rt:60:26
 compare-ends-requires : tie.Need-compare-ends-requires
 compare-ends-requires c κs =
     let a = c .before .before .before .before .before .before .before .before .args in
@@ -73,38 +59,39 @@ compare-ends-requires c κs =
     let f = both (ltb (a .low) _) _ e in
     (c .before .before .before .before .before .before .before .before .pre, ltb-true _ _ (f .0), ltb-true _ _ (f .1))
 
--- src/table.rt:60:8
 relation-holds-requires : tie.Need-relation-holds-requires
 relation-holds-requires c κs = search needs
 
--- src/table.rt:61:9
 returns-3 : tie.Need-returns-3
 returns-3 c =
     let a = c .before .before .before .before .before .before .before .before .before .before .before .args in
     let e : there (now (a .literals)) (a .low) (a .high) ≡ true = not-false _ (c .before .before .before .before .before .before .before .before .if1 .left) in
     let ends =
-    alike (rowAt (now (a .literals)) (a .low)) (rowAt (now (a .literals)) (a .high)) (c .before .before .before .before .before .is-numeric .ensures ∙ ap isNumeric (c .before .before .before .before .before .before .before .row-at .ensures)) (c .before .before .before .before .is-numeric2 .ensures ∙ ap isNumeric (c .before .before .before .before .before .before .row-at2 .ensures)) in
+    alike (rowAt (now (a .literals)) (a .low)) (rowAt (now (a .literals)) (a .high))
+    (c .before .before .before .before .before .is-numeric .ensures ∙ ap isNumeric (c .before .before .before .before .before .before .before .row-at .ensures))
+    (c .before .before .before .before .is-numeric2 .ensures ∙ ap isNumeric (c .before .before .before .before .before .before .row-at2 .ensures)) in
     let exceeds = sym (rw (c .before .before .compare-ends .ensures) at (c .before .relation-holds .ensures)) ∙ c .if3 .taken in
     rw (e, passes ends (c .before .before .before .if2 .left), exceeds)
 
--- src/table.rt:63:5
 sides-fit-requires : tie.Need-sides-fit-requires
 sides-fit-requires c κs = search needs
 
--- src/table.rt:63:30
 sides-fit-requires-2 : tie.Need-sides-fit-requires-2
 sides-fit-requires-2 c κs = search needs
 
--- src/table.rt:47:1
 returns-4 : tie.Need-returns-4
 returns-4 c =
     let a = c .before .before .before .before .before .before .before .before .before .before .before .before .before .args in
     let e : there (now (a .literals)) (a .low) (a .high) ≡ true = not-false _ (c .before .before .before .before .before .before .before .before .before .before .if1 .left) in
+    let s = c .before .before .before .before .before .before in
     let ends =
-    alike (rowAt (now (a .literals)) (a .low)) (rowAt (now (a .literals)) (a .high)) (c .before .before .before .before .before .before .before .is-numeric .ensures ∙ ap isNumeric (c .before .before .before .before .before .before .before .before .before .row-at .ensures)) (c .before .before .before .before .before .before .is-numeric2 .ensures ∙ ap isNumeric (c .before .before .before .before .before .before .before .before .row-at2 .ensures)) in
+    alike (rowAt (now (a .literals)) (a .low)) (rowAt (now (a .literals)) (a .high))
+    (s .before .is-numeric .ensures ∙ ap isNumeric (s .before .before .before .row-at .ensures))
+    (s .is-numeric2 .ensures ∙ ap isNumeric (s .before .before .row-at2 .ensures)) in
     let exceeds = sym (rw (c .before .before .before .before .compare-ends .ensures) at (c .before .before .before .relation-holds .ensures)) ∙ c .before .before .if3 .left in
     rw (e, passes ends (c .before .before .before .before .before .if2 .left), exceeds)
-    (ap₂ _&&_ (rw (c .before .before .before .before .before .before .before .before .before .row-at .ensures) at (c .before .sides-fit .ensures)) (rw (c .before .before .before .before .before .before .before .before .row-at2 .ensures) at (c .sides-fit2 .ensures)))
+    (ap₂ _&&_ (rw (c .before .before .before .before .before .before .before .before .before .row-at .ensures) at (c .before .sides-fit .ensures))
+    (rw (c .before .before .before .before .before .before .before .before .row-at2 .ensures) at (c .sides-fit2 .ensures)))
 
 pub pair-sound-spec : {M : Type 1} → statement M
 pair-sound-spec =

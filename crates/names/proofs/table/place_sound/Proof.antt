@@ -1,68 +1,50 @@
-use mathlib.Core.Path.{_≡_}
+-- Whether the place has a pair decides which part of the definition is asked.
 use borrow.Author.Tests.{lt-ltb, le-ltb}
 use borrow.Author.Needs.{needs}
 use Rattle.names.proofs.table.place_sound.Statement.{statement}
 use Rattle.names.proofs.table.place_sound.Tie as tie
-use Rattle.names.proofs.table.place_sound.Reads as reads
-use Rattle.names.proofs.table.place_sound.Lts as lts
-use Rattle.names.proofs.ranges.number_at.Reads as number-at-reads
-use Rattle.names.proofs.table.pair_sound.Reads as pair-sound-reads
 
--- src/table.rt:78:14
 mul-at : tie.Need-mul-at
 mul-at c = search needs
 
--- src/table.rt:79:32
 add-number-at : tie.Need-add-number-at
 add-number-at c = search needs
 
--- src/table.rt:79:41
 mul-number-at : tie.Need-mul-number-at
 mul-number-at c = search needs
 
--- src/table.rt:79:32
 add-number-at-2 : tie.Need-add-number-at-2
 add-number-at-2 c = search needs
 
--- src/table.rt:79:9
 number-at-requires : tie.Need-number-at-requires
 number-at-requires c κs = search needs
 
--- src/table.rt:80:33
 add-number-at-3 : tie.Need-add-number-at-3
 add-number-at-3 c = search needs
 
--- src/table.rt:80:42
 mul-number-at-2 : tie.Need-mul-number-at-2
 mul-number-at-2 c = search needs
 
--- src/table.rt:80:33
 add-number-at-4 : tie.Need-add-number-at-4
 add-number-at-4 c = search needs
 
--- src/table.rt:80:9
 number-at-requires-2 : tie.Need-number-at-requires-2
 number-at-requires-2 c κs = search needs
 
--- src/table.rt:81:29
 add-number-at-5 : tie.Need-add-number-at-5
 add-number-at-5 c = search needs
 
--- src/table.rt:81:12
 number-at-requires-3 : tie.Need-number-at-requires-3
 number-at-requires-3 c κs = search needs
 
--- src/table.rt:82:9
 pair-sound-requires : tie.Need-pair-sound-requires
 pair-sound-requires c κs = search needs
 
--- src/table.rt:82:9
 returns : tie.Need-returns
 returns c =
     let k = rw (c .before .before .number-at3 .ensures) at (c .before .if1 .taken) in
     rw (lt-ltb _ _ k) (rw (c .before .before .before .before .number-at .ensures, c .before .before .before .number-at2 .ensures) at (c .pair-sound .ensures))
 
--- src/table.rt:67:1
 returns-2 : tie.Need-returns-2
 returns-2 c =
     let k = rw (c .before .number-at3 .ensures) at (c .if1 .left) in

@@ -1,3 +1,4 @@
+-- The invariant: every place passed is sound.
 use Prim.Native.Nat.{_-_, _≤_}
 use native.Mathlib.Omega.{arith}
 use mathlib.Core.Path.{_≡_, sym, ap, _∙_}
@@ -9,9 +10,6 @@ use Rattle.names.specs.Ranges.{placeOf}
 use Rattle.names.proofs.Counting.{all-yet, every-more, every-fails}
 use Rattle.names.proofs.table.places_sound.Statement.{statement}
 use Rattle.names.proofs.table.places_sound.Tie as tie
-use Rattle.names.proofs.table.places_sound.Reads as reads
-use Rattle.names.proofs.table.places_sound.Lts as lts
-use Rattle.names.proofs.table.place_sound.Reads as place-sound-reads
 
 abbrev Inv-loop : tie.InvT-loop
 Inv-loop item literals bytes names v k₀ k = (k ≤ 8) × (every (placeOf literals bytes names item v) k ≡ true)
@@ -19,37 +17,30 @@ Inv-loop item literals bytes names v k₀ k = (k ≤ 8) × (every (placeOf liter
 abbrev μ-loop : tie.MeasureT-loop
 μ-loop item literals bytes names v k₀ k = 8 - k
 
--- src/table.rt:92:5
 loop-holds : tie.Need-loop-holds Inv-loop μ-loop
 loop-holds c = (omega arith, all-yet _)
 
--- src/table.rt:93:13
 place-sound-requires : tie.Need-place-sound-requires Inv-loop μ-loop
 place-sound-requires c κs = let start = c .before .before .before .before .before in (start .pre .0, start .pre .1, c .loop-test .taken)
 
--- src/table.rt:94:13
 returns : tie.Need-returns Inv-loop μ-loop
 returns c =
     let a = c .before .before .before .before .before .before .before .args in
     let test = placeOf (now (a .literals)) (now (a .bytes)) (now (a .names)) (a .item) (a .v) in
     sym (every-fails test (c .before .before .before .loop .k) 8 (c .before .before .loop-test .taken) (fails (c .before .place-sound .ensures) (c .if1 .taken)))
 
--- src/table.rt:96:9
 add-k : tie.Need-add-k Inv-loop μ-loop
 add-k c = omega arith
 
--- src/table.rt:92:5
 loop-less : tie.Need-loop-less Inv-loop μ-loop
 loop-less c = omega arith
 
--- src/table.rt:92:5
 loop-again : tie.Need-loop-again Inv-loop μ-loop
 loop-again c =
     let a = c .before .before .before .before .before .before .before .args in
     let test = placeOf (now (a .literals)) (now (a .bytes)) (now (a .names)) (a .item) (a .v) in
     (omega arith, every-more test (c .before .before .before .loop .k) (c .before .before .before .loop .inv .1) (passes (c .before .place-sound .ensures) (c .if1 .left)))
 
--- src/table.rt:87:1
 returns-2 : tie.Need-returns-2 Inv-loop μ-loop
 returns-2 c =
     let a = c .before .before .before .before .before .args in

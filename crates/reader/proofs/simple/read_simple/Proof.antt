@@ -28,7 +28,8 @@ returns-2 c =
     (carries-none _ refl) (omega arith) (omega arith))
 
 -- a condition-name
-named : (c : tie.Then3) → Here (c .before .before .before .before .before .before .args .tokens .now) (c .before .before .before .before .before .before .args .at) (c .before .before .before .before .peek .result) 327680 393215
+named : (c : tie.Then3) → let t = c .before .before .before .before in
+    Here (t .before .before .args .tokens .now) (t .before .before .args .at) (t .peek .result) 327680 393215
 named c = word-here _ _ 327680 393215 (c .before .before .before .before .peek .ensures) (omega arith) (c .before .is-name .ensures) (c .if3 .taken)
 
 returns-3 : tie.Need-returns-3
@@ -40,7 +41,8 @@ returns-3 c =
     (carries-none _ refl) (omega arith) (omega arith))
 
 -- >= or <= where a relation is carried
-short : (c : tie.Then4) → let a = c .before .before .before .before .before .before .before .before .args in Here (a .tokens .now) (a .at) (c .before .before .before .before .before .before .peek .result) 262152 262153 × (a .carry .relation ≡ 0 → ⊥)
+short : (c : tie.Then4) → let t = c .before .before .before .before .before .before in
+    Here (t .before .before .args .tokens .now) (t .before .before .args .at) (t .peek .result) 262152 262153 × (t .before .before .args .carry .relation ≡ 0 → ⊥)
 short c = short-here _ _ _ _ _ _ (c .before .before .before .before .before .before .peek .ensures) (omega arith) (c .before .is-bound .ensures) (c .if4 .taken)
 
 read-object-requires : tie.Need-read-object-requires
