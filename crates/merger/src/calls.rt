@@ -1,4 +1,91 @@
-// The call that users make.
+// The call that users make: three copies of a record merged by a rule.
+ghost use mathlib.Core.Path.{_≡_};
+ghost use mathlib.Core.List.{[], _++_};
+ghost use Prim.Native.Nat.{_≤_};
+ghost use lib.ListN.{length, drop};
+ghost use Rattle.tables.specs.Operands.{lendNames};
+ghost use Rattle.tables.specs.Refusals.{firstOf};
+ghost use Rattle.values.specs.Names.{lentLines};
+ghost use Rattle.merging.specs.Merge.{copiesOf, lengthCheck, apartRows, contested, deskLines, mergeWith, mergeGives};
+ghost use Rattle.merger.specs.Ready.{Ready, contestedCount, Decides, roomsFor, Leaves};
+use crate::copies::count_apart;
+use crate::copies::list_apart;
+use crate::copies::write_merged;
+use checks::lent::check_record;
+use checks::lent::check_tables;
+use conditions::calls::run;
+use items::lines::check_room;
+use items::overlap::check_overlap;
+use merging::Merged;
+use names::table::check_names;
+use plans::checks::check_plan;
+use tables::Check;
+use tables::Refusal;
+use tables::Verdict;
+
+// 1 to 4 and 18.
+fn check_lent(items: &[u32], literals: &[u32], bytes: &[u8], names: &[u32]) -> Check
+    ensures { λ r. ⌜ r ≡ firstOf (lentLines (lendNames (now (items .entry)) (now (literals .entry)) (now (bytes .entry)) (now (names .entry)))) ⌝ }
+{
+    let tables = check_tables(items, literals, bytes);
+    if let Check::Refused(refusal) = tables {
+        return Check::Refused(refusal);
+    }
+    check_names(items, literals, bytes, names)
+}
+
+// 20: copies of unequal length.
+fn check_lengths(old: &[u8], first: &[u8], second: &[u8]) -> Check
+    ensures { λ r. ⌜ r ≡ lengthCheck (now (old .entry)) (now (first .entry)) (now (second .entry)) ⌝ }
+{
+    if (first.len() == old.len()) & (second.len() == old.len()) {
+        return Check::Sound;
+    }
+    Check::Refused(Refusal::Lengths)
+}
+
+// 1 to 4, 18, 19, 20, 11, 12, in this order.
+fn check_desk(
+    items: &[u32],
+    literals: &[u32],
+    bytes: &[u8],
+    names: &[u32],
+    plan: &[u32],
+    old: &[u8],
+    first: &[u8],
+    second: &[u8],
+) -> Check
+    ensures { λ r. ⌜ r ≡ firstOf (deskLines (lendNames (now (items .entry)) (now (literals .entry)) (now (bytes .entry)) (now (names .entry))) (now (plan .entry)) (now (old .entry)) (now (first .entry)) (now (second .entry))) ⌝ }
+{
+    let lent = check_lent(items, literals, bytes, names);
+    if let Check::Refused(refusal) = lent {
+        return Check::Refused(refusal);
+    }
+    let overlap = check_overlap(items);
+    if let Check::Refused(refusal) = overlap {
+        return Check::Refused(refusal);
+    }
+    let lengths = check_lengths(old, first, second);
+    if let Check::Refused(refusal) = lengths {
+        return Check::Refused(refusal);
+    }
+    let rows = check_plan(items, literals, names, plan);
+    if let Check::Refused(refusal) = rows {
+        return Check::Refused(refusal);
+    }
+    check_record(items, old)
+}
+
+// How many rows are contested: those changed apart, where the run stops.
+fn contested_count(verdict: Verdict, apart: usize) -> usize
+    ensures { λ r. ⌜ r ≡ contestedCount verdict apart ⌝ }
+{
+    match verdict {
+        Verdict::True => 0,
+        Verdict::False => 0,
+        Verdict::Refused(_) => apart,
+    }
+}
 
 // What the rule decides: it is run once, on the first copy, and only if some item was changed apart.
 fn decide<'a>(
