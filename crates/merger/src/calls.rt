@@ -130,8 +130,8 @@ fn write_contested(
 fn check_rooms(bytes: usize, rows: usize, merged: usize, contested: usize) -> Check
     ensures { λ r. ⌜ r ≡ firstOf (roomsFor bytes rows merged contested) ⌝ }
 {
-    let record = check_room(bytes, merged);
-    if let Check::Refused(refusal) = record {
+    let whole = check_room(bytes, merged);
+    if let Check::Refused(refusal) = whole {
         return Check::Refused(refusal);
     }
     check_room(rows, contested)
