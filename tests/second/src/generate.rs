@@ -45,6 +45,24 @@ pub fn over_tables(random: &mut Random, mut case: Case) -> Case {
     case
 }
 
+/// Literals, names and a plan over given items, the plan damaged now and then.
+pub fn with_sound_plan(random: &mut Random, mut case: Case) -> Case {
+    let theme = content::Theme::choose(random);
+    tables::fill_literals(random, &theme, &mut case);
+    names::fill(random, &theme, &mut case);
+    case.tokens = condition::written(random, &case);
+    case.plan = plans::sound_plan(random, &case);
+    if random.chance(60) {
+        damage::damage_plan(random, &mut case.plan);
+    }
+    case
+}
+
+/// Breaks one of the tables.
+pub fn damage_one_table(random: &mut Random, case: &mut Case) {
+    damage::damage_a_table(random, case);
+}
+
 /// Room for the outputs, around what is needed: expand tells it of an output
 /// without room, and a condition has one simple condition more than joiners.
 fn choose_rooms(random: &mut Random, case: &mut Case) {

@@ -13,6 +13,7 @@ pub mod differ;
 pub mod generate;
 pub mod literals;
 pub mod mend;
+pub mod merge;
 pub mod outside;
 pub mod random;
 pub mod rules;

@@ -13,7 +13,7 @@ mod grammar;
 mod judge;
 pub(crate) mod names;
 mod parts;
-mod plan;
+pub(crate) mod plan;
 pub(crate) mod tables;
 #[cfg(test)]
 mod tests;

@@ -137,7 +137,7 @@ pub fn damage_item_table(random: &mut Random, case: &mut Case) {
     }
 }
 
-fn damage_a_table(random: &mut Random, case: &mut Case) {
+pub fn damage_a_table(random: &mut Random, case: &mut Case) {
     match random.below(20) {
         0..=3 => break_length(random, &mut case.items),
         4..=8 => break_item_row(random, case),
