@@ -8,6 +8,7 @@ pub mod case;
 pub mod compare;
 #[cfg(feature = "library")]
 mod comparison;
+pub mod convert;
 pub mod descriptions;
 pub mod differ;
 pub mod generate;

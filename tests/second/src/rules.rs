@@ -8,6 +8,7 @@
 
 pub(crate) mod apart;
 pub(crate) mod content;
+mod edition;
 mod expand;
 mod grammar;
 mod judge;
@@ -21,6 +22,7 @@ pub(crate) mod tokens;
 mod typing;
 pub(crate) mod values;
 
+pub use edition::Edition;
 pub use plan::{VERDICT_FALSE, VERDICT_TRUE};
 pub use tables::Tables;
 
@@ -116,7 +118,7 @@ pub fn run(tables: &Tables, plan: &[u32], record: &[u8], switches: u8) -> Judged
 
 /// Refusals 1 to 4, 18, 5 to 9 in their order; 7 and 8 come out of one walk. Gives the
 /// number of simple conditions.
-fn check_condition(tables: &Tables, tokens: &[u32]) -> Result<usize, Refusal> {
+pub(crate) fn check_condition(tables: &Tables, tokens: &[u32]) -> Result<usize, Refusal> {
     tables::check_tables(tables)?;
     tokens::check_tokens(tables, tokens)?;
     grammar::recognise(tokens)?;

@@ -39,6 +39,7 @@ impl Case {
             literals: &self.literals,
             bytes: &self.bytes,
             names: &self.names,
+            ..Tables::default()
         }
     }
 

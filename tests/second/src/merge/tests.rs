@@ -93,6 +93,7 @@ fn refusals_in_their_order() {
         literals: &[2, 0, 1, 0],
         bytes: b"",
         names: &[0; 17],
+        ..Tables::default()
     };
     let unequal: [&[u8]; 3] = [b"12", b"1", b""];
     let none = [0, 0];
