@@ -13,6 +13,7 @@ pub mod descriptions;
 pub mod differ;
 pub mod generate;
 pub mod literals;
+pub mod looked;
 pub mod mend;
 pub mod merge;
 pub mod outside;

@@ -13,7 +13,7 @@ mod expand;
 mod grammar;
 mod judge;
 pub(crate) mod names;
-mod parts;
+pub(crate) mod parts;
 pub(crate) mod plan;
 pub(crate) mod tables;
 #[cfg(test)]
@@ -25,6 +25,8 @@ pub(crate) mod values;
 pub use edition::Edition;
 pub use plan::{VERDICT_FALSE, VERDICT_TRUE};
 pub use tables::Tables;
+
+use parts::Simple;
 
 /// "A refusal gives a number and a place, counted from 0, and changes nothing."
 #[derive(Clone, Copy, Debug, PartialEq, Eq)]
@@ -97,21 +99,43 @@ pub fn plan(tables: &Tables, tokens: &[u32], output: &mut [u32]) -> Result<u32, 
 /// refusal 12 where the table below gives it, else the answer of the derived
 /// tree."
 pub fn judge(tables: &Tables, tokens: &[u32], record: &[u8], switches: u8) -> Judged {
+    judge_and_tell(tables, tokens, record, switches, |_| {})
+}
+
+/// Tells each simple condition that judging reaches (02, n).
+pub(crate) fn judge_and_tell(
+    tables: &Tables,
+    tokens: &[u32],
+    record: &[u8],
+    switches: u8,
+    reached: impl FnMut(&Simple),
+) -> Judged {
     let checked =
         check_condition(tables, tokens).and_then(|_| tables::check_record(tables.items, record));
     match checked {
-        Ok(()) => judge::answer_of_tree(tables, tokens, record, switches),
+        Ok(()) => judge::answer_of_tree(tables, tokens, record, switches, reached),
         Err(refusal) => Judged::refused_earlier(refusal),
     }
 }
 
 /// "A run starts at row 0 and follows targets."
 pub fn run(tables: &Tables, plan: &[u32], record: &[u8], switches: u8) -> Judged {
+    run_and_tell(tables, plan, record, switches, |_| {})
+}
+
+/// Tells the simple condition of each row that a run reaches (02, n).
+pub(crate) fn run_and_tell(
+    tables: &Tables,
+    plan: &[u32],
+    record: &[u8],
+    switches: u8,
+    reached: impl FnMut(&Simple),
+) -> Judged {
     let checked = tables::check_tables(tables)
         .and_then(|()| plan::check_plan(tables, plan))
         .and_then(|()| tables::check_record(tables.items, record));
     match checked {
-        Ok(()) => judge::answer_of_plan(tables, plan, record, switches),
+        Ok(()) => judge::answer_of_plan(tables, plan, record, switches, reached),
         Err(refusal) => Judged::refused_earlier(refusal),
     }
 }
