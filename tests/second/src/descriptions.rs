@@ -89,16 +89,25 @@ pub fn read(text: &[u8]) -> Result<Described, Refusal> {
     let fault = fault(text);
     let before = &text[..fault.unwrap_or(text.len())];
     let complete = entries::complete(before);
-    let items: Vec<Entry> = complete.iter().filter(|e| e.is_item()).cloned().collect();
-    let mut table = rows::rows(before, &items).into_iter();
+    // "The smallest place wins": every entry stands before the faulty byte.
+    let described = said(before, &complete)?;
+    match fault {
+        Some(place) => Err(Refusal::at(14, place as u32)),
+        None => Ok(described),
+    }
+}
+
+/// What entries say, up to the first that passes a limit.
+fn said(text: &[u8], entries: &[Entry]) -> Result<Described, Refusal> {
+    let items: Vec<Entry> = entries.iter().filter(|e| e.is_item()).cloned().collect();
+    let mut table = rows::rows(text, &items).into_iter();
     let mut described = Described::default();
     let mut conditions = Conditions::default();
-    for entry in &complete {
-        // "The smallest place wins": every entry stands before the faulty byte.
+    for entry in entries {
         let beyond_limits = Err(Refusal::at(14, entry.start as u32));
         let name = entry.name.start as u32;
         if let Form::Condition { values } = &entry.form {
-            if conditions.add(before, &described.rows, values).is_none() {
+            if conditions.add(text, &described.rows, values).is_none() {
                 return beyond_limits;
             }
             described.name_places.push(name);
@@ -114,10 +123,7 @@ pub fn read(text: &[u8]) -> Result<Described, Refusal> {
     }
     described.names = conditions.names;
     described.literals = conditions.literals;
-    match fault {
-        Some(place) => Err(Refusal::at(14, place as u32)),
-        None => Ok(described),
-    }
+    Ok(described)
 }
 
 /// The "first faulty byte, which after the same beginning no valid text, its

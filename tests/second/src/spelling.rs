@@ -72,6 +72,7 @@ pub fn print(
         literals,
         bytes,
         names: &described.names,
+        ..Tables::default()
     };
     let text = printing::text(&names, &tables, tokens)?;
     check_room(output.len(), text.len())?;

@@ -43,6 +43,7 @@ impl Conditions {
             literals: &self.literals.rows,
             bytes: &self.literals.bytes,
             names: &row,
+            ..Tables::default()
         };
         check_names(&tables).ok()
     }

@@ -63,7 +63,7 @@ fn length(rest: &[u8]) -> usize {
 
 /// "No keyword (any here, 01's words, IS, THAN, TO, UPSI-0 to UPSI-7)"; "COMP-3,
 /// a keyword now" (02, f); "VALUE and THRU are keywords" (02, h).
-const KEYWORDS: [&str; 33] = [
+pub const KEYWORDS: [&str; 33] = [
     "COMP-3",
     "VALUE",
     "THRU",

@@ -2,6 +2,7 @@
 //! exchanged.
 
 use super::writer::WORDS;
+use crate::descriptions::words::{level, words, Word, KEYWORDS};
 use crate::random::Random;
 
 /// Bytes that stand in texts, and some that do not.
@@ -26,7 +27,7 @@ pub fn damage(random: &mut Random, text: &mut Vec<u8>) {
         return;
     }
     let place = random.index(text.len());
-    match random.below(16) {
+    match random.below(17) {
         0..=2 => text[place] = any_byte(random),
         3..=4 => text.insert(place, any_byte(random)),
         5..=6 => drop(text.remove(place)),
@@ -38,7 +39,19 @@ pub fn damage(random: &mut Random, text: &mut Vec<u8>) {
         9..=10 => text.truncate(place),
         11 => text.push(any_byte(random)),
         12 => text.insert(place, text[place]),
+        13 => keyword_for_name(random, text, place),
         _ => exchange_word(random, text, place),
+    }
+}
+
+/// Puts a keyword for the name of the next entry.
+fn keyword_for_name(random: &mut Random, text: &mut Vec<u8>, place: usize) {
+    let words: Vec<Word> = words(&text[place..]).collect();
+    let named = words.windows(2).find(|pair| level(pair[0].text).is_some());
+    if let Some([_, name]) = named {
+        let range = place + name.range().start..place + name.range().end;
+        let keyword = random.pick(&KEYWORDS);
+        text.splice(range, keyword.bytes());
     }
 }
 
