@@ -15,7 +15,7 @@ use Rattle.tables.specs.Refusals.{firstOf}
 use Rattle.tables.specs.Tables.{tableLines}
 use Rattle.tables.specs.Names.{nameItem}
 use Rattle.tables.proofs.Bytes.{row-facts}
-use Rattle.values.specs.Comparison.{Side, side, wrongByte}
+use Rattle.values.specs.Comparison.{side, wrongByte}
 use Rattle.values.specs.Names.{itemSide, literalSide, endsAlike, nameHolds}
 use Rattle.values.specs.Truth.{truth, orStop, nameOutcome, Fit, Named}
 use Rattle.values.proofs.Faults.{StopAt, item-flag, goes-on}

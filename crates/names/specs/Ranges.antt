@@ -8,7 +8,7 @@ use lib.Dec.{eqb, ltb}
 use Rattle.content.specs.WrongByte.{validContent}
 use Rattle.tables.specs.declared.Row.{Row}
 use Rattle.tables.specs.Rows.{rowCount, isNumeric}
-use Rattle.tables.specs.Operands.{Lent, lend}
+use Rattle.tables.specs.Operands.{lend}
 use Rattle.tables.specs.Names.{namePairs, nameLow, nameHigh}
 use Rattle.compare.specs.declared.Number.{Number}
 use Rattle.compare.specs.Compared.{numberOf}

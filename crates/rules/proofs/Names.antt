@@ -3,12 +3,11 @@ use mathlib.Core.Path.{_≡_, refl, sym, ap, ap₂, _∙_}
 use mathlib.Core.Bool.{Bool, true, false, not, cond, _&&_, _||_}
 use mathlib.Core.List.{List}
 use mathlib.Core.Logic.{⊎-elim}
-use Prim.Native.Nat.{ℕ, zero, suc, _+_, _-_, _*_, _/_, _%_, _≤_, _<_}
+use Prim.Native.Nat.{ℕ, zero, suc, _+_, _-_, _/_, _%_, _≤_, _<_}
 use native.Mathlib.Omega.{arith}
-use native.Mathlib.Decide.{ℕ-discrete}
 use lib.ListN.{length}
-use lib.Dec.{eqb, leb, ltb}
-use borrow.Author.Tests.{leb-true, ltb-true, eqb-true, ne-eqb, lt-ltb}
+use lib.Dec.{eqb, leb}
+use borrow.Author.Tests.{leb-true, eqb-true}
 use Rattle.content.specs.WrongByte.{Wrong, Nowhere, At, validContent}
 use Rattle.tables.specs.declared.Check.the-variants.{Sound}
 use Rattle.tables.specs.declared.Refusal.{Refusal}
@@ -19,12 +18,12 @@ use Rattle.tables.specs.declared.Stop.the-variants.{Digits, Letters}
 use Rattle.tables.specs.declared.Verdict.{Verdict}
 use Rattle.tables.specs.declared.Verdict.the-variants.{True, False, Refused}
 use Rattle.tables.specs.declared.Row.{Row}
-use Rattle.tables.specs.Rows.{rowCount, nameCount, rowAt, rowSound, isNumeric, isGroup, part, liesIn}
+use Rattle.tables.specs.Rows.{rowCount, nameCount, rowAt, rowSound, isGroup, part, liesIn}
 use Rattle.tables.specs.Operands.{Lent}
 use Rattle.tables.specs.Refusals.{unless, firstOf}
 use Rattle.tables.specs.Tables.{lengthSound, literalSound}
-use Rattle.tables.specs.Names.{nameItem, namePairs, nameLow, nameHigh, namesLengthSound}
-use Rattle.tables.proofs.Tests.{both, four, either, and-both}
+use Rattle.tables.specs.Names.{nameItem, namePairs, nameLow, nameHigh}
+use Rattle.tables.proofs.Tests.{both, four, either}
 use Rattle.tables.proofs.Lines.{test-sound, every-sound, lines-sound, AllSound}
 use Rattle.typing.specs.Typing.{relationTyped, typed}
 use Rattle.compare.specs.Order.{relationHolds}
@@ -32,7 +31,6 @@ use Rattle.values.specs.Comparison.{Side, side, sideOf, comparison, wrongByte, 
 use Rattle.values.specs.Names.{some, itemSide, literalSide, comparable, nameHolds, lentLines}
 use Rattle.values.proofs.Names.{PairFacts, name-lines, item-there, some-pairs, pair-at}
 use Rattle.values.specs.Truth.{truth, orStop, stopOf, relationOutcome, nameOutcome, outcome}
-use Rattle.grammar.specs.Grammar.{Tree, simple, both as chained, either as joined}
 use Rattle.grammar.specs.Judging.{Outcomes, leaves, when, at, judged}
 use Rattle.rules.specs.Demands.{WellTyped}
 use Rattle.rules.specs.Names.{pairTree, pairsTree, nameTree, Means, NamesMean}

@@ -23,8 +23,8 @@ use Rattle.compare.specs.declared.Order.{Order}
 use Rattle.compare.specs.declared.Order.the-variants.{Less, Equal, Greater}
 use Rattle.compare.specs.Order.{relationHolds}
 use Rattle.values.specs.Comparison.{Side, comparison}
-use Rattle.values.specs.Names.{every, itemSide, literalSide, comparable, endsAlike, pairSound, placeSound, nameSound, lentLines}
-use Rattle.values.specs.Truth.{Fit, Named}
+use Rattle.values.specs.Names.{every, itemSide, literalSide, comparable, pairSound, placeSound, nameSound, lentLines}
+use Rattle.values.specs.Truth.{Fit}
 
 -- a single value: to lie between it and itself is to equal it
 pub single-value : (item value : Side) → relationHolds 8 (comparison item value) && relationHolds 9 (comparison item value) ≡ relationHolds 7 (comparison item value)

@@ -14,8 +14,8 @@ use Rattle.tables.specs.declared.Check.the-variants.{Sound}
 use Rattle.tables.specs.declared.Refusal.the-variants.{ItemRow, LiteralRow, Record}
 use Rattle.tables.specs.declared.Row.{Row}
 use Rattle.typing.specs.declared.Test.the-variants.{Alone, Relation, Class, Sign}
-use Rattle.tables.specs.Tokens.{isItem, isOn, isOff, isSwitch, isName, indexOf, exists, nameThere}
-use Rattle.tables.specs.Rows.{rowCount, nameCount, rowSound, isNumeric}
+use Rattle.tables.specs.Tokens.{isItem, isOn, isOff, isSwitch, isName, indexOf, exists}
+use Rattle.tables.specs.Rows.{rowCount, rowSound, isNumeric}
 use Rattle.content.specs.Content.{digitBytes, digitCharacters, unsignedLast}
 use Rattle.tables.specs.Operands.{Lent, lend, lendNames, operandSound, switchSound, aloneSound, rowOf, operandBytes, liesWithin, Within}
 use Rattle.tables.specs.Refusals.{firstOf}

@@ -1,5 +1,5 @@
 -- An empty table has no row that could be unsound; else what `check_name_rows` returns.
-use mathlib.Core.Path.{_≡_, refl}
+use mathlib.Core.Path.{_≡_}
 use mathlib.Core.List.{List}
 use Prim.Native.Nat.{ℕ}
 use lib.ListN.{length}
