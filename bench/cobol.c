@@ -27,6 +27,12 @@ static void write_item(const struct item *i)
                                    : "");
 }
 
+static void write_name(const struct item *i)
+{
+    if (i->named)
+        printf("      88 %s VALUES %s.\n", i->named, i->values);
+}
+
 static void write_program(int number, const struct condition *c)
 {
     printf("IDENTIFICATION DIVISION.\nPROGRAM-ID. CONDITION%d.\n"
@@ -34,8 +40,10 @@ static void write_program(int number, const struct condition *c)
     for (int s = 0; s < 8; s++)
         printf("    SWITCH-%d IS SW%d ON STATUS IS S%d-ON OFF STATUS IS S%d-OFF%s\n", s, s, s, s, s == 7 ? "." : "");
     printf("DATA DIVISION.\nWORKING-STORAGE SECTION.\n01 THE-RECORD.\n");
-    for (const struct item *i = c->given; i->name; i++)
+    for (const struct item *i = c->given; i->name; i++) {
         write_item(i);
+        write_name(i);
+    }
     printf("LINKAGE SECTION.\n01 HOW-OFTEN BINARY-DOUBLE UNSIGNED.\n01 TRUTH PIC X.\n01 LENT-RECORD PIC X(%zu).\n"
            "PROCEDURE DIVISION USING HOW-OFTEN TRUTH LENT-RECORD.\n"
            "    MOVE LENT-RECORD TO THE-RECORD\n    PERFORM HOW-OFTEN TIMES\n        IF ", c->record_size);

@@ -34,6 +34,11 @@ static const struct item amounts[] = {{"A", 8, 7, 2, "0012550"},
                                       {"D", 4, 7, 2, "0012550"},
                                       {0}};
 static const struct item groups[] = {{"A", 0, 65535, 0, "LOGBOOK "}, {"B", 0, 65535, 0, "LOGBOOK "}, {0}};
+static const struct item dated[] = {
+    {"DAYS", 3, 4, 0, "0905", "OVERDUE",
+     "100 THRU 109 200 THRU 209 300 THRU 309 400 THRU 409 500 THRU 509 600 THRU 609 700 THRU 709 900 THRU 909"},
+    {"STATE", 2, 6, 0, "REPAIR", "CLOSED", "'DONE' 'SCRAP' 'REPAIR'"},
+    {0}};
 static const struct item blank[] = {{"A", 3, 18, 0, " "}, {0}};
 static struct item texts[65]; /* A and T1 to T63, all the same */
 
@@ -79,9 +84,33 @@ static uint32_t token(struct condition *c, const char *word)
     for (uint32_t i = 0; c->given[i].name; i++)
         if (!strcmp(word, c->given[i].name))
             return i;
+    uint32_t name = 5 * 65536;
+    for (const struct item *i = c->given; i->name; i++)
+        if (i->named) {
+            if (!strcmp(word, i->named))
+                return name;
+            name++;
+        }
     if (word[0] == 'S' && word[2] == '-')
         return (strcmp(word + 3, "ON") ? 3 : 2) * 65536 + (uint32_t)(word[1] - '0');
     return literal(c, word);
+}
+
+/* The row of an item's condition-name. */
+static void put_name(struct condition *c, uint32_t item)
+{
+    uint32_t *row = c->names + c->name_numbers, *pair = row;
+    char *rest = strdup(c->given[item].values);
+    row[0] = item;
+    for (char *word = strtok(rest, " "); word; word = strtok(NULL, " "))
+        if (!strcmp(word, "THRU"))
+            pair[1] = literal(c, strtok(NULL, " ")) - 65536;
+        else {
+            pair = row + 2 + 2 * row[1]++;
+            pair[0] = pair[1] = literal(c, word) - 65536;
+        }
+    free(rest);
+    c->name_numbers += 18;
 }
 
 /* Digits in halves from the right, before the sign. */
@@ -114,6 +143,9 @@ static struct condition *add(struct condition *list, const char *name, const str
                 c->record[c->record_size + k] = (uint8_t)i->content[k % strlen(i->content)];
         c->record_size += bytes_of(i);
     }
+    for (uint32_t i = 0; given[i].name; i++)
+        if (given[i].named)
+            put_name(c, i);
     char *rest = strdup(text);
     for (char *word = strtok(rest, " "); word; word = strtok(NULL, " "))
         c->tokens[c->token_count++] = token(c, word);
@@ -160,6 +192,8 @@ static void add_measured(void)
     add(measured, "typical: logbook rule, 6 rows", logbook,
         "TAG = 'REPAIR' AND HOURS NUMERIC AND HOURS > 100.5 AND < WARRANTY AND ( BALANCE NEGATIVE OR DRIFT > -2.5 )");
     add(measured, "typical: one text and ALPHABETIC", logbook, "TAG NOT = 'ENTRY' AND KEEPER ALPHABETIC");
+    add(measured, "condition-name of 8 ranges", dated, "OVERDUE");
+    add(measured, "condition-name of 3 texts", dated, "CLOSED");
     add(measured, "packed: two of one size", amounts, "A < B");
     add(measured, "packed: two of other sizes", amounts, "A > C");
     add(measured, "packed beside display", amounts, "A = D");

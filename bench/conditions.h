@@ -7,6 +7,7 @@ struct item {
     const char *name;
     uint32_t kind, size, scale; /* as in a row of the item table; of a packed item, kind 8, the digits in place of the size */
     const char *content;        /* repeated up to the size; of a packed item its digits, after a minus or none */
+    const char *named, *values; /* its condition-name, if it has one: values and ranges, as 1 5 THRU 9 */
 };
 
 size_t bytes_of(const struct item *i);
@@ -18,8 +19,8 @@ struct condition {
     const char *text;         /* words apart by a space; text literals in ' and without spaces; switches as S0-ON, S0-OFF */
 
     /* what the library takes */
-    uint32_t items[320], literals[320], tokens[512];
-    size_t item_numbers, literal_numbers, token_count;
+    uint32_t items[320], literals[320], names[1152], tokens[512];
+    size_t item_numbers, literal_numbers, name_numbers, token_count;
     uint8_t bytes[2048], *record;
     size_t byte_count, record_size;
 

@@ -11,11 +11,11 @@
 #include <ucontext.h>
 
 uint32_t second_plan(const uint32_t *, size_t, const uint32_t *, size_t, const uint8_t *, size_t, const uint32_t *, size_t,
-                     uint32_t *, size_t, oboecurlew_answer *);
+                     const uint32_t *, size_t, uint32_t *, size_t, oboecurlew_answer *);
 uint32_t second_judge(const uint32_t *, size_t, const uint32_t *, size_t, const uint8_t *, size_t, const uint32_t *, size_t,
-                      const uint8_t *, size_t, uint8_t, oboecurlew_answer *);
+                      const uint32_t *, size_t, const uint8_t *, size_t, uint8_t, oboecurlew_answer *);
 uint32_t second_run(const uint32_t *, size_t, const uint32_t *, size_t, const uint8_t *, size_t, const uint32_t *, size_t,
-                    const uint8_t *, size_t, uint8_t, oboecurlew_answer *);
+                    const uint32_t *, size_t, const uint8_t *, size_t, uint8_t, oboecurlew_answer *);
 
 /* ---- Heap: every allocation of this process passes here. ---- */
 
@@ -35,7 +35,8 @@ int posix_memalign(void **made, size_t at, size_t size) { return (*made = memali
 
 /* ---- The sides: each judges or plans a condition so many times and gives its last answer, as one number. ---- */
 
-#define TABLES(c) c->items, c->item_numbers, c->literals, c->literal_numbers, c->bytes, c->byte_count
+#define TABLES(c) \
+    c->items, c->item_numbers, c->literals, c->literal_numbers, c->bytes, c->byte_count, c->names, c->name_numbers
 #define TOKENS(c) c->tokens, c->token_count
 #define PLAN(c) c->plan, c->plan_numbers
 #define RECORD(c) c->record, c->record_size, 0 /* all switches are off, as GnuCOBOL's are */

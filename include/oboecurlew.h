@@ -1,5 +1,5 @@
-/* Oboecurlew: COBOL conditions, read and printed, expanded, planned, judged and run; record descriptions, read; records, compared and
- * mended.
+/* Oboecurlew: COBOL conditions, read and printed, expanded, planned, judged and run; record descriptions, read; records, compared,
+ * merged and mended.
  *
  * Build the archive with `rt staticlib conditions_c` (target/staticlib/libconditions_c.a) and link it.
  *
@@ -10,6 +10,8 @@
  *
  * items, literals  tables of rows of five numbers: kind, offset, size in bytes, scale, digits (0 where the kind is not numeric)
  * bytes            the literal bytes
+ * names            condition-names, rows of 18 numbers: item row, a count of 1 to 8, that many pairs of literal rows (low and high, ends
+ *                  included, alike for a single value), zeros
  * tokens           the condition, each made by OBOECURLEW_TOKEN or one of the macros over it
  * output           room for at least 634 numbers holds every expanded form, 640 every plan
  * plan             rows of five numbers, as oboecurlew_plan writes them
@@ -54,7 +56,9 @@ enum oboecurlew_refusal {
     OBOECURLEW_SPELLING = 15,     /* a faulty word of a condition text: its first byte */
     OBOECURLEW_NAME = 16,         /* read: an unknown or doubled name, its first byte; print: an item without a name of its own, its token */
     OBOECURLEW_LETTERS = 17,      /* invalid alphabetic data reached: as 13 */
-    OBOECURLEW_OVERLAP = 19       /* two elementary items share a byte: the first row that overlaps an earlier one */
+    OBOECURLEW_CONDITION_NAME = 18, /* name table length not a multiple of 18, or over 1,152: 0; else the first unsound row; just after 4 */
+    OBOECURLEW_OVERLAP = 19,      /* two elementary items share a byte: the first row that overlaps an earlier one */
+    OBOECURLEW_LENGTHS = 20       /* the copies to be merged are not equally long: 0 */
 };
 
 /* Row kinds: group, alphabetic, alphanumeric, unsigned numeric, sign in the last byte, sign leading or trailing separate, group with no
@@ -79,6 +83,7 @@ enum oboecurlew_kind {
 #define OBOECURLEW_ON(number) OBOECURLEW_TOKEN(2, number)
 #define OBOECURLEW_OFF(number) OBOECURLEW_TOKEN(3, number)
 #define OBOECURLEW_WORD(word) OBOECURLEW_TOKEN(4, word)
+#define OBOECURLEW_CONDITION(row) OBOECURLEW_TOKEN(5, row) /* a condition-name, of which names has the row */
 
 /* The words, for OBOECURLEW_WORD; a plan's relation is the word's number too, plus OBOECURLEW_NEGATED where NOT belongs to it. */
 enum oboecurlew_word {
@@ -105,24 +110,28 @@ enum oboecurlew_word {
 /* A plan's targets are later rows, or these verdicts. */
 enum oboecurlew_target { OBOECURLEW_FALSE = 65534, OBOECURLEW_TRUE = 65535 };
 
-/* Writes the expanded form of a condition from the start of the output. Refusals 1 to 10. */
+/* Writes the expanded form of a condition from the start of the output. Refusals 1 to 10, 18. */
 uint32_t oboecurlew_expand(const uint32_t *items, size_t item_numbers, const uint32_t *literals, size_t literal_numbers,
-                           const uint8_t *bytes, size_t byte_count, const uint32_t *tokens, size_t token_count,
+                           const uint8_t *bytes, size_t byte_count, const uint32_t *names, size_t name_numbers,
+                           const uint32_t *tokens, size_t token_count,
                            uint32_t *output, size_t output_numbers, oboecurlew_answer *answer);
 
-/* Writes the plan of a condition, five numbers for each simple condition, from the start of the output. Refusals 1 to 10. */
+/* Writes the plan of a condition, five numbers for each simple condition, from the start of the output. Refusals 1 to 10, 18. */
 uint32_t oboecurlew_plan(const uint32_t *items, size_t item_numbers, const uint32_t *literals, size_t literal_numbers,
-                         const uint8_t *bytes, size_t byte_count, const uint32_t *tokens, size_t token_count,
+                         const uint8_t *bytes, size_t byte_count, const uint32_t *names, size_t name_numbers,
+                         const uint32_t *tokens, size_t token_count,
                          uint32_t *output, size_t output_numbers, oboecurlew_answer *answer);
 
-/* Judges a condition on a record and a switch byte. Refusals 1 to 9, 12, 13, 17. */
+/* Judges a condition on a record and a switch byte. Refusals 1 to 9, 18, 12, 13, 17. */
 uint32_t oboecurlew_judge(const uint32_t *items, size_t item_numbers, const uint32_t *literals, size_t literal_numbers,
-                          const uint8_t *bytes, size_t byte_count, const uint32_t *tokens, size_t token_count,
+                          const uint8_t *bytes, size_t byte_count, const uint32_t *names, size_t name_numbers,
+                          const uint32_t *tokens, size_t token_count,
                           const uint8_t *record, size_t record_size, uint8_t switches, oboecurlew_answer *answer);
 
-/* Runs a plan on a record and a switch byte. Refusals 1 to 4, 11, 12, 13, 17. */
+/* Runs a plan on a record and a switch byte. Refusals 1 to 4, 18, 11, 12, 13, 17. */
 uint32_t oboecurlew_run(const uint32_t *items, size_t item_numbers, const uint32_t *literals, size_t literal_numbers,
-                        const uint8_t *bytes, size_t byte_count, const uint32_t *plan, size_t plan_numbers,
+                        const uint8_t *bytes, size_t byte_count, const uint32_t *names, size_t name_numbers,
+                        const uint32_t *plan, size_t plan_numbers,
                         const uint8_t *record, size_t record_size, uint8_t switches, oboecurlew_answer *answer);
 
 /* Lists each elementary item whose bytes differ between two copies of a record, in row order: its row, and 'V' where the values differ,
@@ -130,6 +139,16 @@ uint32_t oboecurlew_run(const uint32_t *items, size_t item_numbers, const uint32
  * either record), 10. */
 uint32_t oboecurlew_differ(const uint32_t *items, size_t item_numbers, const uint8_t *first, size_t first_size, const uint8_t *second,
                            size_t second_size, uint32_t *output, size_t output_numbers, oboecurlew_answer *answer);
+
+/* Merges two copies of a record with the one that both began from, item by item: what one side changed is taken from it; what both
+ * changed, and not alike, goes by a plan, which is run once, on the first copy (true takes the first, false the second); if it stops,
+ * the item keeps its old bytes and its row is listed. Bytes in no elementary item stay old. The merged record is as long as the copies;
+ * 64 numbers hold every list. Refusals 1 to 4, 18, 19, 20, 11, 12, 10, which change neither output. */
+uint32_t oboecurlew_merge(const uint32_t *items, size_t item_numbers, const uint32_t *literals, size_t literal_numbers,
+                          const uint8_t *bytes, size_t byte_count, const uint32_t *names, size_t name_numbers, const uint32_t *plan,
+                          size_t plan_numbers, const uint8_t *old, size_t old_size, const uint8_t *first, size_t first_size,
+                          const uint8_t *second, size_t second_size, uint8_t switches, uint8_t *merged, size_t merged_size,
+                          uint32_t *contested, size_t contested_numbers, oboecurlew_answer *answer);
 
 /* Mends a record in place: in each item of kinds 3 to 6, spaces that lead its digits become 0 and a blank separate sign +, where the
  * item is valid then. Lists each changed byte, three numbers: offset, old, new, by rising offset. Three numbers for each byte of the

@@ -6,6 +6,7 @@
       *>     BY REFERENCE item-numbers    BY VALUE how-many
       *>     BY REFERENCE literal-numbers BY VALUE how-many
       *>     BY REFERENCE literal-bytes   BY VALUE how-many
+      *>     BY REFERENCE name-numbers    BY VALUE how-many
       *>     BY REFERENCE tokens          BY VALUE how-many
       *>     BY REFERENCE output-numbers  BY VALUE how-many
       *>     BY REFERENCE OBOECURLEW-ANSWER
@@ -45,6 +46,7 @@
            88  WORD-FAULTY          VALUE 15.
            88  NAME-UNKNOWN         VALUE 16.
            88  LETTERS-INVALID      VALUE 17.
+           88  CONDITION-NAME-UNSOUND VALUE 18.
            88  ITEMS-OVERLAP        VALUE 19.
       *> The refusal's place, or 1 for true and 0 for false (judge,
       *> run); for refusals 13 and 17 the item's first wrong byte,
@@ -69,7 +71,10 @@
        78  PACKED-ROW               VALUE 8.
        78  PACKED-UNSIGNED-ROW      VALUE 9.
       *> Tokens: an item is its row, a literal FIRST-LITERAL plus its
-      *> row, a switch FIRST-ON or FIRST-OFF plus its number.
+      *> row, a switch FIRST-ON or FIRST-OFF plus its number, a
+      *> condition-name FIRST-CONDITION plus its row, which is 18
+      *> numbers: item row, a count of 1 to 8, that many pairs of
+      *> literal rows, zeros.
        78  FIRST-ITEM               VALUE 0.
        78  FIRST-LITERAL            VALUE 65536.
        78  FIRST-ON                 VALUE 131072.
@@ -91,3 +96,4 @@
        78  POSITIVE-WORD            VALUE 262158.
        78  NEGATIVE-WORD            VALUE 262159.
        78  ZERO-WORD                VALUE 262160.
+       78  FIRST-CONDITION          VALUE 327680.

@@ -20,6 +20,8 @@ pub unsafe extern "C" fn second_plan(
     literal_numbers: usize,
     bytes: *const u8,
     byte_count: usize,
+    names: *const u32,
+    name_numbers: usize,
     tokens: *const u32,
     token_count: usize,
     output: *mut u32,
@@ -30,6 +32,7 @@ pub unsafe extern "C" fn second_plan(
         items: lent(items, item_numbers),
         literals: lent(literals, literal_numbers),
         bytes: lent(bytes, byte_count),
+        names: lent(names, name_numbers),
     };
     let count = rules::plan(&tables, lent(tokens, token_count), lent_mut(output, output_numbers));
     told(of_written(count.map(|count| [count])), &mut *answer)
@@ -45,6 +48,8 @@ pub unsafe extern "C" fn second_judge(
     literal_numbers: usize,
     bytes: *const u8,
     byte_count: usize,
+    names: *const u32,
+    name_numbers: usize,
     tokens: *const u32,
     token_count: usize,
     record: *const u8,
@@ -56,6 +61,7 @@ pub unsafe extern "C" fn second_judge(
         items: lent(items, item_numbers),
         literals: lent(literals, literal_numbers),
         bytes: lent(bytes, byte_count),
+        names: lent(names, name_numbers),
     };
     let judged = rules::judge(&tables, lent(tokens, token_count), lent(record, record_size), switches);
     told(of_judged(judged), &mut *answer)
@@ -71,6 +77,8 @@ pub unsafe extern "C" fn second_run(
     literal_numbers: usize,
     bytes: *const u8,
     byte_count: usize,
+    names: *const u32,
+    name_numbers: usize,
     plan: *const u32,
     plan_numbers: usize,
     record: *const u8,
@@ -82,6 +90,7 @@ pub unsafe extern "C" fn second_run(
         items: lent(items, item_numbers),
         literals: lent(literals, literal_numbers),
         bytes: lent(bytes, byte_count),
+        names: lent(names, name_numbers),
     };
     let judged = rules::run(&tables, lent(plan, plan_numbers), lent(record, record_size), switches);
     told(of_judged(judged), &mut *answer)
@@ -99,10 +108,12 @@ pub unsafe extern "C" fn second_describe(
     place_count: usize,
     answer: *mut Answer,
 ) -> u32 {
-    let counts = descriptions::describe(
-        lent(text, text_size),
-        lent_mut(rows, row_numbers),
-        lent_mut(places, place_count),
-    );
+    // no text that is measured has condition-names, so their outputs need no room
+    let (rows, places) = (lent_mut(rows, row_numbers), lent_mut(places, place_count));
+    let outputs = descriptions::Outputs {
+        numbers: [rows, places, &mut [], &mut [], &mut []],
+        bytes: &mut [],
+    };
+    let counts = descriptions::describe(lent(text, text_size), outputs);
     told(of_written(counts), &mut *answer)
 }

@@ -2,6 +2,7 @@
 use crate::print;
 use crate::store::ITEMS;
 use crate::store::LITERALS;
+use crate::store::NAMES;
 use crate::store::PLAN;
 use crate::store::TOKENS;
 use crate::store::front;
@@ -17,8 +18,9 @@ const ROOM: usize = 700;
 fn expand_in(store: &[u32], bytes: &[u8], output: &mut [u32]) -> Written {
     let items = part(store, ITEMS);
     let literals = part(store, LITERALS);
+    let names = part(store, NAMES);
     let tokens = part(store, TOKENS);
-    calls::expand(items, literals, bytes, tokens, output)
+    calls::expand(items, literals, bytes, names, tokens, output)
 }
 
 pub fn expand(store: &[u32], bytes: &[u8], room: usize) {
@@ -33,8 +35,9 @@ pub fn expand(store: &[u32], bytes: &[u8], room: usize) {
 fn plan_in(store: &[u32], bytes: &[u8], output: &mut [u32]) -> Written {
     let items = part(store, ITEMS);
     let literals = part(store, LITERALS);
+    let names = part(store, NAMES);
     let tokens = part(store, TOKENS);
-    calls::plan(items, literals, bytes, tokens, output)
+    calls::plan(items, literals, bytes, names, tokens, output)
 }
 
 // What is written is the plan to run from now on.
@@ -56,16 +59,26 @@ pub fn plan(store: &mut [u32], bytes: &[u8], room: usize) {
 pub fn judge<'a>(store: &[u32], bytes: &'a [u8], record: &'a [u8]) {
     let items = part(store, ITEMS);
     let literals = part(store, LITERALS);
+    let names = part(store, NAMES);
     let tokens = part(store, TOKENS);
-    let given = calls::judge(items, literals, bytes, tokens, record, switches(store));
+    let given = calls::judge(
+        items,
+        literals,
+        bytes,
+        names,
+        tokens,
+        record,
+        switches(store),
+    );
     print::judged(b"judge: ", given);
 }
 
 pub fn run<'a>(store: &[u32], bytes: &'a [u8], record: &'a [u8]) {
     let items = part(store, ITEMS);
     let literals = part(store, LITERALS);
+    let names = part(store, NAMES);
     let plan = part(store, PLAN);
-    let given = calls::run(items, literals, bytes, plan, record, switches(store));
+    let given = calls::run(items, literals, bytes, names, plan, record, switches(store));
     print::judged(b"run: ", given);
 }
 

@@ -10,6 +10,7 @@ use libc::STDIN_FILENO;
 use store::BYTES;
 use store::ITEMS;
 use store::LITERALS;
+use store::NAMES;
 use store::PLAN;
 use store::RECORD;
 use store::STEP;
@@ -23,12 +24,13 @@ use words::digits;
 use words::find;
 use words::first;
 
-// Items, literals, bytes, condition, record, plan, switches.
+// Items, literals, bytes, names, condition, record, plan, switches.
 fn part_of(letter: u8) -> usize {
     match letter {
         b'i' => ITEMS,
         b'l' => LITERALS,
         b'b' => BYTES,
+        b'n' => NAMES,
         b'c' => TOKENS,
         b'r' => RECORD,
         b'p' => PLAN,

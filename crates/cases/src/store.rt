@@ -1,29 +1,31 @@
 // What is lent to the calls, in one array of numbers: each part a count and then its numbers, with room beyond every limit.
 
 // From one part to the next.
-pub const STEP: usize = 1024;
+pub const STEP: usize = 2048;
 
 pub const ITEMS: usize = 0;
 
-pub const LITERALS: usize = 1024;
+pub const LITERALS: usize = 2048;
 
-pub const BYTES: usize = 2048;
+pub const BYTES: usize = 4096;
 
-pub const TOKENS: usize = 3072;
+pub const NAMES: usize = 6144;
 
-pub const RECORD: usize = 4096;
+pub const TOKENS: usize = 8192;
 
-pub const PLAN: usize = 5120;
+pub const RECORD: usize = 10240;
 
-pub const SWITCHES: usize = 6144;
+pub const PLAN: usize = 12288;
+
+pub const SWITCHES: usize = 14336;
 
 // Where a repeated piece of a list begins.
-pub const MARK: usize = 7168;
+pub const MARK: usize = 16384;
 
-pub const STORE: usize = 8192;
+pub const STORE: usize = 18432;
 
 // The most numbers of a part.
-const MOST: u32 = 1023;
+const MOST: u32 = 2047;
 
 pub fn get(store: &[u32], at: usize) -> u32 {
     if at < store.len() {

@@ -1,11 +1,11 @@
 // The lines of the table of refusals that look at tokens: 5 and 6.
 ghost use mathlib.Core.Path.{_≡_};
 ghost use mathlib.Core.List.{[]};
-ghost use Rattle.tables.specs.Operands.{lend};
+ghost use Rattle.tables.specs.Operands.{lendNames};
 ghost use Rattle.tables.specs.Tables.{tokenCountCheck, tokenCheck};
 use tables::Check;
 use tables::Refusal;
-use tables::tokens::token_exists;
+use tables::tokens::token_there;
 
 // 5: a condition has 1 to 256 tokens.
 pub fn check_token_count(tokens: &[u32]) -> Check
@@ -18,14 +18,15 @@ pub fn check_token_count(tokens: &[u32]) -> Check
 }
 
 // 6: the first token that there is not.
-pub fn check_tokens(items: &[u32], literals: &[u32], tokens: &[u32]) -> Check
-    ensures { λ r. ⌜ r ≡ tokenCheck (lend (now (items .entry)) (now (literals .entry)) []) (now (tokens .entry)) ⌝ }
+pub fn check_tokens(items: &[u32], literals: &[u32], names: &[u32], tokens: &[u32]) -> Check
+    ensures { λ r. ⌜ r ≡ tokenCheck (lendNames (now (items .entry)) (now (literals .entry)) [] (now (names .entry))) (now (tokens .entry)) ⌝ }
 {
     let item_rows = items.len() / 5;
     let literal_rows = literals.len() / 5;
+    let name_rows = names.len() / 18;
     let mut i: usize = 0;
     while i < tokens.len() {
-        if !token_exists(tokens[i], item_rows, literal_rows) {
+        if !token_there(tokens[i], item_rows, literal_rows, name_rows) {
             return Check::Refused(Refusal::Token(i));
         }
         i += 1;

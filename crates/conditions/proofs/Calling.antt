@@ -12,9 +12,10 @@ use Rattle.tables.specs.declared.Written.{Written}
 use Rattle.tables.specs.declared.Written.the-variants.{Count, Refused as Unwritten}
 use Rattle.tables.specs.declared.Judged.{Judged}
 use Rattle.tables.specs.declared.Verdict.the-variants.{Refused as Unjudged}
-use Rattle.tables.specs.Operands.{Lent, lend}
+use Rattle.tables.specs.Operands.{Lent, lendNames}
 use Rattle.tables.specs.Refusals.{firstOf}
-use Rattle.tables.specs.Tables.{tableLines, recordCheck}
+use Rattle.tables.specs.Tables.{recordCheck}
+use Rattle.values.specs.Names.{lentLines}
 use Rattle.tables.proofs.Lines.{line-refused}
 use Rattle.values.specs.Truth.{outcome}
 use Rattle.grammar.specs.Grammar.{Tree}
@@ -61,20 +62,20 @@ pub run-answers : (lent : Lent) (plan content : List ℕ) (switches : ℕ) → R
 run-answers lent plan content switches p e = e ∙ sym (ap told (after-plan lent plan content switches (p .tables) (p .sound)) ∙ rw (p .holds))
 
 -- the check of a plan is lent no literal bytes
-module _ (items literals bytes plan content : List ℕ) (t : firstOf (tableLines (lend items literals bytes)) ≡ Sound) where
-  plan-line : {line : Check} → planCheck (lend items literals []) plan ≡ line → planCheck (lend items literals bytes) plan ≡ line
-  plan-line e = plan-lent items literals bytes plan ∙ e
+module _ (items literals bytes names plan content : List ℕ) (t : firstOf (lentLines (lendNames items literals bytes names)) ≡ Sound) where
+  plan-line : {line : Check} → planCheck (lendNames items literals [] names) plan ≡ line → planCheck (lendNames items literals bytes names) plan ≡ line
+  plan-line e = plan-lent items literals bytes names plan ∙ e
 
-  pub plan-refuses : (switches : ℕ) {refusal : Refusal} → planCheck (lend items literals []) plan ≡ Refused refusal →
-      none refusal ≡ runGives (lend items literals bytes) plan content switches
-  plan-refuses switches e = sym (ap told (after-tables (lend items literals bytes) plan content switches t) ∙ rw (line-refused _ (plan-line e)))
+  pub plan-refuses : (switches : ℕ) {refusal : Refusal} → planCheck (lendNames items literals [] names) plan ≡ Refused refusal →
+      none refusal ≡ runGives (lendNames items literals bytes names) plan content switches
+  plan-refuses switches e = sym (ap told (after-tables (lendNames items literals bytes names) plan content switches t) ∙ rw (line-refused _ (plan-line e)))
 
-  pub run-record-refuses : (switches : ℕ) → planCheck (lend items literals []) plan ≡ Sound → {refusal : Refusal} →
-      recordCheck (lend items literals bytes) content ≡ Refused refusal → none refusal ≡ runGives (lend items literals bytes) plan content switches
-  run-record-refuses switches e h = sym (ap told (after-plan (lend items literals bytes) plan content switches t (plan-line e)) ∙ rw h)
+  pub run-record-refuses : (switches : ℕ) → planCheck (lendNames items literals [] names) plan ≡ Sound → {refusal : Refusal} →
+      recordCheck (lendNames items literals bytes names) content ≡ Refused refusal → none refusal ≡ runGives (lendNames items literals bytes names) plan content switches
+  run-record-refuses switches e h = sym (ap told (after-plan (lendNames items literals bytes names) plan content switches t (plan-line e)) ∙ rw h)
 
-  pub plan-runnable : planCheck (lend items literals []) plan ≡ Sound → recordCheck (lend items literals bytes) content ≡ Sound →
-      Runnable (lend items literals bytes) plan content
+  pub plan-runnable : planCheck (lendNames items literals [] names) plan ≡ Sound → recordCheck (lendNames items literals bytes names) content ≡ Sound →
+      Runnable (lendNames items literals bytes names) plan content
   plan-runnable e h = record { tables = t; sound = plan-line e; holds = h }
 
 -- what is prepared is a refusal

@@ -4,13 +4,14 @@ ghost use mathlib.Core.List.{[], _++_};
 ghost use Prim.Native.Nat.{_≤_};
 ghost use lib.ListN.{length, drop};
 ghost use Rattle.tables.specs.declared.Verdict.the-variants.{Refused as Unjudged};
-ghost use Rattle.tables.specs.Operands.{lend};
+ghost use Rattle.tables.specs.Operands.{lendNames};
 ghost use Rattle.grammar.specs.Judging.{walk};
 ghost use Rattle.rules.specs.Calls.{expandGives, planGives, told, judgeGives, runGives, Leaves};
 use checks::lent::check_record;
 use checks::lent::check_tables;
 use expander::expand::expanded_length;
 use expander::expand::write_expanded;
+use names::table::check_names;
 use plans::checks::check_plan;
 use preparer::Prepared;
 use preparer::prepare::prepare;
@@ -26,13 +27,14 @@ pub fn expand(
     items: &[u32],
     literals: &[u32],
     bytes: &[u8],
+    names: &[u32],
     tokens: &[u32],
     output: &mut [u32],
 ) -> Written
-    ensures { λ r. ⌜ Leaves (expandGives (lend (now (items .entry)) (now (literals .entry)) (now (bytes .entry))) (now (tokens .entry)) (now (output .entry))) r (now (output .exit)) ⌝ }
+    ensures { λ r. ⌜ Leaves (expandGives (lendNames (now (items .entry)) (now (literals .entry)) (now (bytes .entry)) (now (names .entry))) (now (tokens .entry)) (now (output .entry))) r (now (output .exit)) ⌝ }
 {
     let mut rows = [0u32; 640];
-    let prepared = prepare(items, literals, bytes, tokens, &mut rows);
+    let prepared = prepare(items, literals, bytes, names, tokens, &mut rows);
     match prepared {
         Prepared::Refused(refusal) => Written::Refused(refusal),
         Prepared::Rows(_) => {
@@ -62,13 +64,14 @@ pub fn plan(
     items: &[u32],
     literals: &[u32],
     bytes: &[u8],
+    names: &[u32],
     tokens: &[u32],
     output: &mut [u32],
 ) -> Written
-    ensures { λ r. ⌜ Leaves (planGives (lend (now (items .entry)) (now (literals .entry)) (now (bytes .entry))) (now (tokens .entry)) (now (output .entry))) r (now (output .exit)) ⌝ }
+    ensures { λ r. ⌜ Leaves (planGives (lendNames (now (items .entry)) (now (literals .entry)) (now (bytes .entry)) (now (names .entry))) (now (tokens .entry)) (now (output .entry))) r (now (output .exit)) ⌝ }
 {
     let mut rows = [0u32; 640];
-    let prepared = prepare(items, literals, bytes, tokens, &mut rows);
+    let prepared = prepare(items, literals, bytes, names, tokens, &mut rows);
     match prepared {
         Prepared::Refused(refusal) => Written::Refused(refusal),
         Prepared::Rows(count) => {
@@ -97,14 +100,15 @@ pub fn judge<'a>(
     items: &[u32],
     literals: &[u32],
     bytes: &'a [u8],
+    names: &[u32],
     tokens: &[u32],
     record: &'a [u8],
     switches: u8,
 ) -> Judged
-    ensures { λ r. ⌜ r ≡ judgeGives (lend (now (items .entry)) (now (literals .entry)) (now (bytes .entry))) (now (tokens .entry)) (now («record» .entry)) switches ⌝ }
+    ensures { λ r. ⌜ r ≡ judgeGives (lendNames (now (items .entry)) (now (literals .entry)) (now (bytes .entry)) (now (names .entry))) (now (tokens .entry)) (now («record» .entry)) switches ⌝ }
 {
     let mut rows = [0u32; 640];
-    let prepared = prepare(items, literals, bytes, tokens, &mut rows);
+    let prepared = prepare(items, literals, bytes, names, tokens, &mut rows);
     match prepared {
         Prepared::Refused(refusal) => unjudged(refusal),
         Prepared::Rows(count) => {
@@ -113,7 +117,15 @@ pub fn judge<'a>(
                 return unjudged(refusal);
             }
             let end = count * 5;
-            run_rows(items, literals, bytes, &rows[..end], record, switches)
+            run_rows(
+                items,
+                literals,
+                bytes,
+                names,
+                &rows[..end],
+                record,
+                switches,
+            )
         }
     }
 }
@@ -123,17 +135,22 @@ pub fn run<'a>(
     items: &[u32],
     literals: &[u32],
     bytes: &'a [u8],
+    names: &[u32],
     plan: &[u32],
     record: &'a [u8],
     switches: u8,
 ) -> Judged
-    ensures { λ r. ⌜ r ≡ runGives (lend (now (items .entry)) (now (literals .entry)) (now (bytes .entry))) (now (plan .entry)) (now («record» .entry)) switches ⌝ }
+    ensures { λ r. ⌜ r ≡ runGives (lendNames (now (items .entry)) (now (literals .entry)) (now (bytes .entry)) (now (names .entry))) (now (plan .entry)) (now («record» .entry)) switches ⌝ }
 {
     let tables = check_tables(items, literals, bytes);
     if let Check::Refused(refusal) = tables {
         return unjudged(refusal);
     }
-    let rows = check_plan(items, literals, plan);
+    let named = check_names(items, literals, bytes, names);
+    if let Check::Refused(refusal) = named {
+        return unjudged(refusal);
+    }
+    let rows = check_plan(items, literals, names, plan);
     if let Check::Refused(refusal) = rows {
         return unjudged(refusal);
     }
@@ -141,5 +158,5 @@ pub fn run<'a>(
     if let Check::Refused(refusal) = held {
         return unjudged(refusal);
     }
-    run_rows(items, literals, bytes, plan, record, switches)
+    run_rows(items, literals, bytes, names, plan, record, switches)
 }

@@ -3,12 +3,13 @@
 pub mod describe; // record descriptions
 pub mod differ; // what differs between two copies
 pub mod mend; // mending
+pub mod merge; // the merge desk
 pub mod printed; // conditions as printed
 
 ghost use mathlib.Core.Path.{_≡_};
 ghost use Prim.Native.Nat.{_≤_};
 ghost use Rattle.tables.specs.Refusals.{place};
-ghost use Rattle.tables.specs.Operands.{lend};
+ghost use Rattle.tables.specs.Operands.{lendNames};
 ghost use Rattle.rules.specs.Calls.{expandGives, planGives, judgeGives, runGives};
 ghost use Rattle.rules.specs.Places.{Small, Fits};
 ghost use Rattle.conditions_c.specs.Answer.{answerNumbers, writtenNumber, writtenPlace, writtenCount, writtenNumbers, verdictNumber, verdictValue, verdictByte, Told, Leaves, Tells};
@@ -121,14 +122,15 @@ pub extern "C" fn oboecurlew_expand(
     items: &[u32],
     literals: &[u32],
     bytes: &[u8],
+    names: &[u32],
     tokens: &[u32],
     output: &mut [u32],
     answer: &mut [u32; 9],
 ) -> u32
-    ensures { λ r. ⌜ Leaves (expandGives (lend (now (items .entry)) (now (literals .entry)) (now (bytes .entry))) (now (tokens .entry)) (now (output .entry))) r (now (answer .exit)) (now (output .exit)) ⌝ }
+    ensures { λ r. ⌜ Leaves (expandGives (lendNames (now (items .entry)) (now (literals .entry)) (now (bytes .entry)) (now (names .entry))) (now (tokens .entry)) (now (output .entry))) r (now (answer .exit)) (now (output .exit)) ⌝ }
 {
     tell_written(
-        conditions::calls::expand(items, literals, bytes, tokens, output),
+        conditions::calls::expand(items, literals, bytes, names, tokens, output),
         answer,
     )
 }
@@ -138,14 +140,15 @@ pub extern "C" fn oboecurlew_plan(
     items: &[u32],
     literals: &[u32],
     bytes: &[u8],
+    names: &[u32],
     tokens: &[u32],
     output: &mut [u32],
     answer: &mut [u32; 9],
 ) -> u32
-    ensures { λ r. ⌜ Leaves (planGives (lend (now (items .entry)) (now (literals .entry)) (now (bytes .entry))) (now (tokens .entry)) (now (output .entry))) r (now (answer .exit)) (now (output .exit)) ⌝ }
+    ensures { λ r. ⌜ Leaves (planGives (lendNames (now (items .entry)) (now (literals .entry)) (now (bytes .entry)) (now (names .entry))) (now (tokens .entry)) (now (output .entry))) r (now (answer .exit)) (now (output .exit)) ⌝ }
 {
     tell_written(
-        conditions::calls::plan(items, literals, bytes, tokens, output),
+        conditions::calls::plan(items, literals, bytes, names, tokens, output),
         answer,
     )
 }
@@ -155,15 +158,16 @@ pub extern "C" fn oboecurlew_judge<'a>(
     items: &[u32],
     literals: &[u32],
     bytes: &'a [u8],
+    names: &[u32],
     tokens: &[u32],
     record: &'a [u8],
     switches: u8,
     answer: &mut [u32; 9],
 ) -> u32
-    ensures { λ r. ⌜ Tells (judgeGives (lend (now (items .entry)) (now (literals .entry)) (now (bytes .entry))) (now (tokens .entry)) (now («record» .entry)) switches) r (now (answer .exit)) ⌝ }
+    ensures { λ r. ⌜ Tells (judgeGives (lendNames (now (items .entry)) (now (literals .entry)) (now (bytes .entry)) (now (names .entry))) (now (tokens .entry)) (now («record» .entry)) switches) r (now (answer .exit)) ⌝ }
 {
     tell_judged(
-        conditions::calls::judge(items, literals, bytes, tokens, record, switches),
+        conditions::calls::judge(items, literals, bytes, names, tokens, record, switches),
         answer,
     )
 }
@@ -173,15 +177,16 @@ pub extern "C" fn oboecurlew_run<'a>(
     items: &[u32],
     literals: &[u32],
     bytes: &'a [u8],
+    names: &[u32],
     plan: &[u32],
     record: &'a [u8],
     switches: u8,
     answer: &mut [u32; 9],
 ) -> u32
-    ensures { λ r. ⌜ Tells (runGives (lend (now (items .entry)) (now (literals .entry)) (now (bytes .entry))) (now (plan .entry)) (now («record» .entry)) switches) r (now (answer .exit)) ⌝ }
+    ensures { λ r. ⌜ Tells (runGives (lendNames (now (items .entry)) (now (literals .entry)) (now (bytes .entry)) (now (names .entry))) (now (plan .entry)) (now («record» .entry)) switches) r (now (answer .exit)) ⌝ }
 {
     tell_judged(
-        conditions::calls::run(items, literals, bytes, plan, record, switches),
+        conditions::calls::run(items, literals, bytes, names, plan, record, switches),
         answer,
     )
 }

@@ -6,6 +6,7 @@ use crate::logbook::FIELDS;
 use crate::tokens::AND;
 use crate::tokens::LITERAL_BYTES;
 use crate::tokens::LITERALS;
+use crate::tokens::NAMES;
 use crate::tokens::OR;
 use crate::tokens::front;
 use crate::words::words;
@@ -62,7 +63,14 @@ fn side_by_side(written: &[u32], full: &[u32]) {
 pub fn show(tokens: &[u32]) {
     let mut full = [0u32; ROOM];
     line::write(b"  no.  as written                 in full\n");
-    let expanded = calls::expand(&FIELDS, &LITERALS, &LITERAL_BYTES, tokens, &mut full);
+    let expanded = calls::expand(
+        &FIELDS,
+        &LITERALS,
+        &LITERAL_BYTES,
+        &NAMES,
+        tokens,
+        &mut full,
+    );
     if let Written::Count(n) = expanded {
         side_by_side(tokens, front(&full, n));
     }

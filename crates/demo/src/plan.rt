@@ -3,6 +3,7 @@ use crate::line;
 use crate::logbook::FIELDS;
 use crate::tokens::LITERAL_BYTES;
 use crate::tokens::LITERALS;
+use crate::tokens::NAMES;
 use crate::tokens::WORD;
 use crate::words::word;
 use conditions::calls;
@@ -13,7 +14,7 @@ use tables::Written;
 
 // The count of numbers written: 0 for a rule that is refused.
 pub fn make(tokens: &[u32], numbers: &mut [u32]) -> usize {
-    let planned = calls::plan(&FIELDS, &LITERALS, &LITERAL_BYTES, tokens, numbers);
+    let planned = calls::plan(&FIELDS, &LITERALS, &LITERAL_BYTES, &NAMES, tokens, numbers);
     match planned {
         Written::Count(n) => n,
         Written::Refused(_) => 0,

@@ -44,6 +44,9 @@ pub const LITERALS: [u32; 15] = [2, 0, 5, 0, 0, 2, 5, 5, 0, 0, 3, 10, 4, 0, 4];
 
 pub const LITERAL_BYTES: [u8; 14] = *b"TU-55TU-569000";
 
+// The rule has no condition-names.
+pub const NAMES: [u32; 0] = [];
+
 // How many tokens the guard of the rule has: HOURS NUMERIC AND.
 pub const GUARD: usize = 3;
 

@@ -7,6 +7,7 @@ use crate::logbook::ENTRY_SIZE;
 use crate::logbook::FIELDS;
 use crate::tokens::LITERAL_BYTES;
 use crate::tokens::LITERALS;
+use crate::tokens::NAMES;
 use crate::words::word;
 use conditions::calls;
 use tables::Judged;
@@ -86,9 +87,10 @@ fn given(by: By, numbers: &[u32], record: &[u8]) -> Judged {
     let fields = FIELDS;
     let literals = LITERALS;
     let bytes = LITERAL_BYTES;
+    let names = NAMES;
     match by {
-        By::Words => calls::judge(&fields, &literals, &bytes, numbers, record, 0),
-        By::Plan => calls::run(&fields, &literals, &bytes, numbers, record, 0),
+        By::Words => calls::judge(&fields, &literals, &bytes, &names, numbers, record, 0),
+        By::Plan => calls::run(&fields, &literals, &bytes, &names, numbers, record, 0),
     }
 }
 

@@ -7,7 +7,7 @@ use lib.ListN.{length, drop, length-append, drop-of-length-le}
 use Rattle.reader.specs.declared.Carried.{Carried}
 use Rattle.reader.specs.declared.Single.{Single}
 use Rattle.reader.specs.declared.Single.the-variants.{Row, Stuck}
-use Rattle.grammar.specs.Grammar.{Class, operand, switch, opening, closing, not, and, or, order, bound, test, Class-discrete, class, Is}
+use Rattle.grammar.specs.Grammar.{Class, operand, switch, opening, closing, not, and, or, order, bound, test, name, Class-discrete, class, Is}
 use Rattle.grammar.specs.Grammar.{Carry, nothing, carried, simple}
 use Rattle.grammar.specs.Parser.{Result, parsed, stuck, Parser, on, object, alone, short-bounded, short-ordered, parse-simple}
 use Rattle.reader.specs.Reads.{carryOf, Found, Reads}
@@ -65,7 +65,8 @@ lows-simple c l =
     lows-on order (λ w k. lows-object a (w % 65536 + 32) (omega (arith, order-token w k)))
     (lows-on test (λ w k ts. low (omega (arith, test-token w k)) tt) (λ ts. none)))
     (lows-alone c l a)))))
-    (lows-on switch (λ s i ts. low (omega arith) tt) (lows-bounded c))
+    (lows-on switch (λ s i ts. low (omega arith) tt)
+    (lows-on name (λ s i ts. low (omega arith) tt) (lows-bounded c)))
 
 lows-part : (c : Carry) → Low c → Lows (part c)
 lows-part c l =

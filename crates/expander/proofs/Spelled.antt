@@ -4,7 +4,7 @@ use mathlib.Core.List.{List, [], _∷_, _++_, append-nil, append-assoc}
 use Prim.Native.Nat.{ℕ, zero, suc, _+_, _≤_}
 use native.Mathlib.Omega.{arith}
 use lib.ListN.{length, length-append}
-use Rattle.grammar.specs.Grammar.{operand, switch, bound, Is, Carry, nothing, carried, Tree, simple}
+use Rattle.grammar.specs.Grammar.{operand, switch, bound, name, Is, Carry, nothing, carried, Tree, simple}
 use Rattle.grammar.specs.Grammar.{Stated, Relation, Simple, Logical, Condition, Chain, Term, Body}
 use Rattle.grammar.specs.Parser.{parsed, on, parse-simple, accepted, read}
 use Rattle.grammar.specs.Expanded.{expanded}
@@ -48,6 +48,7 @@ copies x parts e l = rw (full-switch x) at (goes {us = x ∷ []} parts e (omega 
 data First (x : ℕ) : Type 0 where
   an-operand : Is operand x → First x
   a-switch : Is switch x → First x
+  a-name : Is name x → First x
   a-bound : Is bound x → First x
 
 first-part : {x : ℕ} → First x → (c : Carry) (ts : List ℕ) → part c (x ∷ ts) ≡ parse-simple c (x ∷ ts)
@@ -55,12 +56,15 @@ first-part (an-operand i) nothing ts = simp (at i)
 first-part (an-operand i) (carried a m) ts = simp (at i)
 first-part (a-switch i) nothing ts = simp (at i)
 first-part (a-switch i) (carried a m) ts = simp (at i)
+first-part (a-name i) nothing ts = simp (at i)
+first-part (a-name i) (carried a m) ts = simp (at i)
 first-part (a-bound i) nothing ts = simp (at i)
 first-part (a-bound i) (carried a m) ts = simp (at i)
 
 first-logical : {x : ℕ} {us : List ℕ} → First x → Logical (x ∷ us)
 first-logical (an-operand i) = is-logical i tt tt
 first-logical (a-switch i) = is-logical i tt tt
+first-logical (a-name i) = is-logical i tt tt
 first-logical (a-bound i) = is-logical i tt tt
 
 begun : {c d : Carry} {x : ℕ} {us : List ℕ} {t : Tree} → First x → Simple c (x ∷ us) t d → (rest : List ℕ) → Ends 2 rest →
@@ -71,6 +75,7 @@ simple-part : {c d : Carry} {us : List ℕ} {t : Tree} → Simple c us t d → (
 simple-part (Simple.full i s j) rest e = begun (an-operand i) (Simple.full i s j) rest e
 simple-part (Simple.tested i s) rest e = begun (an-operand i) (Simple.tested i s) rest e
 simple-part (Simple.switched i) rest e = begun (a-switch i) (Simple.switched i) rest e
+simple-part (Simple.named i) rest e = begun (a-name i) (Simple.named i) rest e
 simple-part (Simple.short (Relation.ordered (Stated.plain i)) j) rest e = simp (at i, at j)
 simple-part (Simple.short (Relation.ordered (Stated.with-not k i)) j) rest e = simp (at k, at i, at j)
 simple-part (Simple.short (Relation.bounded i) j) rest e = begun (a-bound i) (Simple.short (Relation.bounded i) j) rest e
@@ -80,6 +85,7 @@ some-token : {c d : Carry} {us : List ℕ} {t : Tree} → Simple c us t d → 1 
 some-token (Simple.full i s j) = omega arith
 some-token (Simple.tested i s) = omega arith
 some-token (Simple.switched i) = omega arith
+some-token (Simple.named i) = omega arith
 some-token (Simple.short (Relation.ordered (Stated.plain i)) j) = omega arith
 some-token (Simple.short (Relation.ordered (Stated.with-not k i)) j) = omega arith
 some-token (Simple.short (Relation.bounded i) j) = omega arith

@@ -9,13 +9,13 @@ use lib.ListN.{length, getD}
 use lib.Dec.{eqb}
 use Rattle.tables.specs.declared.Check.the-variants.{Sound, Refused}
 use Rattle.tables.specs.declared.Refusal.the-variants.{Token, Depth}
-use Rattle.tables.specs.Tokens.{exists}
-use Rattle.tables.specs.Rows.{rowCount}
+use Rattle.tables.specs.Tokens.{tokenThere}
+use Rattle.tables.specs.Rows.{rowCount, nameCount}
 use Rattle.tables.specs.Operands.{Lent}
 use Rattle.tables.specs.Tables.{tokenCheck}
 use Rattle.tables.proofs.Lines.{failing-none}
 use Rattle.grammar.specs.Grammar.{operand, Is, Carry, nothing, carried, Tree, plain, with-not}
-use Rattle.grammar.specs.Grammar.{Relation, ordered, bounded, Simple, full, tested, switched, short, bare}
+use Rattle.grammar.specs.Grammar.{Relation, ordered, bounded, Simple, full, tested, switched, named, short, bare}
 use Rattle.grammar.specs.Grammar.{Condition, Chain, Term, Body, Derives}
 use Rattle.grammar.specs.Depth.{depthFrom, depthCheck}
 use Rattle.grammar.specs.Expanded.{expanded}
@@ -33,11 +33,11 @@ at-place (x ∷ ts) (suc k) l = List·Memᴰ·tail (at-place ts k (omega arith))
 module _ (lent : Lent) where
   pub there-passes : (ts : List ℕ) → There lent ts → tokenCheck lent ts ≡ Sound
   there-passes ts h =
-      failing-none (λ i. exists (lent .off) (rowCount (lent .items)) (rowCount (lent .literals)) (getD ts i 0)) Token 0 (length ts)
+      failing-none (λ i. tokenThere (lent .off) (rowCount (lent .items)) (rowCount (lent .literals)) (nameCount (lent .names)) (getD ts i 0)) Token 0 (length ts)
       (λ k l m. h (getD ts k 0) (at-place ts k (omega arith)))
 
   record Insertable (x : ℕ) : Type 0 where
-    there : exists (lent .off) (rowCount (lent .items)) (rowCount (lent .literals)) x ≡ true
+    there : tokenThere (lent .off) (rowCount (lent .items)) (rowCount (lent .literals)) (nameCount (lent .names)) x ≡ true
     not-opening : eqb x 262144 ≡ false
     not-closing : eqb x 262145 ≡ false
 
@@ -96,6 +96,7 @@ module _ (lent : Lent) where
       rw (full-relation a b s) (record { fills = λ k h. (filled-none _, (operand-inserts i h, (r, s))) })
   simple-fills (tested {a = a} i s) = rw (full-test a 0 s) (record { fills = λ k h. (filled-none _, tt) })
   simple-fills (switched {s = s} i) = rw (full-switch s) (record { fills = λ k h. (filled-none _, tt) })
+  simple-fills (named {s = s} i) = rw (full-switch s) (record { fills = λ k h. (filled-none _, tt) })
   simple-fills (short {r = r} {a = a} {b = b} s j) =
       rw (full-relation a b s) (record { fills = λ k h. (added (k .0) (filled-none _), (k .0, (r, s))) })
   simple-fills (bare {a = a} {b = b} j) =

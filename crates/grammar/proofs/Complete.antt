@@ -4,7 +4,7 @@ use mathlib.Core.List.{List, [], _∷_, _++_, append-assoc}
 use Prim.Native.Nat.{ℕ, zero, suc, _+_, _*_, _≤_}
 use native.Mathlib.Omega.{arith}
 use lib.ListN.{length, length-append}
-use Rattle.grammar.specs.Grammar.{Class, operand, switch, opening, closing, not, and, or, order, bound, test, other, Class-discrete, class}
+use Rattle.grammar.specs.Grammar.{Class, operand, switch, opening, closing, not, and, or, order, bound, test, name, other, Class-discrete, class}
 use Rattle.grammar.specs.Grammar.{Is, Carry, nothing, carried, Tree, Stated, Relation, Simple, Logical, logical, Condition, Chain, Term, Body}
 use Rattle.grammar.specs.Parser.{Result, parsed, Parser, on, short-ordered, parse-simple, parse-condition, parse-chain, parse-term, parse-body}
 use Rattle.grammar.proofs.Sound.{is-logical}
@@ -30,6 +30,7 @@ rank not = 3
 rank order = 3
 rank bound = 3
 rank test = 3
+rank name = 3
 rank other = 3
 
 -- Tokens before which such a part ends: none, or a token of at most that rank.
@@ -63,6 +64,7 @@ complete-simple (Simple.full i (Relation.bounded j) k) g rest s = simp (at i, at
 complete-simple (Simple.tested i (Stated.plain j)) g rest s = simp (at i, at j)
 complete-simple (Simple.tested i (Stated.with-not l j)) g rest s = simp (at i, at l, at j)
 complete-simple (Simple.switched i) g rest s = simp (at i)
+complete-simple (Simple.named i) g rest s = simp (at i)
 complete-simple (Simple.short (Relation.ordered (Stated.plain j)) k) (logical g h) rest s = absurd (g j)
 complete-simple (Simple.short (Relation.ordered (Stated.with-not l j)) k) (logical g h) rest s = absurd (h l)
 complete-simple (Simple.short (Relation.bounded j) k) g rest s = simp (at j, at k)
@@ -73,6 +75,7 @@ skip-opening : {c d : Carry} {us : List ℕ} {t : Tree} → Simple c us t d → 
 skip-opening (Simple.full i s j) rest p q = simp (at i)
 skip-opening (Simple.tested i s) rest p q = simp (at i)
 skip-opening (Simple.switched i) rest p q = simp (at i)
+skip-opening (Simple.named i) rest p q = simp (at i)
 skip-opening (Simple.short (Relation.ordered (Stated.plain i)) j) rest p q = simp (at i)
 skip-opening (Simple.short (Relation.ordered (Stated.with-not l i)) j) rest p q = simp (at l)
 skip-opening (Simple.short (Relation.bounded i) j) rest p q = simp (at i)
@@ -96,6 +99,7 @@ unfolding parse-condition
 shape-simple (Simple.full i s j) = inner (is-logical i tt tt)
 shape-simple (Simple.tested i s) = inner (is-logical i tt tt)
 shape-simple (Simple.switched i) = inner (is-logical i tt tt)
+shape-simple (Simple.named i) = inner (is-logical i tt tt)
 shape-simple (Simple.short (Relation.ordered (Stated.plain j)) k) = outer (λ f rest. simp (at j, at k))
 shape-simple (Simple.short (Relation.ordered (Stated.with-not i j)) k) = outer (λ f rest. simp (at i, at j, at k))
 shape-simple (Simple.short (Relation.bounded i) j) = inner (is-logical i tt tt)

@@ -9,14 +9,14 @@ use lib.Dec.{eqb}
 use lib.ListN.{length}
 use Rattle.tables.specs.Tokens.{isOff}
 use Rattle.grammar.specs.declared.PlanRow.{PlanRow}
-use Rattle.grammar.specs.Grammar.{operand, switch, test, Is, Carry, nothing, carried, Tree, simple, negated, bracketed, both, either}
-use Rattle.grammar.specs.Grammar.{Stated, plain, with-not, Relation, ordered, bounded, Simple, full, tested, switched, short, bare}
+use Rattle.grammar.specs.Grammar.{operand, switch, test, name, Is, Carry, nothing, carried, Tree, simple, negated, bracketed, both, either}
+use Rattle.grammar.specs.Grammar.{Stated, plain, with-not, Relation, ordered, bounded, Simple, full, tested, switched, named, short, bare}
 use Rattle.grammar.specs.Grammar.{Logical, Condition, chain, ors, Chain, term, ands, Term, body, negation, Body, one, brackets, Derives}
 use Rattle.grammar.specs.Judging.{leaves}
 use Rattle.grammar.specs.Plan.{onTrue, onFalse, rowsOf, flat, planned, planRow}
 use Rattle.grammar.specs.Converted.{onToken, notIf, onlyOn, convertedTokens, negatedIf, treeOn, convertedTree, onRow, onRows, rowsFrom, convertedPlan}
 use Rattle.grammar.proofs.Spelling.{operand-token, opening-token, closing-token, not-token, and-token, or-token}
-use Rattle.grammar.proofs.Spelling.{order-token, bound-token, test-token, is-switch, is-not}
+use Rattle.grammar.proofs.Spelling.{spelled, order-token, bound-token, test-token, is-switch, is-not}
 use Rattle.grammar.proofs.Segment.{Stands, stands-one, stands-left, stands-right, rows-count, planned-rows, planned-stands}
 use Rattle.grammar.proofs.Expansion.{low-logical}
 use native.Mathlib.Numerals.{add-one}
@@ -104,6 +104,9 @@ test-clean (plain {w = w} h) = (word-clean w (omega (arith, test-token w h)), tt
 test-clean (with-not {n = x} {w = w} i h) =
     (word-clean x (omega (arith, not-token x i)), (word-clean w (omega (arith, test-token w h)), tt))
 
+name-clean : (s : ℕ) → Is name s → isOff s ≡ false
+name-clean s i = let q : s / 65536 ≡ 5 = spelled s i in rw q
+
 -- a carried subject is no off token
 abbrev Carries : Carry → Type 0
 Carries nothing = Unit {0}
@@ -140,6 +143,7 @@ simple-converts : {c d : Carry} {ts : List ℕ} {t : Tree} → Simple c ts t d �
 simple-converts (full {a = a} {b = b} i s j) k = (clean-simple (full i s j) (operand-clean a i, relation-clean b s j) (operand-clean a i), operand-clean a i)
 simple-converts (tested {a = a} i s) k = (clean-simple (tested i s) (operand-clean a i, test-clean s) (operand-clean a i), tt)
 simple-converts {c = c} (switched {s = s} i) k = (switch-converts c s i, tt)
+simple-converts (named {s = s} i) k = let e = name-clean s i in (clean-simple (named i) (e, tt) e, tt)
 simple-converts (short {b = b} s j) k = (clean-simple (short s j) (relation-clean b s j) k, k)
 simple-converts (bare {b = b} j) k = (clean-simple (bare j) (operand-clean b j, tt) k, k)
 

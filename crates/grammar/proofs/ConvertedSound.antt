@@ -10,15 +10,15 @@ use lib.ListN.{length, getD}
 use lib.Dec.{eqb}
 use Rattle.tables.specs.declared.Check.the-variants.{Sound, Refused}
 use Rattle.tables.specs.declared.Refusal.the-variants.{Depth, PlanRow as PlanFault}
-use Rattle.tables.specs.Tokens.{isOff, isSwitch, indexOf, exists}
-use Rattle.tables.specs.Rows.{rowCount}
-use Rattle.tables.specs.Operands.{Lent, under, operandSound, switchSound}
+use Rattle.tables.specs.Tokens.{isOff, indexOf, tokenThere}
+use Rattle.tables.specs.Rows.{rowCount, nameCount}
+use Rattle.tables.specs.Operands.{Lent, under, operandSound, aloneSound}
 use Rattle.tables.specs.Refusals.{firstFailing, firstOf}
 use Rattle.tables.specs.Tables.{tokenCheck}
 use Rattle.tables.proofs.Tests.{both, four, and-both}
 use Rattle.tables.proofs.Lines.{Throughout, line-last, failing-none}
 use Rattle.typing.specs.declared.Test.{Test}
-use Rattle.typing.specs.declared.Test.the-variants.{Switch, Relation, Class, Sign, Unknown}
+use Rattle.typing.specs.declared.Test.the-variants.{Alone, Relation, Class, Sign, Unknown}
 use Rattle.typing.specs.Tests.{testOf}
 use Rattle.typing.specs.Shape.{shapeSound}
 use Rattle.typing.specs.Typing.{testTyped, typed}
@@ -33,19 +33,19 @@ use Rattle.grammar.proofs.Again.{there-passes}
 use Rattle.grammar.proofs.Converted.{Clean, clean-stays}
 
 -- an off token that exists under the old rules has an on token that exists under the new ones
-off-index : (i l x : ℕ) → exists true i l x ≡ true → isOff x ≡ true → indexOf x ≤ 7
-off-index i l x h e = leb-true (indexOf x) 7 (simp or-false at (rw (eqb-true (x / 65536) 3 e) at h))
+off-index : (i l n x : ℕ) → tokenThere true i l n x ≡ true → isOff x ≡ true → indexOf x ≤ 7
+off-index i l n x h e = leb-true (indexOf x) 7 (simp or-false at (rw (eqb-true (x / 65536) 3 e) at h))
 
-on-exists : (i l x : ℕ) → exists true i l x ≡ true → isOff x ≡ true → exists false i l (onToken x) ≡ true
-on-exists i l x h e =
+on-exists : (i l n x : ℕ) → tokenThere true i l n x ≡ true → isOff x ≡ true → tokenThere false i l n (onToken x) ≡ true
+on-exists i l n x h e =
     let k : x / 65536 ≡ 3 = eqb-true (x / 65536) 3 e in
-    let s : indexOf x ≤ 7 = off-index i l x h e in
+    let s : indexOf x ≤ 7 = off-index i l n x h e in
     let q : (x - 65536) / 65536 ≡ 2 = omega arith in
     rw (q, le-leb ((x - 65536) % 65536) 7 (omega arith))
 
 -- every other token exists under both or under neither
-else-exists : (i l x : ℕ) → isOff x ≡ false → exists false i l x ≡ exists true i l x
-else-exists i l x e = rw e
+else-exists : (i l n x : ℕ) → isOff x ≡ false → tokenThere false i l n x ≡ tokenThere true i l n x
+else-exists i l n x e = rw e
 
 module _ (lent : Lent) where
   abbrev old : Lent
@@ -54,7 +54,7 @@ module _ (lent : Lent) where
   abbrev new : Lent
   new = under false lent
 
-  there-cons : {x : ℕ} {ts : List ℕ} → exists false (rowCount (lent .items)) (rowCount (lent .literals)) x ≡ true → There new ts → There new (x ∷ ts)
+  there-cons : {x : ℕ} {ts : List ℕ} → tokenThere false (rowCount (lent .items)) (rowCount (lent .literals)) (nameCount (lent .names)) x ≡ true → There new ts → There new (x ∷ ts)
   there-cons e h y (List·Memᴰ·head q) = rw q e
   there-cons e h y (List·Memᴰ·tail m) = h y m
 
@@ -74,14 +74,14 @@ module _ (lent : Lent) where
       there-all false = there-none
   on-there w (x ∷ ts) h = go (isOff x) (eqb x 262146) refl (on-there true ts (there-tail old h)) (on-there false ts (there-tail old h))
     where
-      here : exists true (rowCount (lent .items)) (rowCount (lent .literals)) x ≡ true
+      here : tokenThere true (rowCount (lent .items)) (rowCount (lent .literals)) (nameCount (lent .names)) x ≡ true
       here = h x (List·Memᴰ·head refl)
 
       go : (f n : Bool) → isOff x ≡ f → There new (onlyOn true ts) → There new (onlyOn false ts) →
           There new (cond f (notIf (not w) ++ onToken x ∷ onlyOn false ts) (cond n (notIf w ++ onlyOn true ts) (notIf w ++ x ∷ onlyOn false ts)))
-      go true n e p q = there-not (not w) _ (there-cons (on-exists _ _ x here e) q)
+      go true n e p q = there-not (not w) _ (there-cons (on-exists _ _ _ x here e) q)
       go false true e p q = there-not w _ p
-      go false false e p q = there-not w _ (there-cons (else-exists _ _ x e ∙ here) q)
+      go false false e p q = there-not w _ (there-cons (else-exists _ _ _ x e ∙ here) q)
 
   pub converted-tokens : (ts : List ℕ) → tokenCheck old ts ≡ Sound → tokenCheck new (convertedTokens ts) ≡ Sound
   converted-tokens ts e = there-passes new (convertedTokens ts) (on-there false ts (tokens-there old ts e))
@@ -156,21 +156,21 @@ pub converted-depth : (ts : List ℕ) → depthCheck ts ≡ Sound → depthCheck
 converted-depth ts e = on-depth false ts 0 0 e 0
 
 -- an off token is a subject of nothing but a switch condition
-pub off-switch : (lent : Lent) (r a b : ℕ) → shapeSound lent (testOf r) a b ≡ true → isOff a ≡ true → testOf r ≡ Switch
+pub off-switch : (lent : Lent) (r a b : ℕ) → shapeSound lent (testOf r) a b ≡ true → isOff a ≡ true → testOf r ≡ Alone
 off-switch lent r a b h e = go (testOf r) refl h
   where
     no-operand : operandSound lent a ≡ false
     no-operand = rw (eqb-true (a / 65536) 3 e)
 
-    go : (x : Test) → testOf r ≡ x → shapeSound lent x a b ≡ true → testOf r ≡ Switch
-    go Switch q s = q
+    go : (x : Test) → testOf r ≡ x → shapeSound lent x a b ≡ true → testOf r ≡ Alone
+    go Alone q s = q
     go (Relation word negated) q s = absurd (false≢true (sym no-operand ∙ both (operandSound lent a) _ s .0))
     go (Class word negated) q s = absurd (false≢true (sym no-operand ∙ both (operandSound lent a) _ s .0))
     go (Sign word negated) q s = absurd (false≢true (sym no-operand ∙ both (operandSound lent a) _ s .0))
     go Unknown q s = absurd (false≢true s)
 
 -- a switch condition is well typed
-pub on-typed : (lent : Lent) (r a b : ℕ) → testOf r ≡ Switch → typed lent a r b ≡ true
+pub on-typed : (lent : Lent) (r a b : ℕ) → testOf r ≡ Alone → typed lent a r b ≡ true
 unfolding typed
 on-typed lent r a b e = rw e
 
@@ -180,7 +180,7 @@ unfolding typed
 typed-rules lent a r b = go (testOf r)
   where
     go : (x : Test) → testTyped (under true lent) x a b ≡ testTyped (under false lent) x a b
-    go Switch = refl
+    go Alone = refl
     go (Relation word negated) = refl
     go (Class word negated) = refl
     go (Sign word negated) = refl
@@ -195,29 +195,29 @@ module _ (lent : Lent) where
       go true e = rw (eqb-true (x / 65536) 3 e)
       go false e = rw e
 
-  switch-rules : (x : ℕ) → isOff x ≡ false → switchSound (under true lent) x ≡ switchSound (under false lent) x
+  switch-rules : (x : ℕ) → isOff x ≡ false → aloneSound (under true lent) x ≡ aloneSound (under false lent) x
   switch-rules x e = rw e
 
   shape-rules : (x : Test) (a b : ℕ) → isOff a ≡ false → shapeSound (under true lent) x a b ≡ shapeSound (under false lent) x a b
-  shape-rules Switch a b e = ap (λ t. t && eqb b 0) (switch-rules a e)
+  shape-rules Alone a b e = ap (λ t. t && eqb b 0) (switch-rules a e)
   shape-rules (Relation word negated) a b e = ap₂ (λ s t. s && t) (operand-rules a) (operand-rules b)
   shape-rules (Class word negated) a b e = ap (λ t. t && eqb b 0) (operand-rules a)
   shape-rules (Sign word negated) a b e = ap (λ t. t && eqb b 0) (operand-rules a)
   shape-rules Unknown a b e = refl
 
   -- the on switch of an off switch
-  on-switch : (x : ℕ) → switchSound (under true lent) x ≡ true → isOff x ≡ true → switchSound (under false lent) (onToken x) ≡ true
+  on-switch : (x : ℕ) → aloneSound (under true lent) x ≡ true → isOff x ≡ true → aloneSound (under false lent) (onToken x) ≡ true
   on-switch x h e =
       let k : x / 65536 ≡ 3 = eqb-true (x / 65536) 3 e in
       let q : (x - 65536) / 65536 ≡ 2 = omega arith in
-      let i : isSwitch (onToken x) ≡ true = rw q in
-      and-both (isSwitch (onToken x)) _ i (on-exists (rowCount (lent .items)) (rowCount (lent .literals)) x (both (isSwitch x) _ h .1) e)
+      let s : indexOf x ≤ 7 = leb-true (indexOf x) 7 (simp or-false at (rw k at h)) in
+      rw (q, le-leb ((x - 65536) % 65536) 7 (omega arith))
 
   -- a condition of sound shape with the on switch in its place
   pub on-shape : (r a b : ℕ) → shapeSound (under true lent) (testOf r) a b ≡ true → isOff a ≡ true → shapeSound (under false lent) (testOf r) (onToken a) b ≡ true
   on-shape r a b h e =
       let s = off-switch (under true lent) r a b h e in
-      let p = both (switchSound (under true lent) a) (eqb b 0) (rw s at h) in
+      let p = both (aloneSound (under true lent) a) (eqb b 0) (rw s at h) in
       rw s (and-both _ _ (on-switch a (p .0) e) (p .1))
 
   -- a row of a plan

@@ -5,10 +5,10 @@ use Prim.Native.Nat.{ℕ, _+_, _-_, _<_, _≤_, _%_}
 use native.Mathlib.Omega.{arith}
 use borrow.Author.Tests.{ne-eqb, lt-ltb, le-ltb}
 use Rattle.grammar.specs.Grammar.{Class, operand, not, order, test, Is, Carry, nothing, carried, Tree, simple}
-use Rattle.grammar.specs.Grammar.{Stated, plain, with-not, Relation, ordered, bounded, Simple, full, tested, switched, short, bare}
+use Rattle.grammar.specs.Grammar.{Stated, plain, with-not, Relation, ordered, bounded, Simple, full, tested, switched, named, short, bare}
 use Rattle.grammar.specs.Grammar.{Logical, logical, Condition, chain, ors, Chain, term, ands, Term, body, negation, Body, one, brackets, Derives}
 use Rattle.grammar.specs.Expanded.{stated, full-form, expanded, Inserted, end, kept, added}
-use Rattle.grammar.proofs.Spelling.{operand-token, switch-token, opening-token, closing-token, not-token, and-token, or-token}
+use Rattle.grammar.proofs.Spelling.{operand-token, switch-token, name-token, opening-token, closing-token, not-token, and-token, or-token}
 use Rattle.grammar.proofs.Spelling.{order-token, bound-token, test-token, is-opening, is-closing, is-not, is-and, is-or}
 
 -- the words r state the relation number n, whose word is one from `low` to `high`
@@ -82,6 +82,9 @@ abbrev Expands-body : (Carry → List ℕ → Tree → Carry → Type 0) → Lis
 Expands-body F ts t d = Expands F ts (expanded t) t d × Logical (expanded t)
 
 -- an operand, a switch and "(" are none of NOT > < =
+pub high-logical : {ts : List ℕ} (x : ℕ) → 262160 < x → Logical (x ∷ ts)
+high-logical x l = logical (λ (h : Is order x). omega (arith, order-token x h)) (λ (h : Is not x). omega (arith, not-token x h))
+
 pub low-logical : {ts : List ℕ} (x : ℕ) → x ≤ 262144 → Logical (x ∷ ts)
 low-logical x l = logical (λ (h : Is order x). omega (arith, order-token x h)) (λ (h : Is not x). omega (arith, not-token x h))
 
@@ -98,6 +101,8 @@ simple-expands (tested {a = a} h s) k =
     rw (full-test a 0 s) (record { carries = tt; again = λ c. tested h s; inserted = inserted-none _ }, low-logical a (omega (arith, operand-token a h)))
 simple-expands (switched {s = s} h) k =
     rw (full-switch s) (record { carries = tt; again = λ c. switched h; inserted = inserted-none _ }, low-logical s (omega (arith, switch-token s h)))
+simple-expands (named {s = s} h) k =
+    rw (full-switch s) (record { carries = tt; again = λ c. named h; inserted = inserted-none _ }, high-logical s (omega (arith, name-token s h)))
 simple-expands (short s g) k = relation-expands (k .0) s g (added (inserted-none _))
 simple-expands (bare g) k = relation-expands (k .0) (k .1 .1) g (added (inserted-front (k .1 .0) _))
 

@@ -102,7 +102,7 @@ local-short-ordered nothing number h = h
 local-short-ordered (carried a m) number h = local-on _ (λ x. local-object a _) h
 
 local-simple : (c : Carry) → Local (parse-simple c)
-local-simple c = local-on _ (λ a. local-after-operand c a) (local-on _ (λ s. local-done _ _) (local-short-bounded c))
+local-simple c = local-on _ (λ a. local-after-operand c a) (local-on _ (λ s. local-done _ _) (local-on _ (λ s. local-done _ _) (local-short-bounded c)))
 
 mutual
   unfolding parse-condition

@@ -1,25 +1,27 @@
 -- Every simple condition of a derived tree has a sound shape where all its tokens exist, and so has every row of its plan. So the
 -- plan of a well typed condition is sound.
 use mathlib.Core.Path.{_≡_, refl, sym, ap, _∙_}
-use mathlib.Core.Bool.{Bool, true, _&&_, _||_}
-use mathlib.Core.List.{List, _∷_, _++_, List·Memᴰ, List·Memᴰ·head, List·Memᴰ·tail, Memᴰ·append-left, Memᴰ·append-right}
+use mathlib.Core.Bool.{Bool, true, _&&_, _||_, or-false}
+use mathlib.Core.List.{List, [], _∷_, _++_, List·Memᴰ, List·Memᴰ·head, List·Memᴰ·tail, Memᴰ·append-left, Memᴰ·append-right}
 use Prim.Native.Nat.{ℕ, suc, _+_, _*_, _<_, _≤_, _/_, _%_}
 use native.Mathlib.Omega.{arith}
 use lib.ListN.{length, getD, take, length-take}
 use lib.Seq.{getD-take}
 use lib.Dec.{eqb}
+use borrow.Author.Tests.{ne-eqb}
 use Rattle.tables.specs.declared.Check.the-variants.{Sound}
 use Rattle.tables.specs.declared.Refusal.the-variants.{Token}
-use Rattle.tables.specs.Tokens.{exists}
-use Rattle.tables.specs.Rows.{rowCount}
-use Rattle.tables.specs.Operands.{Lent, operandSound, switchSound}
+use Rattle.tables.specs.Tokens.{isSwitch, exists, tokenThere}
+use Rattle.tables.specs.Rows.{rowCount, nameCount}
+use Rattle.tables.specs.Operands.{Lent, lend, lendNames, operandSound, aloneSound}
 use Rattle.tables.specs.Tables.{tokenCheck}
 use Rattle.typing.specs.Tests.{testOf}
 use Rattle.typing.specs.Shape.{shapeSound}
+use Rattle.typing.proofs.Lending.{shape-operands}
 use Rattle.tables.proofs.Tests.{and-both}
 use Rattle.tables.proofs.Lines.{every-sound}
-use Rattle.grammar.specs.Grammar.{operand, switch, test, Is, Carry, nothing, carried, Tree, simple}
-use Rattle.grammar.specs.Grammar.{Stated, plain, with-not, Relation, ordered, bounded, Simple, full, tested, switched, short, bare}
+use Rattle.grammar.specs.Grammar.{operand, switch, test, name, Is, Carry, nothing, carried, Tree, simple}
+use Rattle.grammar.specs.Grammar.{Stated, plain, with-not, Relation, ordered, bounded, Simple, full, tested, switched, named, short, bare}
 use Rattle.grammar.specs.Grammar.{Condition, Chain, Term, Body, Derives}
 use Rattle.grammar.specs.Judging.{leaves}
 use Rattle.grammar.specs.Typed.{typingFrom}
@@ -40,12 +42,12 @@ member-passes passes (List·Memᴰ·tail m) h = member-passes passes m (λ k l. 
 module _ (lent : Lent) where
   -- each of the tokens exists
   abbrev pub There : List ℕ → Type 0
-  There ts = (x : ℕ) → List·Memᴰ x ts → exists (lent .off) (rowCount (lent .items)) (rowCount (lent .literals)) x ≡ true
+  There ts = (x : ℕ) → List·Memᴰ x ts → tokenThere (lent .off) (rowCount (lent .items)) (rowCount (lent .literals)) (nameCount (lent .names)) x ≡ true
 
   pub tokens-there : (ts : List ℕ) → tokenCheck lent ts ≡ Sound → There ts
   tokens-there ts e x m =
-      member-passes (exists (lent .off) (rowCount (lent .items)) (rowCount (lent .literals))) m
-      (every-sound (λ i. exists (lent .off) (rowCount (lent .items)) (rowCount (lent .literals)) (getD ts i 0)) Token (length ts) e)
+      member-passes (tokenThere (lent .off) (rowCount (lent .items)) (rowCount (lent .literals)) (nameCount (lent .names))) m
+      (every-sound (λ i. tokenThere (lent .off) (rowCount (lent .items)) (rowCount (lent .literals)) (nameCount (lent .names)) (getD ts i 0)) Token (length ts) e)
 
   pub there-left : {ts : List ℕ} (us : List ℕ) → There (ts ++ us) → There ts
   there-left us h x m = h x (Memᴰ·append-left us m)
@@ -56,17 +58,27 @@ module _ (lent : Lent) where
   pub there-tail : {y : ℕ} {ts : List ℕ} → There (y ∷ ts) → There ts
   there-tail h x m = h x (List·Memᴰ·tail m)
 
+  -- a token of another kind than 5 is there by document 01's own kinds
+  unnamed : (x : ℕ) → ¬ (x / 65536 ≡ 5) → tokenThere (lent .off) (rowCount (lent .items)) (rowCount (lent .literals)) (nameCount (lent .names)) x ≡ true
+      → exists (lent .off) (rowCount (lent .items)) (rowCount (lent .literals)) x ≡ true
+  unnamed x n e = simp or-false at (rw (ne-eqb (x / 65536) 5 n) at e)
+
   operand-sound : {x : ℕ} {ts : List ℕ} → Is operand x → There (x ∷ ts) → operandSound lent x ≡ true
   operand-sound {x} i h =
       and-both _ _
       (among (λ q. eqb q 0 || eqb q 1 ≡ true) 0 2 (x / 65536) (omega arith) (omega (arith, spelled x i)) (refl, (refl, tt)))
-      (h x (List·Memᴰ·head refl))
+      (unnamed x (λ q. omega (arith, spelled x i)) (h x (List·Memᴰ·head refl)))
 
-  switch-sound : {x : ℕ} {ts : List ℕ} → Is switch x → There (x ∷ ts) → switchSound lent x ≡ true
+  switch-sound : {x : ℕ} {ts : List ℕ} → Is switch x → There (x ∷ ts) → aloneSound lent x ≡ true
   switch-sound {x} i h =
-      and-both _ _
+      rw (and-both (isSwitch x) _
       (among (λ q. eqb q 2 || eqb q 3 ≡ true) 2 2 (x / 65536) (omega (arith, spelled x i)) (omega (arith, spelled x i)) (refl, (refl, tt)))
-      (h x (List·Memᴰ·head refl))
+      (unnamed x (λ q. omega (arith, spelled x i)) (h x (List·Memᴰ·head refl))))
+
+  name-sound : {x : ℕ} {ts : List ℕ} → Is name x → There (x ∷ ts) → aloneSound lent x ≡ true
+  name-sound {x} i h =
+      let q : x / 65536 ≡ 5 = spelled x i in
+      rw q (rw q at (h x (List·Memᴰ·head refl)))
 
   -- what the shape of a relation asks, and that of a class or a sign, by the numbers that there are
   module _ (a b : ℕ) where
@@ -111,6 +123,7 @@ module _ (lent : Lent) where
       record { shapes = λ h k. relation-shaped a b (operand-sound i h) s (operand-sound j (there-right r (there-tail h))) }
   simple-shapes (tested {a = a} i s) = record { shapes = λ h k. (rw (test-shape a s) (and-both _ _ (operand-sound i h) refl), tt) }
   simple-shapes (switched i) = record { shapes = λ h k. (and-both _ _ (switch-sound i h) refl, tt) }
+  simple-shapes (named i) = record { shapes = λ h k. (and-both _ _ (name-sound i h) refl, tt) }
   simple-shapes (short {r = r} {a = a} {b = b} s j) = record { shapes = λ h k. relation-shaped a b (k .0) s (operand-sound j (there-right r h)) }
   simple-shapes (bare {a = a} {b = b} j) = record { shapes = λ h k. relation-shaped a b (k .0) (k .1 .1) (operand-sound j h) }
 
@@ -172,12 +185,15 @@ module _ (t : Tree) (rows : List ℕ) (e : take (leaves t * 5) rows ≡ planned 
             ∙ planned-stands t .stands k l;
       }
 
-  pub rows-shaped : (lent : Lent) → ShapedTree lent t → Shaped lent rows (leaves t)
-  rows-shaped lent shapes =
+  pub rows-shaped : (items literals bytes names : List ℕ) → ShapedTree (lendNames items literals bytes names) t
+      → Shaped (lend items literals []) rows (leaves t)
+  rows-shaped items literals bytes names shapes =
       record {
         inside = omega (arith, planned-length t, ap length e, length-take (leaves t * 5) rows);
         shape = λ k l.
-            each-row (λ a r b. shapeSound lent (testOf r) a b ≡ true) (planRow rows) 0 onTrue onFalse t buffer-stands shapes k (omega arith) (omega arith);
+            shape-operands items literals bytes names (testOf (planRow rows k .relation)) (planRow rows k .subject) (planRow rows k .object)
+            (each-row (λ a r b. shapeSound (lendNames items literals bytes names) (testOf r) a b ≡ true) (planRow rows) 0 onTrue onFalse t buffer-stands shapes k
+            (omega arith) (omega arith));
       }
 
   pub rows-typed : (lent : Lent) → typedRows lent rows (leaves t) ≡ typingFrom lent 0 t

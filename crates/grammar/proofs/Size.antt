@@ -8,7 +8,7 @@ use borrow.Author.Tests.{lt-ltb, le-ltb}
 use lib.ListN.{length, length-append}
 use lib.Dec.{eqb, ltb}
 use Rattle.grammar.specs.Grammar.{Carry, nothing, carried, Tree, simple, negated, bracketed, both, either}
-use Rattle.grammar.specs.Grammar.{Simple, full, tested, switched, short, bare, Condition, Chain, Term, Body, Derives}
+use Rattle.grammar.specs.Grammar.{Simple, full, tested, switched, named, short, bare, Condition, Chain, Term, Body, Derives}
 use Rattle.grammar.specs.Expanded.{stated, full-form, expanded}
 use Rattle.grammar.specs.Judging.{leaves}
 use Rattle.grammar.proofs.Expansion.{relation-worded, full-relation, full-test, full-switch}
@@ -49,6 +49,7 @@ unfolding leaves expanded
 sizes-simple (full {a = a} {b = b} h s g) = rw (full-relation a b s, relation-worded s .says) (simp length-append (omega arith))
 sizes-simple (tested {a = a} h s) = rw (full-test a 0 s) (omega arith)
 sizes-simple (switched {s = s} h) = rw (full-switch s) (omega arith)
+sizes-simple (named {s = s} h) = rw (full-switch s) (omega arith)
 sizes-simple (short {a = a} {m = m} {b = b} s g) =
     rw (full-relation a b s, relation-worded s .says) (simp length-append (omega (arith, stated-width m)))
 sizes-simple (bare {a = a} {m = m} {b = b} g) = omega (arith, full-width a m b, stated-width m)

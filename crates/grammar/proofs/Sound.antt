@@ -174,7 +174,8 @@ good-short-bounded (carried a m) k =
 good-simple : {seen : List ℕ} (c : Carry) → Known seen c → Good seen (Plain c) (parse-simple c)
 good-simple {seen} c k =
     good-on (λ a i. good-as (λ us t d h. (h, is-logical i tt tt)) (good-after-operand c a i (Memᴰ·append-right seen (List·Memᴰ·head refl)) (later _ k)))
-    (good-on (λ s i. good-done none (Simple.switched i, is-logical i tt tt)) (good-short-bounded c k))
+    (good-on (λ s i. good-done none (Simple.switched i, is-logical i tt tt))
+    (good-on (λ s i. good-done none (Simple.named i, is-logical i tt tt)) (good-short-bounded c k)))
 
 a-body : (c : Carry) → Body c (131072 ∷ []) (simple 131072 0 0) nothing
 a-body c = Body.one (Simple.switched is-switch)

@@ -5,7 +5,7 @@ use Prim.Native.Nat.{ℕ, zero, suc, _+_, _*_, _<_, _≤_, _/_, _%_}
 use native.Mathlib.Omega.{arith}
 use native.Mathlib.Decide.{ℕ-discrete, decLe}
 use lib.ListN.{getD, List·getD-eq-default}
-use Rattle.grammar.specs.Grammar.{Class, operand, switch, opening, closing, not, and, or, order, bound, test, other}
+use Rattle.grammar.specs.Grammar.{Class, operand, switch, opening, closing, not, and, or, order, bound, test, name, other}
 use Rattle.grammar.specs.Grammar.{words, class, Is}
 
 -- the kind q and the number w that a token of each class has; `other` is all beyond the last word
@@ -20,11 +20,12 @@ Spelled or q w = (q ≡ 4) × (w ≡ 4)
 Spelled order q w = (q ≡ 4) × (5 ≤ w) × (w ≤ 7)
 Spelled bound q w = (q ≡ 4) × (8 ≤ w) × (w ≤ 9)
 Spelled test q w = (q ≡ 4) × (10 ≤ w) × (w ≤ 16)
+Spelled name q w = q ≡ 5
 Spelled other q w = 262160 < q * 65536 + w
 
 -- the classes of the kinds, where the word is number w
 abbrev kinds : ℕ → List Class
-kinds w = operand ∷ operand ∷ switch ∷ switch ∷ getD words w other ∷ []
+kinds w = operand ∷ operand ∷ switch ∷ switch ∷ getD words w other ∷ name ∷ []
 
 -- P holds of each of n numbers from `low` on, so of any number among them
 abbrev Each : (ℕ → Type 0) → ℕ → ℕ → Type 0
@@ -57,7 +58,8 @@ spelled-parts (suc zero) w = omega arith
 spelled-parts (suc (suc zero)) w = omega arith
 spelled-parts (suc (suc (suc zero))) w = omega arith
 spelled-parts (suc (suc (suc (suc zero)))) w = spelled-word w
-spelled-parts (suc (suc (suc (suc (suc q))))) w = omega arith
+spelled-parts (suc (suc (suc (suc (suc zero))))) w = omega arith
+spelled-parts (suc (suc (suc (suc (suc (suc q)))))) w = omega arith
 
 pub spelled : {k : Class} (x : ℕ) → Is k x → Spelled k (x / 65536) (x % 65536)
 unfolding class
@@ -93,6 +95,9 @@ bound-token x h = omega (arith, spelled x h)
 pub test-token : (x : ℕ) → Is test x → (262154 ≤ x) × (x ≤ 262160)
 test-token x h = omega (arith, spelled x h)
 
+pub name-token : (x : ℕ) → Is name x → (327680 ≤ x) × (x < 393216)
+name-token x h = omega (arith, spelled x h)
+
 pub is-operand : (x : ℕ) → x < 131072 → Is operand x
 unfolding class
 is-operand x h =
@@ -102,6 +107,10 @@ pub is-switch : (x : ℕ) → 131072 ≤ x → x < 262144 → Is switch x
 unfolding class
 is-switch x h g =
     record { is = among (λ q. getD (kinds (x % 65536)) q other ≡ switch) 2 2 (x / 65536) (omega arith) (omega arith) (refl, (refl, tt)) }
+
+pub is-name : (x : ℕ) → 327680 ≤ x → x < 393216 → Is name x
+unfolding class
+is-name x h g = record { is = among (λ q. getD (kinds (x % 65536)) q other ≡ name) 5 1 (x / 65536) (omega arith) (omega arith) (refl, tt) }
 
 pub is-opening : (x : ℕ) → x ≡ 262144 → Is opening x
 unfolding class
@@ -136,9 +145,9 @@ unfolding class
 is-test x h g =
     record { is = among (λ y. class y ≡ test) 262154 7 x h (omega arith) (refl, (refl, (refl, (refl, (refl, (refl, (refl, tt))))))) }
 
-pub is-other : (x : ℕ) → 262160 < x → Is other x
+pub is-other : (x : ℕ) → 262160 < x → ¬ (x / 65536 ≡ 5) → Is other x
 unfolding class
-is-other x h =
+is-other x h n =
     record {
       is =
           elim (decLe (x / 65536) 4) [
@@ -147,7 +156,7 @@ is-other x h =
                 let g : 17 ≤ x % 65536 = omega arith in
                 rw e (List·getD-eq-default words other g)
             | no l ↦
-                let g : 5 ≤ x / 65536 = omega arith in
+                let g : 6 ≤ x / 65536 = omega arith in
                 List·getD-eq-default (kinds (x % 65536)) other g
           ];
     }

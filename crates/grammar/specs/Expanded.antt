@@ -9,7 +9,7 @@ use Rattle.grammar.specs.Grammar.{Tree, simple, negated, bracketed, both
 abbrev pub stated : ℕ → List ℕ
 stated n = cond (ltb n 32) ((262144 + n) ∷ []) (262146 ∷ (262144 + (n - 32)) ∷ [])
 
--- a simple condition in full: a switch has no relation, and a class or sign word no object
+-- a simple condition in full: a switch or a condition-name has no relation, and a class or sign word no object
 unfoldable pub full-form : ℕ → ℕ → ℕ → List ℕ
 full-form a n b = cond (eqb n 0) (a ∷ []) (a ∷ stated n ++ cond (ltb (n % 32) 10) (b ∷ []) [])
 

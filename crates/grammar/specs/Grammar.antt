@@ -6,9 +6,9 @@ use lib.ListN.{length, take, getD}
 use Rattle.tables.specs.Tokens.{kindOf, indexOf}
 
 -- What a token is to the grammar. `order` is > < =, each "with or without NOT before it"; `bound` is >= <=, "without"; `test`
--- is a class word or a sign word.
+-- is a class word or a sign word; `name` is a condition-name (02, h).
 pub data Class : Type 0 where
-  operand switch opening closing not and or order bound test other : Class
+  operand switch opening closing not and or order bound test name other : Class
   deriving Discrete as Class-discrete
 
 -- "0 "(", 1 ")", 2 NOT, 3 AND, 4 OR, 5 GREATER, 6 LESS, 7 EQUAL, 8 GREATER OR EQUAL, 9 LESS OR EQUAL, 10 NUMERIC,
@@ -18,9 +18,9 @@ words =
     opening ∷ closing ∷ not ∷ and ∷ or ∷ order ∷ order ∷ order ∷ bound ∷ bound
     ∷ test ∷ test ∷ test ∷ test ∷ test ∷ test ∷ test ∷ []
 
--- kinds 0 item, 1 literal, 2 switch on, 3 switch off, 4 word
+-- kinds 0 item, 1 literal, 2 switch on, 3 switch off, 4 word, 5 condition-name
 unfoldable pub class : ℕ → Class
-class token = getD (operand ∷ operand ∷ switch ∷ switch ∷ getD words (indexOf token) other ∷ []) (kindOf token) other
+class token = getD (operand ∷ operand ∷ switch ∷ switch ∷ getD words (indexOf token) other ∷ name ∷ []) (kindOf token) other
 
 pub record Is (k : Class) (token : ℕ) : Type 0 where
   pub is : class token ≡ k
@@ -58,6 +58,8 @@ pub data Simple : Carry → List ℕ → Tree → Carry → Type 0 where
   tested : {c : Carry} {r : List ℕ} {a n : ℕ} → Is operand a → Stated test r n → Simple c (a ∷ r) (simple a n 0) nothing
   -- "switch"
   switched : {c : Carry} {s : ℕ} → Is switch s → Simple c (s ∷ []) (simple s 0 0) nothing
+  -- Document 02, h): "It is a simple condition of its own, drops the carry"
+  named : {c : Carry} {s : ℕ} → Is name s → Simple c (s ∷ []) (simple s 0 0) nothing
   -- "a relation and an object"; "an abbreviated relation that states its relation replaces that one"
   short : {r : List ℕ} {a m n b : ℕ} →
       Relation r n → Is operand b → Simple (carried a m) (r ++ b ∷ []) (simple a n b) (carried a n)

@@ -4,7 +4,7 @@ use mathlib.Core.List.{List, [], _∷_}
 use Prim.Native.Nat.{ℕ, zero, suc, _+_, _*_, _-_}
 use lib.ListN.{length}
 use Rattle.tables.specs.Tokens.{indexOf}
-use Rattle.grammar.specs.Grammar.{Class, operand, switch, opening, closing, not, and, or, order, bound, test, Class-discrete, class}
+use Rattle.grammar.specs.Grammar.{Class, operand, switch, opening, closing, not, and, or, order, bound, test, name, Class-discrete, class}
 use Rattle.grammar.specs.Grammar.{Carry, nothing, carried, Tree, simple, negated, bracketed, both, either}
 
 -- What a parser comes to: a tree, a carry and the tokens left; or the tokens left where it is stuck.
@@ -67,7 +67,8 @@ abbrev pub parse-simple : Carry → Parser
 parse-simple c =
     on operand (λ a. after-operand c a)
     (on switch (λ s. done (simple s 0 0) nothing)
-    (short-bounded c))
+    (on name (λ s. done (simple s 0 0) nothing)
+    (short-bounded c)))
 
 -- Each call takes one unit of fuel; 4 for each token, and 4, are enough.
 unfoldable mutual

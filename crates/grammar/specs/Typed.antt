@@ -9,7 +9,7 @@ use Rattle.tables.specs.declared.Refusal.the-variants.{Typing}
 use Rattle.tables.specs.Operands.{Lent}
 use Rattle.tables.specs.Refusals.{unless, firstFailing, firstOf}
 use Rattle.typing.specs.Tests.{testOf}
-use Rattle.typing.specs.Shape.{shapeSound}
+use Rattle.typing.specs.Shape.{operandsSound}
 use Rattle.typing.specs.Typing.{typed}
 use Rattle.grammar.specs.Grammar.{Tree, simple, negated, bracketed, both, either}
 use Rattle.grammar.specs.Judging.{leaves}
@@ -23,11 +23,11 @@ typingFrom lent n (bracketed t) = typingFrom lent n t
 typingFrom lent n (both t u) = firstOf (typingFrom lent n t ∷ typingFrom lent (n + leaves t) u ∷ [])
 typingFrom lent n (either t u) = firstOf (typingFrom lent n t ∷ typingFrom lent (n + leaves t) u ∷ [])
 
--- each of so many rows in the buffer has a sound shape
+-- the operands of each of so many rows in the buffer are within their tables
 pub record Shaped (lent : Lent) (rows : List ℕ) (count : ℕ) : Type 0 where
   pub inside : count * 5 ≤ length rows
   pub shape : (k : ℕ) → k < count →
-      shapeSound lent (testOf (planRow rows k .relation)) (planRow rows k .subject) (planRow rows k .object) ≡ true
+      operandsSound lent (testOf (planRow rows k .relation)) (planRow rows k .subject) (planRow rows k .object) ≡ true
 
 -- 9, over rows: "first such simple condition"
 abbrev pub typedRows : Lent → List ℕ → ℕ → Check

@@ -3,7 +3,7 @@ ghost use mathlib.Core.Path.{_≡_};
 ghost use mathlib.Core.List.{[]};
 ghost use Prim.Native.Nat.{_+_, _*_, _≤_, _<_};
 ghost use lib.ListN.{length};
-ghost use Rattle.tables.specs.Operands.{lend};
+ghost use Rattle.tables.specs.Operands.{lend, lendNames};
 ghost use Rattle.grammar.specs.Plan.{planRow, targetSound, planRowSound, planCheck};
 ghost use Rattle.grammar.specs.Typed.{typedRows, Shaped};
 use crate::Target;
@@ -52,18 +52,32 @@ fn target_sound(rows: usize, k: usize, target: u32) -> bool
     ((k < next) & (next < rows)) | (target == Target::FALSE) | (target == Target::TRUE)
 }
 
-fn row_sound(items: &[u32], literals: &[u32], rows: usize, k: usize, row: PlanRow) -> bool
-    ensures { λ r. ⌜ r ≡ planRowSound (lend (now (items .entry)) (now (literals .entry)) []) rows k row ⌝ }
+fn row_sound(
+    items: &[u32],
+    literals: &[u32],
+    names: &[u32],
+    rows: usize,
+    k: usize,
+    row: PlanRow,
+) -> bool
+    ensures { λ r. ⌜ r ≡ planRowSound (lendNames (now (items .entry)) (now (literals .entry)) [] (now (names .entry))) rows k row ⌝ }
 {
-    if !condition_sound(items, literals, row.subject, row.relation, row.object) {
+    if !condition_sound(
+        items,
+        literals,
+        names,
+        row.subject,
+        row.relation,
+        row.object,
+    ) {
         return false;
     }
     target_sound(rows, k, row.holds) & target_sound(rows, k, row.fails)
 }
 
 // 11: a plan of 1 to 128 rows of five, and the first row that is not as a plan's rows are.
-pub fn check_plan(items: &[u32], literals: &[u32], plan: &[u32]) -> Check
-    ensures { λ r. ⌜ r ≡ planCheck (lend (now (items .entry)) (now (literals .entry)) []) (now (plan .entry)) ⌝ }
+pub fn check_plan(items: &[u32], literals: &[u32], names: &[u32], plan: &[u32]) -> Check
+    ensures { λ r. ⌜ r ≡ planCheck (lendNames (now (items .entry)) (now (literals .entry)) [] (now (names .entry))) (now (plan .entry)) ⌝ }
 {
     let rows = plan.len() / 5;
     if !((plan.len() % 5 == 0) & (1 <= rows) & (rows <= 128)) {
@@ -71,7 +85,7 @@ pub fn check_plan(items: &[u32], literals: &[u32], plan: &[u32]) -> Check
     }
     let mut k: usize = 0;
     while k < rows {
-        if !row_sound(items, literals, rows, k, plan_row(plan, k)) {
+        if !row_sound(items, literals, names, rows, k, plan_row(plan, k)) {
             return Check::Refused(Refusal::PlanRow(k));
         }
         k += 1;

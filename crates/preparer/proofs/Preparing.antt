@@ -1,4 +1,4 @@
--- What the lines 1 to 9 come to, one law for each answer of the functions that try them.
+-- What the lines 1 to 9 and 18 come to, one law for each answer of the functions that try them.
 use mathlib.Core.Path.{_≡_, refl, sym, ap, _∙_}
 use mathlib.Core.Bool.{Bool, true, false, cond}
 use mathlib.Core.List.{List, [], _∷_, _++_}
@@ -12,9 +12,10 @@ use Rattle.tables.specs.declared.Refusal.{Refusal}
 use Rattle.tables.specs.declared.Refusal.the-variants.{Grammar}
 use Rattle.tables.specs.declared.Check.{Check}
 use Rattle.tables.specs.declared.Check.the-variants.{Sound, Refused}
-use Rattle.tables.specs.Operands.{Lent, lend}
+use Rattle.tables.specs.Operands.{Lent, lend, lendNames}
 use Rattle.tables.specs.Refusals.{place, firstOf}
-use Rattle.tables.specs.Tables.{tableLines, tokenCountCheck, tokenCheck}
+use Rattle.tables.specs.Tables.{tokenCountCheck, tokenCheck}
+use Rattle.values.specs.Names.{lentLines}
 use Rattle.tables.proofs.Lines.{test-sound, line-sound, line-refused, line-last, lines-before, lines-sound}
 use Rattle.tables.proofs.Tests.{both}
 use Rattle.parser.specs.declared.Parse.{Parse}
@@ -35,21 +36,21 @@ use Rattle.grammar.proofs.Shapes.{shaped, rows-shaped, rows-typed}
 use Rattle.preparer.specs.declared.Prepared.{Prepared}
 use Rattle.preparer.specs.declared.Prepared.the-variants.{Rows, Refused as Unprepared}
 use Rattle.rules.specs.Calls.{grammarCheck, earlier, typingCheck, tokenLines, grammarLines, conditionLines}
-use Rattle.preparer.specs.Prepared.{parseCheck, parsedTokens, Stands, Readies, Resolves, Prepares}
+use Rattle.preparer.specs.Prepared.{parseCheck, parsedTokens, There, Stands, Readies, Resolves, Prepares}
 
 -- 1 to 6
-module _ (lent : Lent) (tokens : List ℕ) {t : Check} (tables : t ≡ firstOf (tableLines lent)) where
+module _ (lent : Lent) (tokens : List ℕ) {t : Check} (tables : t ≡ firstOf (lentLines lent)) where
   pub tables-refused : {refusal : Refusal} → t ≡ Refused refusal → Refused refusal ≡ firstOf (tokenLines lent tokens)
-  tables-refused e = sym (lines-before (tableLines lent) _ ∙ line-refused _ (sym tables ∙ e))
+  tables-refused e = sym (lines-before (lentLines lent) _ ∙ line-refused _ (sym tables ∙ e))
 
   pub count-refused : t ≡ Sound → {n : Check} → n ≡ tokenCountCheck tokens → {refusal : Refusal} → n ≡ Refused refusal →
       Refused refusal ≡ firstOf (tokenLines lent tokens)
-  count-refused e count f = sym (lines-before (tableLines lent) _ ∙ line-sound _ (sym tables ∙ e) ∙ line-refused _ (sym count ∙ f))
+  count-refused e count f = sym (lines-before (lentLines lent) _ ∙ line-sound _ (sym tables ∙ e) ∙ line-refused _ (sym count ∙ f))
 
   pub tokens-checked : t ≡ Sound → {n : Check} → n ≡ tokenCountCheck tokens → n ≡ Sound → {r : Check} → r ≡ tokenCheck lent tokens →
       r ≡ firstOf (tokenLines lent tokens)
   tokens-checked e count f last =
-      last ∙ sym (lines-before (tableLines lent) _ ∙ line-sound _ (sym tables ∙ e) ∙ line-sound _ (sym count ∙ f) ∙ line-last _)
+      last ∙ sym (lines-before (lentLines lent) _ ∙ line-sound _ (sym tables ∙ e) ∙ line-sound _ (sym count ∙ f) ∙ line-last _)
 
 -- of 7 and 8
 pub seven-first : (seven : ℕ) (eight : Refusal) → seven ≤ place eight → Refused (Grammar seven) ≡ earlier (Refused (Grammar seven)) (Refused eight)
@@ -109,9 +110,12 @@ all-parsed : (tokens after : List ℕ) (p : Parse) (depth : Check) → depth ≡
     Parses tokens p after
 all-parsed tokens after p depth e h = rw (e, take-all (length tokens) tokens (omega arith)) at h
 
-module _ (lent : Lent) (tokens after : List ℕ) (count : ℕ) {depth : Check} {end : ℕ} (d : depth ≡ depthCheck tokens)
+module _ (items literals tokens after : List ℕ) (count : ℕ) {depth : Check} {end : ℕ} (d : depth ≡ depthCheck tokens)
     (n : end ≡ parsedTokens tokens depth) (parsed : Parses (take end tokens) (Accepted count) after) {r : Check}
-    (e : r ≡ earlier (parseCheck (Accepted count)) depth) (f : r ≡ Sound) (there : tokenCheck lent tokens ≡ Sound) where
+    (e : r ≡ earlier (parseCheck (Accepted count)) depth) (f : r ≡ Sound) (there : There items literals tokens) where
+  abbrev lent : Lent
+  lent = lend items literals []
+
   parses : Parses tokens (Accepted count) after
   parses = all-parsed tokens after (Accepted count) depth (sym e ∙ f) (rw n at parsed)
 
@@ -124,7 +128,8 @@ module _ (lent : Lent) (tokens after : List ℕ) (count : ℕ) {depth : Check} {
   shaped-of : Stands (read tokens) count after → Shaped lent after count
   shaped-of s =
       rw (s .counted)
-      (rows-shaped (s .tree) after (rw (s .counted) at (s .rows)) lent (shaped lent (sound tokens (s .tree) (s .read-as)) there))
+      (rows-shaped (s .tree) after (rw (s .counted) at (s .rows)) items literals [] (there .names)
+      (shaped (lendNames items literals [] (there .names)) (sound tokens (s .tree) (s .read-as)) (there .exist)))
 
   pub shaped-rows : Shaped lent after count
   shaped-rows = shaped-of (lies count after (read tokens) parses)
@@ -143,34 +148,34 @@ module _ (lent : Lent) (tokens after : List ℕ) (count : ℕ) {depth : Check} {
   pub resolved : {typing : Check} → typing ≡ typedRows lent after count → typing ≡ Sound → Resolves lent tokens (Rows count) after
   resolved g h = record { readied = (last-line g ∙ h, lies count after (read tokens) parses) }
 
--- 1 to 9: what is resolved does not depend on the literal bytes
-typing-check-lent : (items literals bytes : List ℕ) (reading : Reading) →
-    typingCheck (lend items literals bytes) reading ≡ typingCheck (lend items literals []) reading
-typing-check-lent items literals bytes (accepted t) = typing-lent items literals bytes 0 t
-typing-check-lent items literals bytes (refused at) = refl
+-- 1 to 9 and 18: what is resolved depends neither on the literal bytes nor on the names
+typing-check-lent : (items literals bytes names : List ℕ) (reading : Reading) →
+    typingCheck (lendNames items literals bytes names) reading ≡ typingCheck (lend items literals []) reading
+typing-check-lent items literals bytes names (accepted t) = typing-lent items literals bytes names 0 t
+typing-check-lent items literals bytes names (refused at) = refl
 
-module _ (items literals bytes tokens : List ℕ) {lines : Check} (six : lines ≡ firstOf (tokenLines (lend items literals bytes) tokens)) where
+module _ (items literals bytes names tokens : List ℕ) {lines : Check} (six : lines ≡ firstOf (tokenLines (lendNames items literals bytes names) tokens)) where
   pub lent-refused : {refusal : Refusal} {after : List ℕ} → lines ≡ Refused refusal →
-      Prepares (lend items literals bytes) tokens (Unprepared refusal) after
-  lent-refused e = record { readied = lines-before (tokenLines (lend items literals bytes) tokens) _ ∙ line-refused _ (sym six ∙ e) }
+      Prepares (lendNames items literals bytes names) tokens (Unprepared refusal) after
+  lent-refused e = record { readied = lines-before (tokenLines (lendNames items literals bytes names) tokens) _ ∙ line-refused _ (sym six ∙ e) }
 
-  whole : lines ≡ Sound → firstOf (conditionLines (lend items literals bytes) tokens) ≡ firstOf (grammarLines (lend items literals []) tokens)
+  whole : lines ≡ Sound → firstOf (conditionLines (lendNames items literals bytes names) tokens) ≡ firstOf (grammarLines (lend items literals []) tokens)
   whole e =
-      lines-before (tokenLines (lend items literals bytes) tokens) _
+      lines-before (tokenLines (lendNames items literals bytes names) tokens) _
       ∙ line-sound _ (sym six ∙ e)
-      ∙ rw (typing-check-lent items literals bytes (read tokens))
+      ∙ rw (typing-check-lent items literals bytes names (read tokens))
 
   readied : lines ≡ Sound → (r : Prepared) (after : List ℕ) → Readies (firstOf (grammarLines (lend items literals []) tokens)) (read tokens) r after →
-      Readies (firstOf (conditionLines (lend items literals bytes) tokens)) (read tokens) r after
+      Readies (firstOf (conditionLines (lendNames items literals bytes names) tokens)) (read tokens) r after
   readied e (Rows count) after h = (whole e ∙ h .0, h .1)
   readied e (Unprepared refusal) after h = whole e ∙ h
 
   pub prepared : lines ≡ Sound → {r : Prepared} {after : List ℕ} → Resolves (lend items literals []) tokens r after →
-      Prepares (lend items literals bytes) tokens r after
+      Prepares (lendNames items literals bytes names) tokens r after
   prepared e {r} {after} h = record { readied = readied e r after (h .readied) }
 
   -- what resolving needs to know of the tokens
-  pub resolvable : lines ≡ Sound → (length tokens ≤ 256) × (tokenCheck (lend items literals []) tokens ≡ Sound)
+  pub resolvable : lines ≡ Sound → (length tokens ≤ 256) × There items literals tokens
   resolvable e =
-      let s = lines-sound (tokenLines (lend items literals bytes) tokens) (sym six ∙ e) in
-      (leb-true _ _ (both (leb 1 (length tokens)) (leb (length tokens) 256) (test-sound _ _ (s .1 .1 .1 .1 .0)) .1), s .1 .1 .1 .1 .1 .0)
+      let s = lines-sound (tokenLines (lendNames items literals bytes names) tokens) (sym six ∙ e) in
+      (leb-true _ _ (both (leb 1 (length tokens)) (leb (length tokens) 256) (test-sound _ _ (s .1 .1 .1 .1 .1 .0)) .1), record { names = names; exist = s .1 .1 .1 .1 .1 .1 .0 })

@@ -1,4 +1,4 @@
--- What the functions below the calls promise: the lines 1 to 9 have been tried, and the rows of the condition's tree stand in a
+-- What the functions below the calls promise: the lines 1 to 9 and 18 have been tried, and the rows of the condition's tree stand in a
 -- buffer.
 use mathlib.Core.Path.{_≡_}
 use mathlib.Core.List.{List, [], _∷_}
@@ -7,7 +7,8 @@ use lib.ListN.{length, take}
 use Rattle.tables.specs.declared.Refusal.the-variants.{Grammar}
 use Rattle.tables.specs.declared.Check.{Check}
 use Rattle.tables.specs.declared.Check.the-variants.{Sound, Refused}
-use Rattle.tables.specs.Operands.{Lent}
+use Rattle.tables.specs.Operands.{Lent, lendNames}
+use Rattle.tables.specs.Tables.{tokenCheck}
 use Rattle.tables.specs.Refusals.{place, firstOf}
 use Rattle.parser.specs.declared.Parse.{Parse}
 use Rattle.parser.specs.declared.Parse.the-variants.{Accepted, Refused as Unparsed}
@@ -18,6 +19,11 @@ use Rattle.grammar.specs.Plan.{planned}
 use Rattle.preparer.specs.declared.Prepared.{Prepared}
 use Rattle.preparer.specs.declared.Prepared.the-variants.{Rows, Refused as Unprepared}
 use Rattle.rules.specs.Calls.{grammarLines, conditionLines}
+
+-- every token exists, whatever the names are: 7 to 9 do not ask for them
+pub record There (items literals tokens : List ℕ) : Type 0 where
+  pub names : List ℕ
+  pub exist : tokenCheck (lendNames items literals [] names) tokens ≡ Sound
 
 -- 7, of what was parsed
 abbrev pub parseCheck : Parse → Check
@@ -45,6 +51,6 @@ Readies check reading (Rows count) after = (check ≡ Sound) × Stands reading c
 pub record Resolves (lent : Lent) (tokens : List ℕ) (r : Prepared) (after : List ℕ) : Type 0 where
   pub readied : Readies (firstOf (grammarLines lent tokens)) (read tokens) r after
 
--- 1 to 9
+-- 1 to 9 and 18
 pub record Prepares (lent : Lent) (tokens : List ℕ) (r : Prepared) (after : List ℕ) : Type 0 where
   pub readied : Readies (firstOf (conditionLines lent tokens)) (read tokens) r after

@@ -1,19 +1,18 @@
-// Refusals 1 to 9 in order, and the rows of a condition that none of them refuses.
+// Refusals 1 to 9 and 18 in order, and the rows of a condition that none of them refuses.
 ghost use mathlib.Core.Path.{_≡_};
 ghost use mathlib.Core.List.{[]};
 ghost use Prim.Native.Nat.{_≤_};
 ghost use lib.ListN.{length};
-ghost use Rattle.tables.specs.declared.Check.the-variants.{Sound};
-ghost use Rattle.tables.specs.Operands.{lend};
+ghost use Rattle.tables.specs.Operands.{lend, lendNames};
 ghost use Rattle.tables.specs.Refusals.{firstOf};
-ghost use Rattle.tables.specs.Tables.{tokenCheck};
 ghost use Rattle.grammar.specs.Depth.{depthCheck};
 ghost use Rattle.rules.specs.Calls.{earlier, tokenLines};
-ghost use Rattle.preparer.specs.Prepared.{parseCheck, parsedTokens, Resolves, Prepares};
+ghost use Rattle.preparer.specs.Prepared.{parseCheck, parsedTokens, There, Resolves, Prepares};
 use crate::Prepared;
 use checks::lent::check_tables;
 use checks::tokens::check_token_count;
 use checks::tokens::check_tokens;
+use names::table::check_names;
 use parser::Parse;
 use parser::cycle::parse;
 use plans::checks::check_typing;
@@ -22,19 +21,23 @@ use tables::Check;
 use tables::Refusal;
 use tables::refusals::place_of;
 
-// 1 to 6.
-fn check_lent(items: &[u32], literals: &[u32], bytes: &[u8], tokens: &[u32]) -> Check
-    ensures { λ r. ⌜ r ≡ firstOf (tokenLines (lend (now (items .entry)) (now (literals .entry)) (now (bytes .entry))) (now (tokens .entry))) ⌝ }
+// 1 to 6, and 18 just after 4.
+fn check_lent(items: &[u32], literals: &[u32], bytes: &[u8], names: &[u32], tokens: &[u32]) -> Check
+    ensures { λ r. ⌜ r ≡ firstOf (tokenLines (lendNames (now (items .entry)) (now (literals .entry)) (now (bytes .entry)) (now (names .entry))) (now (tokens .entry))) ⌝ }
 {
     let tables = check_tables(items, literals, bytes);
     if let Check::Refused(refusal) = tables {
+        return Check::Refused(refusal);
+    }
+    let named = check_names(items, literals, bytes, names);
+    if let Check::Refused(refusal) = named {
         return Check::Refused(refusal);
     }
     let count = check_token_count(tokens);
     if let Check::Refused(refusal) = count {
         return Check::Refused(refusal);
     }
-    check_tokens(items, literals, tokens)
+    check_tokens(items, literals, names, tokens)
 }
 
 // Of 7 and 8 the one at the smaller place, and 7 on a tie.
@@ -68,9 +71,9 @@ fn parsed_tokens(tokens: &[u32], depth: Check) -> usize
     }
 }
 
-// 7 to 9, of tokens that 1 to 6 do not refuse.
+// 7 to 9, of tokens that 1 to 6 do not refuse: the names do not matter any more.
 fn resolve(items: &[u32], literals: &[u32], tokens: &[u32], rows: &mut [u32]) -> Prepared
-    requires { ⌜ (length (now tokens) ≤ 256) × (tokenCheck (lend (now items) (now literals) []) (now tokens) ≡ Sound) × (640 ≤ length (now rows)) ⌝ }
+    requires { ⌜ (length (now tokens) ≤ 256) × There (now items) (now literals) (now tokens) × (640 ≤ length (now rows)) ⌝ }
     ensures { λ r. ⌜ Resolves (lend (now (items .entry)) (now (literals .entry)) []) (now (tokens .entry)) r (now (rows .exit)) ⌝ }
 {
     let depth = check_depth(tokens);
@@ -92,18 +95,19 @@ fn resolve(items: &[u32], literals: &[u32], tokens: &[u32], rows: &mut [u32]) ->
     }
 }
 
-// 1 to 9.
+// 1 to 9 and 18.
 pub fn prepare(
     items: &[u32],
     literals: &[u32],
     bytes: &[u8],
+    names: &[u32],
     tokens: &[u32],
     rows: &mut [u32],
 ) -> Prepared
     requires { ⌜ 640 ≤ length (now rows) ⌝ }
-    ensures { λ r. ⌜ Prepares (lend (now (items .entry)) (now (literals .entry)) (now (bytes .entry))) (now (tokens .entry)) r (now (rows .exit)) ⌝ }
+    ensures { λ r. ⌜ Prepares (lendNames (now (items .entry)) (now (literals .entry)) (now (bytes .entry)) (now (names .entry))) (now (tokens .entry)) r (now (rows .exit)) ⌝ }
 {
-    let lent = check_lent(items, literals, bytes, tokens);
+    let lent = check_lent(items, literals, bytes, names, tokens);
     match lent {
         Check::Refused(refusal) => Prepared::Refused(refusal),
         Check::Sound => resolve(items, literals, tokens, rows),

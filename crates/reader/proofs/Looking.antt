@@ -30,7 +30,7 @@ module _ (tokens : List ℕ) (at : ℕ) {x : ℕ} (e : x ≡ tok tokens at) wher
   inside l = elim (decLe (length tokens) at) [ yes h ↦ absurd (omega (arith, past h)) | no h ↦ omega arith ]
 
   pub stands : {k : Class} → Is k x → Differ k other → at < length tokens
-  stands i d = elim (decLe (length tokens) at) [ yes h ↦ absurd (apart i d (is-other x (omega (arith, past h)))) | no h ↦ omega arith ]
+  stands i d = elim (decLe (length tokens) at) [ yes h ↦ absurd (apart i d (is-other x (omega (arith, past h)) (λ q. omega (arith, past h)))) | no h ↦ omega arith ]
 
   pub from-here : at < length tokens → drop at tokens ≡ x ∷ drop (at + 1) tokens
   unfolding tok

@@ -12,11 +12,11 @@ use Rattle.typing.specs.Tests.{within}
 use Rattle.reader.specs.declared.Carried.{Carried}
 use Rattle.reader.specs.declared.Single.{Single}
 use Rattle.reader.specs.declared.Single.the-variants.{Row, Stuck}
-use Rattle.grammar.specs.Grammar.{operand, switch, not, order, bound, test, Is, Carry, nothing, carried, simple}
+use Rattle.grammar.specs.Grammar.{operand, switch, not, order, bound, test, name, Is, Carry, nothing, carried, simple}
 use Rattle.grammar.specs.Parser.{Parser, parsed, stuck, object, alone, short-bounded, short-ordered, after-operand, parse-simple}
 use Rattle.reader.specs.Reads.{tok, carryOf, Reads}
-use Rattle.grammar.proofs.Spelling.{operand-token, switch-token, not-token, order-token, bound-token, test-token}
-use Rattle.grammar.proofs.Spelling.{is-operand, is-switch, is-not, is-order, is-bound, is-test}
+use Rattle.grammar.proofs.Spelling.{operand-token, switch-token, not-token, order-token, bound-token, test-token, name-token}
+use Rattle.grammar.proofs.Spelling.{is-operand, is-switch, is-not, is-order, is-bound, is-test, is-name}
 use Rattle.reader.proofs.Looking.{inside, look, pass-on}
 
 -- two flags
@@ -166,12 +166,16 @@ module _ (tokens : List ℕ) (at : ℕ) {x : ℕ} (e : x ≡ tok tokens at) wher
   pub at-switch : (c : Carry) → 131072 ≤ x → x < 262144 → parse-simple c (drop at tokens) ≡ parsed (simple x 0 0) nothing (drop (at + 1) tokens)
   at-switch c l h = simp (look tokens at e (is-switch x l h) tt)
 
-  module _ (c : Carried) (l : 262144 ≤ x) where
+  pub at-name : (c : Carry) → 327680 ≤ x → x ≤ 393215 → parse-simple c (drop at tokens) ≡ parsed (simple x 0 0) nothing (drop (at + 1) tokens)
+  at-name c l h = simp (look tokens at e (is-name x l (omega arith)) tt)
+
+  module _ (c : Carried) (l : 262144 ≤ x) (unnamed : 327680 ≤ x → 393215 < x) where
     at-word : parse-simple (carryOf c) (drop at tokens) ≡ short-bounded (carryOf c) (drop at tokens)
     at-word =
         rw (
           pass-on tokens at e {k = operand} (λ i. let h = operand-token x i in omega arith),
           pass-on tokens at e {k = switch} (λ i. let h = switch-token x i in omega arith),
+          pass-on tokens at e {k = name} (λ i. let h = name-token x i in omega (arith, unnamed (h .0))),
         )
 
     pub at-bound : (c .relation ≡ 0 → ⊥) → 262152 ≤ x → x ≤ 262153 →

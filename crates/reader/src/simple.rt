@@ -2,6 +2,7 @@
 ghost use mathlib.Core.Path.{_≡_};
 ghost use Prim.Native.Nat.{_+_, _≤_, _<_};
 ghost use lib.ListN.{length};
+ghost use Rattle.typing.specs.Tests.{within};
 ghost use Rattle.grammar.specs.Parser.{object, after-operand, parse-simple};
 ghost use Rattle.reader.specs.Reads.{carryOf, Reads};
 use crate::Carried;
@@ -30,7 +31,7 @@ pub fn read_object(tokens: &[u32], at: usize, subject: u32, relation: u32) -> Si
     Single::Stuck(at)
 }
 
-// A class or sign word has been read: it drops the carry.
+// A class or sign word, a switch or a condition-name has been read: it drops the carry.
 fn tested(subject: u32, relation: u32, next: usize) -> Single
     ensures { λ r. ⌜ r ≡ Single.Row subject relation 0 next (record { subject = 0; relation = 0 }) ⌝ }
 {
@@ -81,6 +82,13 @@ fn after_operand(tokens: &[u32], at: usize, carry: Carried, operand: u32) -> Sin
     }
 }
 
+// A condition-name, token kind 5.
+fn is_name(token: u32) -> bool
+    ensures { λ r. ⌜ r ≡ within 327680 393215 token ⌝ }
+{
+    (327680 <= token) & (token <= 393215)
+}
+
 // A simple condition, but for one that begins with > < = or with NOT before these.
 pub fn read_simple(tokens: &[u32], at: usize, carry: Carried) -> Single
     requires { ⌜ at ≤ length (now tokens) ⌝ }
@@ -91,6 +99,9 @@ pub fn read_simple(tokens: &[u32], at: usize, carry: Carried) -> Single
         return after_operand(tokens, at + 1, carry, token);
     }
     if token < 262144 {
+        return tested(token, 0, at + 1);
+    }
+    if is_name(token) {
         return tested(token, 0, at + 1);
     }
     let relation = carry.relation;

@@ -13,7 +13,8 @@ use Rattle.tables.specs.declared.Written.the-variants.{Refused as Unwritten}
 use Rattle.tables.specs.declared.Verdict.the-variants.{Refused as Unjudged}
 use Rattle.tables.specs.Operands.{Lent}
 use Rattle.tables.specs.Refusals.{firstOf}
-use Rattle.tables.specs.Tables.{tableLines, recordCheck}
+use Rattle.tables.specs.Tables.{recordCheck}
+use Rattle.values.specs.Names.{lentLines}
 use Rattle.tables.proofs.Lines.{line-sound, line-refused, line-last, lines-before}
 use Rattle.values.specs.Truth.{outcome}
 use Rattle.grammar.specs.Grammar.{Tree}
@@ -80,15 +81,15 @@ module _ (lent : Lent) (plan content : List ℕ) (switches : ℕ) where
   abbrev others : List Check
   others = planCheck lent plan ∷ recordCheck lent content ∷ []
 
-  pub tables-refuse : {refusal : Refusal} → firstOf (tableLines lent) ≡ Refused refusal → walk (Unjudged refusal) [] ≡ runWalk lent plan content switches
+  pub tables-refuse : {refusal : Refusal} → firstOf (lentLines lent) ≡ Refused refusal → walk (Unjudged refusal) [] ≡ runWalk lent plan content switches
   unfolding runWalk
-  tables-refuse e = rw (lines-before (tableLines lent) others, line-refused others e)
+  tables-refuse e = rw (lines-before (lentLines lent) others, line-refused others e)
 
-  pub after-tables : firstOf (tableLines lent) ≡ Sound → runWalk lent plan content switches ≡ answers (firstOf others) (running (outcome lent content switches) plan)
+  pub after-tables : firstOf (lentLines lent) ≡ Sound → runWalk lent plan content switches ≡ answers (firstOf others) (running (outcome lent content switches) plan)
   unfolding runWalk
-  after-tables t = rw (after-lines (tableLines lent) others t)
+  after-tables t = rw (after-lines (lentLines lent) others t)
 
-  pub after-plan : firstOf (tableLines lent) ≡ Sound → planCheck lent plan ≡ Sound →
+  pub after-plan : firstOf (lentLines lent) ≡ Sound → planCheck lent plan ≡ Sound →
       runWalk lent plan content switches ≡ answers (recordCheck lent content) (running (outcome lent content switches) plan)
   after-plan t e = after-tables t ∙ rw (line-sound (recordCheck lent content ∷ []) e, line-last)
 
@@ -100,7 +101,7 @@ answers-few (Refused refusal) w n h = omega arith
 pub run-few : (lent : Lent) (plan content : List ℕ) (switches : ℕ) → runGives lent plan content switches .count ≤ planRows plan
 unfolding runWalk
 run-few lent plan content switches =
-    answers-few (firstOf (tableLines lent ++ planCheck lent plan ∷ recordCheck lent content ∷ [])) (running (outcome lent content switches) plan) (planRows plan)
+    answers-few (firstOf (lentLines lent ++ planCheck lent plan ∷ recordCheck lent content ∷ [])) (running (outcome lent content switches) plan) (planRows plan)
     (run-count (outcome lent content switches) plan)
 
 pub runs-as : {lent : Lent} {tokens : List ℕ} {t : Tree} → Passes lent tokens t → (content : List ℕ) (switches : ℕ) →

@@ -11,13 +11,14 @@ use Rattle.tables.specs.declared.Check.{Check}
 use Rattle.tables.specs.declared.Check.the-variants.{Sound, Refused}
 use Rattle.tables.specs.declared.Verdict.the-variants.{True, False, Refused as Stopped}
 use Rattle.tables.specs.declared.Written.the-variants.{Count}
-use Rattle.tables.specs.Tokens.{isOff}
-use Rattle.tables.specs.Operands.{Lent, under, operandSound, switchSound}
+use Rattle.tables.specs.Tokens.{isOff, isName}
+use Rattle.tables.specs.Operands.{Lent, under, operandSound, aloneSound}
 use Rattle.tables.specs.Refusals.{firstOf}
-use Rattle.tables.specs.Tables.{tableLines, tokenCountCheck, tokenCheck, recordCheck}
+use Rattle.tables.specs.Tables.{tokenCountCheck, tokenCheck, recordCheck}
+use Rattle.values.specs.Names.{lentLines}
 use Rattle.tables.proofs.Lines.{test-sound, line-sound, line-last, lines-sound}
 use Rattle.typing.specs.declared.Test.{Test}
-use Rattle.typing.specs.declared.Test.the-variants.{Switch, Relation, Class, Sign, Unknown}
+use Rattle.typing.specs.declared.Test.the-variants.{Alone, Relation, Class, Sign, Unknown}
 use Rattle.typing.specs.Tests.{testOf}
 use Rattle.typing.specs.Shape.{shapeSound}
 use Rattle.typing.specs.Typing.{typed}
@@ -69,7 +70,12 @@ module _ (lent : Lent) (content : List ℕ) (switches : ℕ) where
 
   opposite : (shapes : Lent) (a r b : ℕ) → shapeSound shapes (testOf r) a b ≡ true → Opposite (outcome lent content switches) a r b
   unfolding outcome
-  opposite shapes a r b h e n = rw (off-switch shapes r a b h e) (switch-opposite a n e)
+  opposite shapes a r b h e n =
+      let k : a / 65536 ≡ 3 = eqb-true (a / 65536) 3 e in
+      let q : (a - 65536) / 65536 ≡ 2 = omega arith in
+      let here : isName a ≡ false = rw k in
+      let there : isName (onToken a) ≡ false = rw q in
+      rw (off-switch shapes r a b h e, here, there) (switch-opposite a n e)
 
   opposite-tree : (shapes : Lent) (t : Tree) → ShapedTree shapes t → Each (Opposite (outcome lent content switches)) t
   opposite-tree shapes (simple a r b) h = opposite shapes a r b h
@@ -120,7 +126,7 @@ module _ (lent : Lent) {tokens : List ℕ} {t : Tree} (p : Passes (under true le
       let h = converted-derives (p .accepts .derives) in
       record {
         token-lines =
-            after-lines (tableLines (under false lent)) (tokenCountCheck (convertedTokens tokens) ∷ tokenCheck (under false lent) (convertedTokens tokens) ∷ []) (tables-pass p)
+            after-lines (lentLines (under false lent)) (tokenCountCheck (convertedTokens tokens) ∷ tokenCheck (under false lent) (convertedTokens tokens) ∷ []) (tables-pass p)
             ∙ rw (
               le-leb 1 (length (convertedTokens tokens)) (omega (arith, rows-bound h, some-leaf (convertedTree t))),
               le-leb (length (convertedTokens tokens)) 256 l,
@@ -174,7 +180,7 @@ module _ (lent : Lent) {tokens : List ℕ} {t : Tree} (p : Passes (under true le
       rw (
         room-left q planned other,
         read-as q,
-        after-lines (tableLines (under true lent)) (planCheck (under true lent) (planned t) ∷ rest) (tables-pass p),
+        after-lines (lentLines (under true lent)) (planCheck (under true lent) (planned t) ∷ rest) (tables-pass p),
         line-sound rest (plan-passes p),
         line-last,
         converted-planned t,
@@ -217,11 +223,11 @@ retired-words lent x e =
     no-operand : operandSound (under false lent) x ≡ false
     no-operand = rw (eqb-true (x / 65536) 3 e)
 
-    no-switch : switchSound (under false lent) x ≡ false
+    no-switch : aloneSound (under false lent) x ≡ false
     no-switch = rw (eqb-true (x / 65536) 3 e)
 
     go : (test : Test) (b : ℕ) → shapeSound (under false lent) test x b ≡ false
-    go Switch b = rw no-switch
+    go Alone b = rw no-switch
     go (Relation word flag) b = rw no-operand
     go (Class word flag) b = rw no-operand
     go (Sign word flag) b = rw no-operand
@@ -250,7 +256,7 @@ module _ (lent : Lent) (plan : List ℕ) (s : planCheck (under true lent) plan �
         (planRows plan) (omega (arith, some-rows (under true lent) plan s)) in
         rw (outcome-rules lent content switches, converted-count plan) (ap₂ walk (r .0) (r .1))
 
-    plan-walk : firstOf (tableLines (under true lent)) ≡ Sound → runWalk (under false lent) (convertedPlan plan) content switches
+    plan-walk : firstOf (lentLines (under true lent)) ≡ Sound → runWalk (under false lent) (convertedPlan plan) content switches
         ≡ walk (runWalk (under true lent) plan content switches .verdict) (onVisits (runWalk (under true lent) plan content switches .visits))
     plan-walk h =
         after-plan (under false lent) (convertedPlan plan) content switches h (converted-plan-sound lent plan s)
@@ -258,7 +264,7 @@ module _ (lent : Lent) (plan : List ℕ) (s : planCheck (under true lent) plan �
         ∙ answers-on (recordCheck lent content) (running (outcome (under true lent) content switches) plan)
         ∙ ap (λ w. walk (w .verdict) (onVisits (w .visits))) (sym (after-plan (under true lent) plan content switches h s))
 
-  run-means : firstOf (tableLines (under true lent)) ≡ Sound → ConvertedRun lent plan (convertedPlan plan)
+  run-means : firstOf (lentLines (under true lent)) ≡ Sound → ConvertedRun lent plan (convertedPlan plan)
   run-means h =
       record {
         numbers-are = refl;
@@ -270,5 +276,5 @@ pub plans-convert : PlansConvert
 unfolding convertPlanGives
 plans-convert lent plan output n e =
     let (s, f) = written-count (convertedPlan plan) output _ n e in
-    let (c, g) = both-sound (tableLines (under true lent)) (planCheck (under true lent) plan ∷ roomCheck (convertedPlan plan) output ∷ []) s in
+    let (c, g) = both-sound (lentLines (under true lent)) (planCheck (under true lent) plan ∷ roomCheck (convertedPlan plan) output ∷ []) s in
     rw f (run-means lent plan (lines-sound (planCheck (under true lent) plan ∷ roomCheck (convertedPlan plan) output ∷ []) g .0) c)

@@ -11,3 +11,4 @@ pub mod Footprint
 pub mod Converting
 pub mod Samples
 pub mod Seven
+pub mod Names

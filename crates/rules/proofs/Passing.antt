@@ -13,7 +13,8 @@ use Rattle.tables.specs.declared.Check.{Check}
 use Rattle.tables.specs.declared.Check.the-variants.{Sound, Refused}
 use Rattle.tables.specs.Operands.{Lent}
 use Rattle.tables.specs.Refusals.{number, place, unless, firstOf}
-use Rattle.tables.specs.Tables.{tableLines, tokenCountCheck, tokenCheck}
+use Rattle.tables.specs.Tables.{tokenCountCheck, tokenCheck}
+use Rattle.values.specs.Names.{lentLines}
 use Rattle.typing.specs.Typing.{typed}
 use Rattle.tables.proofs.Tests.{both as both-true}
 use Rattle.tables.proofs.Lines.{test-sound, line-sound, line-refused, lines-before, AllSound, lines-sound}
@@ -95,11 +96,11 @@ module _ {lent : Lent} {tokens : List ℕ} {t : Tree} (p : Passes lent tokens t)
       after-lines (tokenLines lent tokens) (grammarLines lent tokens) (p .token-lines)
       ∙ rw (read-as, p .shallow, typing-passes lent 0 t (p .accepts .typed))
 
-  pub tables-pass : firstOf (tableLines lent) ≡ Sound
-  tables-pass = both-sound (tableLines lent) (tokenCountCheck tokens ∷ tokenCheck lent tokens ∷ []) (p .token-lines) .0
+  pub tables-pass : firstOf (lentLines lent) ≡ Sound
+  tables-pass = both-sound (lentLines lent) (tokenCountCheck tokens ∷ tokenCheck lent tokens ∷ []) (p .token-lines) .0
 
   tokens-pass : AllSound (tokenCountCheck tokens ∷ tokenCheck lent tokens ∷ [])
-  tokens-pass = lines-sound _ (both-sound (tableLines lent) (tokenCountCheck tokens ∷ tokenCheck lent tokens ∷ []) (p .token-lines) .1)
+  tokens-pass = lines-sound _ (both-sound (lentLines lent) (tokenCountCheck tokens ∷ tokenCheck lent tokens ∷ []) (p .token-lines) .1)
 
   pub few-tokens : length tokens ≤ 256
   few-tokens = leb-true _ _ (both-true (leb 1 (length tokens)) _ (test-sound _ TokenCount (tokens-pass .0)) .1)
@@ -114,7 +115,7 @@ module _ {lent : Lent} {tokens : List ℕ} {t : Tree} (p : Passes lent tokens t)
       let h = p .accepts .derives in
       record {
         token-lines =
-            after-lines (tableLines lent) (tokenCountCheck (expanded t) ∷ tokenCheck lent (expanded t) ∷ []) tables-pass
+            after-lines (lentLines lent) (tokenCountCheck (expanded t) ∷ tokenCheck lent (expanded t) ∷ []) tables-pass
             ∙ rw (le-leb 1 (length (expanded t)) (expanded-some h), le-leb (length (expanded t)) 256 l, expanded-tokens lent h tokens-exist);
         shallow = expanded-depth lent h tokens-exist (p .shallow);
         accepts = record { derives = rederives h; typed = p .accepts .typed };

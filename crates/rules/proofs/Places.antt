@@ -9,7 +9,7 @@ use lib.ListN.{length}
 use lib.Dec.{leb, eqb}
 use borrow.Author.Tests.{leb-true}
 use Rattle.tables.specs.declared.Refusal.{Refusal}
-use Rattle.tables.specs.declared.Refusal.the-variants.{ItemTable, ItemRow, LiteralTable, LiteralRow, TokenCount, Token, Grammar, Depth, Typing, Room, PlanRow as PlanFault, Record}
+use Rattle.tables.specs.declared.Refusal.the-variants.{ItemTable, ItemRow, LiteralTable, LiteralRow, TokenCount, Token, Grammar, Depth, Typing, Room, PlanRow as PlanFault, Record, Name}
 use Rattle.tables.specs.declared.Check.{Check}
 use Rattle.tables.specs.declared.Check.the-variants.{Sound, Refused}
 use Rattle.tables.specs.declared.Written.{Written}
@@ -19,10 +19,12 @@ use Rattle.tables.specs.declared.Outcome.the-variants.{True as Holds, False as 
 use Rattle.tables.specs.declared.Stop.the-variants.{Digits, Letters}
 use Rattle.tables.specs.declared.Verdict.{Verdict}
 use Rattle.tables.specs.declared.Verdict.the-variants.{True, False, Refused as Unjudged}
-use Rattle.tables.specs.Rows.{rowCount}
+use Rattle.tables.specs.Rows.{rowCount, nameCount}
 use Rattle.tables.specs.Operands.{Lent}
 use Rattle.tables.specs.Refusals.{place, byteOf, unless, firstFailing, firstOf}
-use Rattle.tables.specs.Tables.{lengthSound, itemTableCheck, itemRowCheck, literalTableCheck, literalRowCheck, tableLines, tokenCountCheck, tokenCheck, recordCheck}
+use Rattle.tables.specs.Tables.{lengthSound, itemTableCheck, itemRowCheck, literalTableCheck, literalRowCheck, tokenCountCheck, tokenCheck, recordCheck}
+use Rattle.values.specs.Names.{nameCheck, lentLines}
+use Rattle.tables.specs.Names.{namesLengthSound}
 use Rattle.tables.proofs.Tests.{both}
 use Rattle.tables.proofs.Lines.{test-sound, line-last, lines-sound}
 use Rattle.typing.specs.Typing.{typed}
@@ -79,8 +81,16 @@ few-of table refusal e =
     let l : length table ≤ 320 = leb-true _ _ (both (eqb (length table % 5) 0) (leb (length table) 320) (test-sound _ refusal e) .1) in
     omega arith
 
--- 1 to 4, and lines after them
-low-tables : (lent : Lent) (others : List Check) → (rowCount (lent .items) ≤ 64 → Low (firstOf others)) → Low (firstOf (tableLines lent ++ others))
+-- 18
+low-names : (lent : Lent) → Low (nameCheck lent)
+low-names lent =
+    low-first (unless (namesLengthSound (lent .names)) (Name 0)) _ (low-unless (namesLengthSound (lent .names)) (Name 0) (omega arith, refl)) (λ e.
+    let l : length (lent .names) ≤ 1152 =
+    leb-true _ _ (both (eqb (length (lent .names) % 18) 0) (leb (length (lent .names)) 1152) (test-sound _ (Name 0) e) .1) in
+    low-last _ (low-failing _ Name (λ k. (refl, refl)) 0 (nameCount (lent .names)) (omega arith)))
+
+-- 1 to 4, 18, and lines after them
+low-tables : (lent : Lent) (others : List Check) → (rowCount (lent .items) ≤ 64 → Low (firstOf others)) → Low (firstOf (lentLines lent ++ others))
 low-tables lent others h =
     low-first (itemTableCheck lent) _ (low-unless (lengthSound (lent .items)) ItemTable (omega arith, refl)) (λ one.
     let few = few-of (lent .items) ItemTable one in
@@ -88,7 +98,7 @@ low-tables lent others h =
     low-first (literalTableCheck lent) _ (low-unless (lengthSound (lent .literals)) LiteralTable (omega arith, refl)) (λ three.
     low-first (literalRowCheck lent) _
     (low-failing _ LiteralRow (λ k. (refl, refl)) 0 (rowCount (lent .literals)) (omega (arith, few-of (lent .literals) LiteralTable three)))
-    (λ four. h few))))
+    (λ four. low-first (nameCheck lent) _ (low-names lent) (λ five. h few)))))
 
 low-record : (lent : Lent) (content : List ℕ) → rowCount (lent .items) ≤ 64 → Low (recordCheck lent content)
 low-record lent content few = low-failing _ Record (λ k. (refl, refl)) 0 (rowCount (lent .items)) (omega arith)
@@ -218,9 +228,9 @@ judge-few lent tokens content switches =
 run-few : (lent : Lent) (plan content : List ℕ) (switches : ℕ) → runGives lent plan content switches .count ≤ 128
 unfolding runWalk
 run-few lent plan content switches =
-    few-answers (firstOf (tableLines lent ++ planCheck lent plan ∷ recordCheck lent content ∷ [])) (running (outcome lent content switches) plan)
+    few-answers (firstOf (lentLines lent ++ planCheck lent plan ∷ recordCheck lent content ∷ [])) (running (outcome lent content switches) plan)
     (λ e.
-    let s = lines-sound _ (both-sound (tableLines lent) (planCheck lent plan ∷ recordCheck lent content ∷ []) e .1) .0 in
+    let s = lines-sound _ (both-sound (lentLines lent) (planCheck lent plan ∷ recordCheck lent content ∷ []) e .1) .0 in
     omega (arith, run-count (outcome lent content switches) plan, some-rows lent plan s))
 
 -- a run of a sound plan comes to its rows only
@@ -271,7 +281,7 @@ run-modest lent plan content switches =
     modest-answers _ (running (outcome lent content switches) plan)
     (low-tables lent _ (λ few. low-first (planCheck lent plan) _ (low-plan lent plan) (λ s. low-last _ (low-record lent content few))))
     (λ e.
-    let (tables, others) = both-sound (tableLines lent) (planCheck lent plan ∷ recordCheck lent content ∷ []) e in
+    let (tables, others) = both-sound (lentLines lent) (planCheck lent plan ∷ recordCheck lent content ∷ []) e in
     let l = lines-sound _ others in
     modest-follow lent plan (l .0) (outcome lent content switches)
     (λ k h. let r = sure lent plan (l .0) k h in

@@ -1,9 +1,10 @@
--- Worked examples of document 02, b), c), f), g), i), l), n), by computation.
+-- Worked examples of document 02, b), c), f), g), h), i), l), n), by computation.
 use mathlib.Core.Path.{_≡_, refl}
-use mathlib.Core.List.{List, [], _∷_}
+use mathlib.Core.List.{List, [], _∷_, _++_}
 use Prim.Native.Nat.{ℕ}
 use mathlib.Core.Bool.{true, false}
-use Rattle.tables.specs.declared.Refusal.the-variants.{ItemRow, Record, Token, Typing, PlanRow as PlanFault, Data, Letters}
+use Rattle.tables.specs.declared.Refusal.the-variants.{ItemRow, Record, Token, Grammar, Typing, PlanRow as PlanFault, Data, Letters, Name}
+use Rattle.tables.specs.declared.Check.the-variants.{Sound, Refused as Unsound}
 use Rattle.tables.specs.declared.Verdict.the-variants.{True, False, Refused}
 use Rattle.tables.specs.Operands.{Lent, under}
 use lib.IntN.{negsuc}
@@ -16,6 +17,7 @@ use Rattle.compare.specs.Compared.{byteOrder}
 use Rattle.values.specs.Comparison.{sideOf, valueOf, comparison}
 use Rattle.compare.specs.Classes.{classHolds}
 use Rattle.compare.specs.Switches.{switchHolds}
+use Rattle.values.specs.Names.{every, some, nameCheck}
 use Rattle.values.specs.Truth.{outcome}
 use Rattle.grammar.specs.Grammar.{class}
 use Rattle.grammar.specs.Parser.{on, parse-condition, read}
@@ -29,7 +31,7 @@ use Rattle.rules.specs.Footprint.{itemsAmong, footprint}
 
 -- four items of kind 3, one digit each: a, b, c, d are 0 to 3; of the record, c is blank
 abbrev digits : Lent
-digits = record { off = false; items = 3 ∷ 0 ∷ 1 ∷ 0 ∷ 1 ∷ 3 ∷ 1 ∷ 1 ∷ 0 ∷ 1 ∷ 3 ∷ 2 ∷ 1 ∷ 0 ∷ 1 ∷ 3 ∷ 3 ∷ 1 ∷ 0 ∷ 1 ∷ []; literals = []; bytes = [] }
+digits = record { off = false; items = 3 ∷ 0 ∷ 1 ∷ 0 ∷ 1 ∷ 3 ∷ 1 ∷ 1 ∷ 0 ∷ 1 ∷ 3 ∷ 2 ∷ 1 ∷ 0 ∷ 1 ∷ 3 ∷ 3 ∷ 1 ∷ 0 ∷ 1 ∷ []; literals = []; bytes = []; names = [] }
 
 abbrev c-blank : List ℕ
 c-blank = 0x31 ∷ 0x31 ∷ 0x20 ∷ 0x31 ∷ []
@@ -54,9 +56,9 @@ unfolding all numberFrom firstFrom validContent firstFailing firstOf typed byteO
 counts = (refl, refl, refl, refl, refl, refl)
 
 -- n): what those look at: items 0 and 1; items 2 and 3; item 2, and not item 0, although the row has 0 for its object
-looks : (footprint (judgeWalk digits one-of-two c-blank 0 .visits) ≡ 0 ∷ 1 ∷ [])
-    × (footprint (judgeWalk digits exchanged c-blank 0 .visits) ≡ 2 ∷ 3 ∷ [])
-    × (footprint (judgeWalk digits blank-not-read c-blank 0 .visits) ≡ 2 ∷ [])
+looks : (footprint digits (judgeWalk digits one-of-two c-blank 0 .visits) ≡ 0 ∷ 1 ∷ [])
+    × (footprint digits (judgeWalk digits exchanged c-blank 0 .visits) ≡ 2 ∷ 3 ∷ [])
+    × (footprint digits (judgeWalk digits blank-not-read c-blank 0 .visits) ≡ 2 ∷ [])
 unfolding all numberFrom firstFrom validContent firstFailing firstOf typed byteOrder comparison classHolds switchHolds outcome class on parse-condition read depthFrom typingFrom leaves when at judged visited judgeWalk itemsAmong footprint
 looks = (refl, refl, refl)
 
@@ -90,6 +92,7 @@ counters =
       items = 3 ∷ 2 ∷ 3 ∷ 0 ∷ 3 ∷ 4 ∷ 5 ∷ 3 ∷ 0 ∷ 3 ∷ 5 ∷ 8 ∷ 3 ∷ 0 ∷ 2 ∷ 6 ∷ 11 ∷ 3 ∷ 0 ∷ 2 ∷ 2 ∷ 0 ∷ 2 ∷ 0 ∷ 0 ∷ 0 ∷ 0 ∷ 2 ∷ 0 ∷ 0 ∷ [];
       literals = [];
       bytes = [];
+      names = [];
     }
 
 -- blank 1 blank; 1 2 and a last byte of left half 2; a sign that is blank; 1 2 and no sign
@@ -119,6 +122,7 @@ fields =
       items = 1 ∷ 0 ∷ 3 ∷ 0 ∷ 0 ∷ 2 ∷ 3 ∷ 3 ∷ 0 ∷ 0 ∷ 0 ∷ 0 ∷ 6 ∷ 0 ∷ 0 ∷ 4 ∷ 6 ∷ 3 ∷ 0 ∷ 3 ∷ 1 ∷ 9 ∷ 2 ∷ 0 ∷ 0 ∷ [];
       literals = [];
       bytes = [];
+      names = [];
     }
 
 abbrev typed-in : List ℕ
@@ -146,6 +150,7 @@ groups =
       items = 7 ∷ 0 ∷ 4 ∷ 0 ∷ 0 ∷ 0 ∷ 0 ∷ 4 ∷ 0 ∷ 0 ∷ 2 ∷ 0 ∷ 4 ∷ 0 ∷ 0 ∷ 3 ∷ 4 ∷ 2 ∷ 0 ∷ 2 ∷ 1 ∷ 6 ∷ 2 ∷ 0 ∷ 0 ∷ 7 ∷ 4 ∷ 4 ∷ 0 ∷ 0 ∷ [];
       literals = [];
       bytes = [];
+      names = [];
     }
 
 abbrev counted : List ℕ
@@ -163,7 +168,7 @@ counters-in-groups : (judgeGives groups (0 ∷ 262154 ∷ []) counted 0 ≡ reco
     × (judgeGives groups (0 ∷ 262150 ∷ 4 ∷ []) counted 0 ≡ record { verdict = True; count = 1 })
     × (judgeGives groups (3 ∷ 262150 ∷ 2 ∷ []) counted 0 ≡ record { verdict = Refused (Data 0 5); count = 1 })
     × (judgeGives groups (2 ∷ 262150 ∷ 4 ∷ []) counted 0 ≡ record { verdict = Refused (Letters 0 7); count = 1 })
-    × (judgeGives record { off = false; items = 10 ∷ 0 ∷ 4 ∷ 0 ∷ 0 ∷ []; literals = []; bytes = [] } (0 ∷ 262154 ∷ []) counted 0
+    × (judgeGives record { off = false; items = 10 ∷ 0 ∷ 4 ∷ 0 ∷ 0 ∷ []; literals = []; bytes = []; names = [] } (0 ∷ 262154 ∷ []) counted 0
     ≡ record { verdict = Refused (ItemRow 0); count = 0 })
 unfolding all numberFrom firstFrom validContent firstFailing firstOf typed byteOrder comparison classHolds switchHolds outcome class on parse-condition read depthFrom typingFrom leaves when at judged visited judgeWalk
 counters-in-groups = (refl, refl, refl, refl, refl, refl, refl, refl, refl, refl, refl)
@@ -178,6 +183,7 @@ amounts =
       items = 8 ∷ 0 ∷ 5 ∷ 3 ∷ 8 ∷ 8 ∷ 5 ∷ 2 ∷ 0 ∷ 3 ∷ 9 ∷ 5 ∷ 2 ∷ 0 ∷ 3 ∷ 8 ∷ 7 ∷ 2 ∷ 0 ∷ 2 ∷ 0 ∷ 7 ∷ 2 ∷ 0 ∷ 0 ∷ 9 ∷ 9 ∷ 1 ∷ 1 ∷ 1 ∷ [];
       literals = 5 ∷ 0 ∷ 3 ∷ 0 ∷ 2 ∷ 2 ∷ 1 ∷ 2 ∷ 0 ∷ 0 ∷ [];
       bytes = 0x2d ∷ 0x32 ∷ 0x33 ∷ [];
+      names = [];
     }
 
 -- −123 in bytes 5 and 6; a half 1 that leads two digits in byte 7; 0.5 in byte 9
@@ -197,3 +203,82 @@ packed-amounts : (valueOf (sideOf amounts ledger 0) ≡ negsuc 22999)
     × (judgeGives amounts (0 ∷ 262151 ∷ 65537 ∷ []) ledger 0 ≡ record { verdict = Refused (Typing 0); count = 0 })
 unfolding all numberFrom packedFrom firstFrom validContent firstFailing firstOf typed byteOrder comparison classHolds switchHolds outcome class on parse-condition read depthFrom typingFrom leaves when at judged visited judgeWalk
 packed-amounts = (refl, refl, refl, refl, refl, refl, refl, refl, refl)
+
+-- h): item 0 of kind 3, two digits; literals 5, 10, 30 of kind 3 and "30" of kind 2. Name 0 is 5 THRU 10; name 1 is 5, or 10 THRU 30.
+abbrev pairs : List ℕ
+pairs =
+    0 ∷ 1 ∷ 0 ∷ 1 ∷ 0 ∷ 0 ∷ 0 ∷ 0 ∷ 0 ∷ 0 ∷ 0 ∷ 0 ∷ 0 ∷ 0 ∷ 0 ∷ 0 ∷ 0 ∷ 0
+    ∷ 0 ∷ 2 ∷ 0 ∷ 0 ∷ 1 ∷ 2 ∷ 0 ∷ 0 ∷ 0 ∷ 0 ∷ 0 ∷ 0 ∷ 0 ∷ 0 ∷ 0 ∷ 0 ∷ 0 ∷ 0 ∷ []
+
+abbrev named : List ℕ → Lent
+named table =
+    record {
+      off = false;
+      items = 3 ∷ 0 ∷ 2 ∷ 0 ∷ 2 ∷ [];
+      literals = 3 ∷ 0 ∷ 1 ∷ 0 ∷ 1 ∷ 3 ∷ 1 ∷ 2 ∷ 0 ∷ 2 ∷ 3 ∷ 3 ∷ 2 ∷ 0 ∷ 2 ∷ 2 ∷ 3 ∷ 2 ∷ 0 ∷ 0 ∷ [];
+      bytes = 0x35 ∷ 0x31 ∷ 0x30 ∷ 0x33 ∷ 0x30 ∷ [];
+      names = table;
+    }
+
+-- 07 is in the first range and not in the second name; 05 equals its value; a blank is 13 at its byte, of a second condition by its number
+names : (judgeGives (named pairs) (327680 ∷ []) (0x30 ∷ 0x37 ∷ []) 0 ≡ record { verdict = True; count = 1 })
+    × (judgeGives (named pairs) (327681 ∷ []) (0x30 ∷ 0x37 ∷ []) 0 ≡ record { verdict = False; count = 1 })
+    × (judgeGives (named pairs) (262146 ∷ 327681 ∷ []) (0x30 ∷ 0x35 ∷ []) 0 ≡ record { verdict = False; count = 1 })
+    × (judgeGives (named pairs) (131072 ∷ 262148 ∷ 327680 ∷ []) (0x30 ∷ 0x20 ∷ []) 0 ≡ record { verdict = Refused (Data 1 1); count = 2 })
+    -- it drops the carry: item = 5 AND name OR 10 is refused with 7 after the object alone
+    × (judgeGives (named pairs) (0 ∷ 262151 ∷ 65536 ∷ 262147 ∷ 327680 ∷ 262148 ∷ 65537 ∷ []) (0x30 ∷ 0x37 ∷ []) 0 ≡ record { verdict = Refused (Grammar 7); count = 0 })
+    -- no such row
+    × (judgeGives (named pairs) (327682 ∷ []) (0x30 ∷ 0x37 ∷ []) 0 ≡ record { verdict = Refused (Token 0); count = 0 })
+    × (footprint (named pairs) (judgeWalk (named pairs) (327680 ∷ []) (0x30 ∷ 0x37 ∷ []) 0 .visits) ≡ 0 ∷ [])
+    × (runGives (named pairs) (327680 ∷ 0 ∷ 0 ∷ 65535 ∷ 65534 ∷ []) (0x30 ∷ 0x37 ∷ []) 0 ≡ record { verdict = True; count = 1 })
+    × (runGives (named pairs) (327680 ∷ 0 ∷ 1 ∷ 65535 ∷ 65534 ∷ []) (0x30 ∷ 0x37 ∷ []) 0 ≡ record { verdict = Refused (PlanFault 0); count = 0 })
+unfolding all numberFrom firstFrom validContent firstFailing firstOf every some typed byteOrder comparison classHolds switchHolds outcome class on parse-condition read depthFrom typingFrom leaves when at judged visited judgeWalk planRow planRowSound follow run reached runVisits runWalk itemsAmong footprint
+names = (refl, refl, refl, refl, refl, refl, refl, refl, refl)
+
+-- 18: an unfit length; low above high; a count of 0; one numeric end only; a number after the pairs; an item row that is not there
+abbrev zeros : List ℕ
+zeros = 0 ∷ 0 ∷ 0 ∷ 0 ∷ 0 ∷ 0 ∷ 0 ∷ 0 ∷ 0 ∷ 0 ∷ 0 ∷ 0 ∷ []
+
+unsound : (nameCheck (named (0 ∷ 1 ∷ [])) ≡ Unsound (Name 0))
+    × (nameCheck (named (pairs ++ 0 ∷ 1 ∷ 1 ∷ 0 ∷ 0 ∷ 0 ∷ zeros)) ≡ Unsound (Name 2))
+    × (nameCheck (named (pairs ++ 0 ∷ 0 ∷ 0 ∷ 0 ∷ 0 ∷ 0 ∷ zeros)) ≡ Unsound (Name 2))
+    × (nameCheck (named (pairs ++ 0 ∷ 1 ∷ 2 ∷ 3 ∷ 0 ∷ 0 ∷ zeros)) ≡ Unsound (Name 2))
+    × (nameCheck (named (pairs ++ 0 ∷ 1 ∷ 0 ∷ 1 ∷ 1 ∷ 0 ∷ zeros)) ≡ Unsound (Name 2))
+    × (nameCheck (named (pairs ++ 1 ∷ 1 ∷ 0 ∷ 1 ∷ 0 ∷ 0 ∷ zeros)) ≡ Unsound (Name 2))
+    × (nameCheck (named (pairs ++ 0 ∷ 1 ∷ 3 ∷ 3 ∷ 0 ∷ 0 ∷ zeros)) ≡ Sound)
+unfolding all numberFrom firstFailing firstOf every some byteOrder comparison
+unsound = (refl, refl, refl, refl, refl, refl, refl)
+
+-- a name of an owner of kind 1 whose value is AB: A 7 gives 17 at its byte, AB is true; 5 of scale 1 may not be its value
+abbrev owner : ℕ → Lent
+owner value =
+    record {
+      off = false;
+      items = 1 ∷ 0 ∷ 2 ∷ 0 ∷ 0 ∷ [];
+      literals = 2 ∷ 0 ∷ 2 ∷ 0 ∷ 0 ∷ 3 ∷ 2 ∷ 1 ∷ 1 ∷ 1 ∷ [];
+      bytes = 0x41 ∷ 0x42 ∷ 0x35 ∷ [];
+      names = 0 ∷ 1 ∷ value ∷ value ∷ 0 ∷ 0 ∷ zeros;
+    }
+
+owners : (judgeGives (owner 0) (327680 ∷ []) (0x41 ∷ 0x37 ∷ []) 0 ≡ record { verdict = Refused (Letters 0 1); count = 1 })
+    × (judgeGives (owner 0) (327680 ∷ []) (0x41 ∷ 0x42 ∷ []) 0 ≡ record { verdict = True; count = 1 })
+    × (judgeGives (owner 1) (327680 ∷ []) (0x41 ∷ 0x42 ∷ []) 0 ≡ record { verdict = Refused (Name 0); count = 0 })
+unfolding all numberFrom firstFrom validContent firstFailing firstOf every some typed byteOrder comparison classHolds switchHolds outcome class on parse-condition read depthFrom typingFrom leaves when at judged visited judgeWalk
+owners = (refl, refl, refl)
+
+-- a packed item may be compared with a number and not with a text (f)
+abbrev packed : ℕ → Lent
+packed value =
+    record {
+      off = false;
+      items = 8 ∷ 0 ∷ 2 ∷ 0 ∷ 2 ∷ [];
+      literals = 3 ∷ 0 ∷ 1 ∷ 0 ∷ 1 ∷ 2 ∷ 0 ∷ 1 ∷ 0 ∷ 0 ∷ [];
+      bytes = 0x35 ∷ [];
+      names = 0 ∷ 1 ∷ value ∷ value ∷ 0 ∷ 0 ∷ zeros;
+    }
+
+amount-names : (judgeGives (packed 0) (327680 ∷ []) (0x00 ∷ 0x53 ∷ []) 0 ≡ record { verdict = True; count = 1 })
+    × (judgeGives (packed 0) (327680 ∷ []) (0x00 ∷ 0x55 ∷ []) 0 ≡ record { verdict = Refused (Data 0 1); count = 1 })
+    × (nameCheck (packed 1) ≡ Unsound (Name 0))
+unfolding all numberFrom packedFrom firstFrom validContent firstFailing firstOf every some typed byteOrder comparison classHolds switchHolds outcome class on parse-condition read depthFrom typingFrom leaves when at judged visited judgeWalk
+amount-names = (refl, refl, refl)

@@ -17,18 +17,21 @@ use Rattle.tables.specs.declared.Stop.the-variants.{Digits, Letters}
 use Rattle.tables.specs.declared.Verdict.{Verdict}
 use Rattle.tables.specs.declared.Verdict.the-variants.{True, False, Refused}
 use Rattle.tables.specs.declared.Row.{Row}
-use Rattle.tables.specs.Tokens.{isItem, indexOf}
+use Rattle.tables.specs.Tokens.{isItem, isName, indexOf}
 use Rattle.tables.specs.Rows.{rowAt, isGroup, part}
 use Rattle.tables.specs.Operands.{Lent}
+use Rattle.tables.specs.Names.{nameItem}
 use Rattle.typing.specs.declared.Test.{Test}
-use Rattle.typing.specs.declared.Test.the-variants.{Switch, Relation, Class, Sign, Unknown}
+use Rattle.typing.specs.declared.Test.the-variants.{Alone, Relation, Class, Sign, Unknown}
 use Rattle.typing.specs.Tests.{testOf}
 use Rattle.compare.specs.Switches.{switchHolds}
 use Rattle.compare.specs.Classes.{classHolds}
 use Rattle.compare.specs.Order.{orderℤ, relationHolds, signHolds}
 use Rattle.values.specs.Comparison.{Side, side, sideOf, valueOf, comparison, moved, wrongByte, fault}
-use Rattle.values.specs.Truth.{truth, turned, stopOf, orStop, relationOutcome, signOutcome, testOutcome, outcome, Readable, Fit, Sided}
-use Rattle.values.proofs.Reading.{fit-near, read-relation, read-sign}
+use Rattle.values.specs.Names.{itemSide, nameHolds}
+use Rattle.values.specs.Truth.{truth, turned, stopOf, orStop, relationOutcome, signOutcome, nameOutcome, testOutcome, outcome, Readable, Fit, Sided}
+use Rattle.values.proofs.Reading.{fit-near, tables-sound, read-name, read-relation, read-sign}
+use Rattle.values.proofs.Names.{item-fit, item-there}
 use Rattle.grammar.specs.Grammar.{Tree, simple, negated, bracketed, both, either}
 use Rattle.grammar.specs.Judging.{Outcomes, leaves, when, at, judged}
 use Rattle.grammar.specs.declared.PlanRow.{PlanRow}
@@ -82,14 +85,21 @@ module _ (bound : ℕ) where
   module _ (lent : Lent) (content : List ℕ) (switches : ℕ) where
     -- the sides whose content a test uses
     abbrev Used : Test → ℕ → ℕ → Type 0
-    Used Switch a b = Unit {0}
+    Used Alone a b = cond (isName a) (Near (wrongByte (itemSide lent content (nameItem (lent .names) (indexOf a))))) (Unit {0})
     Used (Relation word flag) a b = Near (wrongByte (sideOf lent content a)) × Near (wrongByte (sideOf lent content b))
     Used (Class word flag) a b = Unit {0}
     Used (Sign word flag) a b = Near (wrongByte (sideOf lent content a))
     Used Unknown a b = Unit {0}
 
     stops-test : (x : Test) (a b : ℕ) → Used x a b → Stops (testOutcome lent content switches x a b)
-    stops-test Switch a b h = stops-truth (switchHolds switches a)
+    stops-test Alone a b h = by (isName a) h
+      where
+        by : (c : Bool) → cond c (Near (wrongByte (itemSide lent content (nameItem (lent .names) (indexOf a))))) (Unit {0})
+            → Stops (cond c (nameOutcome lent content (indexOf a)) (truth (switchHolds switches a)))
+        by true h =
+            let item = itemSide lent content (nameItem (lent .names) (indexOf a)) in
+            stops-or (item .row .kind) (wrongByte item) (truth (nameHolds lent item (indexOf a))) h (stops-truth (nameHolds lent item (indexOf a)))
+        by false h = stops-truth (switchHolds switches a)
     stops-test (Relation word flag) a b h = stops-relation word flag (sideOf lent content a) (sideOf lent content b) (h .0) (h .1)
     stops-test (Class word flag) a b h =
         stops-truth (turned flag (classHolds word (sideOf lent content a .row .kind) (sideOf lent content a .row .digits) (sideOf lent content a .bytes)))
@@ -120,7 +130,11 @@ module _ (lent : Lent) (content : List ℕ) where
   stops-inside switches a r b = stops-test (length content) lent content switches (testOf r) a b (used (testOf r))
     where
       used : (x : Test) → Used (length content) lent content switches x a b
-      used Switch = tt
+      used Alone = by (isName a)
+        where
+          by : (c : Bool) → cond c (Near (length content) (wrongByte (itemSide lent content (nameItem (lent .names) (indexOf a))))) (Unit {0})
+          by true = near-part (rowAt (lent .items) (nameItem (lent .names) (indexOf a)))
+          by false = tt
       used (Relation word flag) = (near-side a, near-side b)
       used (Class word flag) = tt
       used (Sign word flag) = near-side a
@@ -141,7 +155,14 @@ unfolding outcome
 stops-near {lent} {content} {a} {r} {b} readable switches = stops-test 131072 lent content switches (testOf r) a b (used (testOf r) refl)
   where
     used : (x : Test) → testOf r ≡ x → Used 131072 lent content switches x a b
-    used Switch e = tt
+    used Alone e = by (isName a) refl
+      where
+        by : (c : Bool) → isName a ≡ c → cond c (Near 131072 (wrongByte (itemSide lent content (nameItem (lent .names) (indexOf a))))) (Unit {0})
+        by true n =
+            let named = read-name readable e n in
+            near-fit (item-fit lent (tables-sound lent (named .tables)) content (named .holds) (nameItem (lent .names) (indexOf a))
+            (item-there lent (named .tables) (indexOf a) (named .there)))
+        by false n = tt
     used (Relation word flag) e = let p = read-relation readable e in (near-fit (p .0 .fit), near-fit (p .1 .fit))
     used (Class word flag) e = tt
     used (Sign word flag) e = near-fit (read-sign readable e .0 .fit)

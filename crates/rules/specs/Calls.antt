@@ -14,7 +14,8 @@ use Rattle.tables.specs.declared.Judged.{Judged}
 use Rattle.tables.specs.declared.Verdict.the-variants.{Refused as Unjudged}
 use Rattle.tables.specs.Operands.{Lent}
 use Rattle.tables.specs.Refusals.{place, unless, firstOf}
-use Rattle.tables.specs.Tables.{tableLines, tokenCountCheck, tokenCheck, recordCheck}
+use Rattle.tables.specs.Tables.{tokenCountCheck, tokenCheck, recordCheck}
+use Rattle.values.specs.Names.{lentLines}
 use Rattle.values.specs.Truth.{outcome}
 use Rattle.grammar.specs.Grammar.{Tree}
 use Rattle.grammar.specs.Parser.{Reading, accepted, refused, read}
@@ -40,9 +41,9 @@ abbrev pub typingCheck : Lent → Reading → Check
 typingCheck lent (accepted t) = typingFrom lent 0 t
 typingCheck lent (refused at) = Sound
 
--- 1 to 6, in the order of their numbers
+-- 1 to 6, in the order of their numbers, 18 "just after 4" (02, h)
 abbrev pub tokenLines : Lent → List ℕ → List Check
-tokenLines lent tokens = tableLines lent ++ tokenCountCheck tokens ∷ tokenCheck lent tokens ∷ []
+tokenLines lent tokens = lentLines lent ++ tokenCountCheck tokens ∷ tokenCheck lent tokens ∷ []
 
 -- 7 and 8
 abbrev pub grammarLine : List ℕ → Check
@@ -52,7 +53,7 @@ grammarLine tokens = earlier (grammarCheck (read tokens)) (depthCheck tokens)
 abbrev pub grammarLines : Lent → List ℕ → List Check
 grammarLines lent tokens = grammarLine tokens ∷ typingCheck lent (read tokens) ∷ []
 
--- 1 to 9
+-- 1 to 9, with 18
 abbrev pub conditionLines : Lent → List ℕ → List Check
 conditionLines lent tokens = tokenLines lent tokens ++ grammarLines lent tokens
 
@@ -81,7 +82,7 @@ abbrev pub numbersOf : (Tree → List ℕ) → Reading → List ℕ
 numbersOf make (accepted t) = make t
 numbersOf make (refused at) = []
 
--- "Expand and plan can give 1 to 10"
+-- "Expand and plan can give 1 to 10", and 18 (02, h)
 abbrev pub writing : (Tree → List ℕ) → Lent → List ℕ → List ℕ → Gives
 writing make lent tokens output =
     let numbers = numbersOf make (read tokens) in
@@ -107,8 +108,8 @@ abbrev pub treeAnswer : Lent → List ℕ → ℕ → Reading → Walk
 treeAnswer lent content switches (accepted t) = judging (outcome lent content switches) t
 treeAnswer lent content switches (refused at) = walk (Unjudged (Grammar at)) []
 
--- "judge 1 to 9, 12, 13", and 17 (02, g). "The rules' answer, for tokens and tables that none of 1 to 9 refuses, is refusal 12 where the table
--- below gives it, else the answer of the derived tree."
+-- "judge 1 to 9, 12, 13", and 17 (02, g), and 18 (02, h). "The rules' answer, for tokens and tables that none of 1 to 9 refuses, is refusal 12
+-- where the table below gives it, else the answer of the derived tree."
 unfoldable pub judgeWalk : Lent → List ℕ → List ℕ → ℕ → Walk
 judgeWalk lent tokens content switches =
     answers (firstOf (conditionLines lent tokens ++ recordCheck lent content ∷ [])) (treeAnswer lent content switches (read tokens))
@@ -116,10 +117,10 @@ judgeWalk lent tokens content switches =
 abbrev pub judgeGives : Lent → List ℕ → List ℕ → ℕ → Judged
 judgeGives lent tokens content switches = told (judgeWalk lent tokens content switches)
 
--- "run 1 to 4, 11, 12, 13", and 17 (02, g)
+-- "run 1 to 4, 11, 12, 13", and 17 (02, g), and 18 (02, h)
 unfoldable pub runWalk : Lent → List ℕ → List ℕ → ℕ → Walk
 runWalk lent plan content switches =
-    answers (firstOf (tableLines lent ++ planCheck lent plan ∷ recordCheck lent content ∷ [])) (running (outcome lent content switches) plan)
+    answers (firstOf (lentLines lent ++ planCheck lent plan ∷ recordCheck lent content ∷ [])) (running (outcome lent content switches) plan)
 
 abbrev pub runGives : Lent → List ℕ → List ℕ → ℕ → Judged
 runGives lent plan content switches = told (runWalk lent plan content switches)

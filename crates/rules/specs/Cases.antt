@@ -134,7 +134,7 @@ abbrev ZERO : ℕ
 ZERO = 262160
 
 abbrev items : List ℕ → Lent
-items rows = record { off = false; items = rows; literals = []; bytes = [] }
+items rows = record { off = false; items = rows; literals = []; bytes = []; names = [] }
 
 -- four items of kind 3, one digit each
 abbrev digits : Lent

@@ -11,9 +11,9 @@ use Rattle.tables.specs.declared.Refusal.the-variants.{TokenCount}
 use Rattle.tables.specs.declared.Written.the-variants.{Count}
 use Rattle.tables.specs.Operands.{Lent, under}
 use Rattle.tables.specs.Refusals.{unless, firstOf}
-use Rattle.tables.specs.Tables.{tableLines}
-use Rattle.tables.specs.Tokens.{isOff, exists}
-use Rattle.tables.specs.Rows.{rowCount}
+use Rattle.values.specs.Names.{lentLines}
+use Rattle.tables.specs.Tokens.{isOff, tokenThere}
+use Rattle.tables.specs.Rows.{rowCount, nameCount}
 use Rattle.typing.specs.Tests.{testOf}
 use Rattle.typing.specs.Shape.{shapeSound}
 use Rattle.grammar.specs.Grammar.{Tree}
@@ -37,11 +37,11 @@ convertGives lent tokens output =
 unfoldable pub convertPlanGives : Lent → List ℕ → List ℕ → Gives
 convertPlanGives lent plan output =
     let numbers = convertedPlan plan in
-    writes (firstOf (tableLines (under true lent) ++ planCheck (under true lent) plan ∷ roomCheck numbers output ∷ [])) numbers output
+    writes (firstOf (lentLines (under true lent) ++ planCheck (under true lent) plan ∷ roomCheck numbers output ∷ [])) numbers output
 
 -- "Expand, plan and judge refuse it with 6, run with 11": an off token fails the test of line 6, and a row with one that of line 11.
 pub record Retired (lent : Lent) (x : ℕ) : Type 0 where
-  pub token : exists false (rowCount (lent .items)) (rowCount (lent .literals)) x ≡ false
+  pub token : tokenThere false (rowCount (lent .items)) (rowCount (lent .literals)) (nameCount (lent .names)) x ≡ false
   pub row : (relation object : ℕ) → shapeSound (under false lent) (testOf relation) x object ≡ false
 
 abbrev pub RetiredWords : Type 0

@@ -83,7 +83,7 @@ pub record SevenAndEight (lent : Lent) (tokens : List ℕ) : Type 0 where
 abbrev pub SevenAndEightGiven : Type 0
 SevenAndEightGiven = (lent : Lent) (tokens : List ℕ) → SevenAndEight lent tokens
 
--- Demand 2. For tables and tokens that refusals 1 to 6 and 8 do not refuse: a condition is accepted exactly when the rules derive
+-- Demand 2. For tables and tokens that refusals 1 to 6, 18 and 8 do not refuse: a condition is accepted exactly when the rules derive
 -- a tree whose parts are well typed; and its expanded form, its plan, its truth and its stop on invalid numeric or alphabetic data
 -- (02, g), with its byte (02, c), are those of that tree.
 pub record Demand2 (lent : Lent) (tokens : List ℕ) : Type 0 where

@@ -7,3 +7,4 @@ pub mod Groups
 pub mod Amounts
 pub mod Footprint
 pub mod Converting
+pub mod Names

@@ -5,11 +5,12 @@ use Prim.Native.Nat.{ℕ}
 use Rattle.tables.specs.declared.Check.the-variants.{Sound}
 use Rattle.tables.specs.Operands.{Lent}
 use Rattle.tables.specs.Refusals.{firstOf}
-use Rattle.tables.specs.Tables.{tableLines, recordCheck}
+use Rattle.tables.specs.Tables.{recordCheck}
+use Rattle.values.specs.Names.{lentLines}
 use Rattle.grammar.specs.Plan.{planCheck}
 
--- refusals 1 to 4, 11 and 12 are ruled out
+-- refusals 1 to 4, 18, 11 and 12 are ruled out
 pub record Runnable (lent : Lent) (plan content : List ℕ) : Type 0 where
-  pub tables : firstOf (tableLines lent) ≡ Sound
+  pub tables : firstOf (lentLines lent) ≡ Sound
   pub sound : planCheck lent plan ≡ Sound
   pub holds : recordCheck lent content ≡ Sound

@@ -1,6 +1,6 @@
 // Running the rows of a plan on a record and a switch byte.
 ghost use mathlib.Core.Path.{_≡_};
-ghost use Rattle.tables.specs.Operands.{lend};
+ghost use Rattle.tables.specs.Operands.{lendNames};
 ghost use Rattle.values.specs.Truth.{outcome};
 ghost use Rattle.grammar.specs.Judging.{stopped};
 ghost use Rattle.grammar.specs.Plan.{running};
@@ -42,12 +42,13 @@ pub fn run_rows<'a>(
     items: &[u32],
     literals: &[u32],
     bytes: &'a [u8],
+    names: &[u32],
     plan: &[u32],
     record: &'a [u8],
     switches: u8,
 ) -> Judged
-    requires { ⌜ Runnable (lend (now items) (now literals) (now bytes)) (now plan) (now «record») ⌝ }
-    ensures { λ r. ⌜ r ≡ told (running (outcome (lend (now (items .entry)) (now (literals .entry)) (now (bytes .entry))) (now («record» .entry)) switches) (now (plan .entry))) ⌝ }
+    requires { ⌜ Runnable (lendNames (now items) (now literals) (now bytes) (now names)) (now plan) (now «record») ⌝ }
+    ensures { λ r. ⌜ r ≡ told (running (outcome (lendNames (now (items .entry)) (now (literals .entry)) (now (bytes .entry)) (now (names .entry))) (now («record» .entry)) switches) (now (plan .entry))) ⌝ }
 {
     let mut at: usize = 0;
     let mut count: usize = 0;
@@ -57,6 +58,7 @@ pub fn run_rows<'a>(
             items,
             literals,
             bytes,
+            names,
             record,
             switches,
             row.subject,

@@ -2,13 +2,14 @@
 ghost use mathlib.Core.Path.{_≡_};
 ghost use mathlib.Core.Bool.{true};
 ghost use Rattle.tables.specs.Rows.{isNumeric};
-ghost use Rattle.tables.specs.Operands.{lend, rowOf};
+ghost use Rattle.tables.specs.Operands.{lend, lendNames, rowOf};
 ghost use Rattle.values.specs.Comparison.{side, sideOf};
 ghost use Rattle.values.specs.Truth.{truth, turned, relationOutcome, classOutcome, signOutcome, outcome, Readable, Sided, Numeral};
 use compare::classes::class_holds;
 use compare::orders::relation_holds;
 use compare::orders::sign_holds;
 use compare::switches::switch_holds;
+use names::ranges::name_outcome;
 use numbers::fields::read_number;
 use numbers::scaled::compare_scaled;
 use numbers::scaled::compare_zero;
@@ -145,18 +146,25 @@ pub fn truth_of<'a>(
     items: &[u32],
     literals: &[u32],
     bytes: &'a [u8],
+    names: &[u32],
     record: &'a [u8],
     switches: u8,
     subject: u32,
     relation: u32,
     object: u32,
 ) -> Outcome
-    requires { ⌜ Readable (lend (now items) (now literals) (now bytes)) (now «record») subject relation object ⌝ }
-    ensures { λ r. ⌜ r ≡ outcome (lend (now (items .entry)) (now (literals .entry)) (now (bytes .entry))) (now («record» .entry)) switches subject relation object ⌝ }
+    requires { ⌜ Readable (lendNames (now items) (now literals) (now bytes) (now names)) (now «record») subject relation object ⌝ }
+    ensures { λ r. ⌜ r ≡ outcome (lendNames (now (items .entry)) (now (literals .entry)) (now (bytes .entry)) (now (names .entry))) (now («record» .entry)) switches subject relation object ⌝ }
 {
     let test = test_of(relation);
     match test {
-        Test::Switch => truth_value(false, switch_holds(switches, subject)),
+        Test::Alone => {
+            if subject / 65536 == 5 {
+                let name = (subject % 65536) as usize;
+                return name_outcome(items, literals, bytes, names, record, name);
+            }
+            truth_value(false, switch_holds(switches, subject))
+        }
         Test::Relation { word, negated } => {
             relation_outcome(
                 items,

@@ -4,7 +4,7 @@ use Prim.Native.Nat.{ℕ}
 use lib.Dec.{eqb, leb}
 use Rattle.tables.specs.declared.Row.{Row}
 use Rattle.typing.specs.declared.Test.{Test}
-use Rattle.typing.specs.declared.Test.the-variants.{Switch, Relation, Class, Sign, Unknown}
+use Rattle.typing.specs.declared.Test.the-variants.{Alone, Relation, Class, Sign, Unknown}
 use Rattle.content.specs.Packed.{isPacked}
 use Rattle.tables.specs.Tokens.{isItem, isLiteral}
 use Rattle.tables.specs.Rows.{isGroup, isNumeric}
@@ -45,7 +45,7 @@ abbrev pub signTyped : Lent → ℕ → Bool
 signTyped lent subject = isItem subject && isNumeric (rowOf lent subject)
 
 abbrev pub testTyped : Lent → Test → ℕ → ℕ → Bool
-testTyped lent Switch subject object = true
+testTyped lent Alone subject object = true
 testTyped lent (Relation word negated) subject object = relationTyped lent subject object
 testTyped lent (Class word negated) subject object = classTyped lent word subject
 testTyped lent (Sign word negated) subject object = signTyped lent subject

@@ -2,9 +2,9 @@
 
 pub mod shape; // what a relation number asks, and the shape and typing of a simple condition
 
-// What a relation number asks: a switch, a relation, a class or a sign, and whether NOT belongs to it.
+// What a relation number asks: a token that is a condition alone, a relation, a class or a sign, and whether NOT belongs to it.
 pub enum Test {
-    Switch,
+    Alone,
     Relation { word: u32, negated: bool },
     Class { word: u32, negated: bool },
     Sign { word: u32, negated: bool },

@@ -1,12 +1,13 @@
 // What a relation number asks, and the shape and the typing of a simple condition.
 ghost use mathlib.Core.Path.{_≡_};
-ghost use mathlib.Core.Bool.{true, _&&_};
+ghost use mathlib.Core.Bool.{true, _&&_, _||_};
 ghost use mathlib.Core.List.{[]};
 ghost use lib.Dec.{eqb, leb};
-ghost use Rattle.tables.specs.Operands.{lend, operandSound};
-ghost use Rattle.tables.specs.Tokens.{isLiteral, isSwitch, indexOf};
+ghost use Rattle.tables.specs.Operands.{lend, lendNames, operandSound};
+ghost use Rattle.tables.specs.Tokens.{isLiteral, isSwitch, indexOf, nameThere};
+ghost use Rattle.tables.specs.Rows.{nameCount};
 ghost use Rattle.typing.specs.Tests.{testOf};
-ghost use Rattle.typing.specs.Shape.{shapeSound};
+ghost use Rattle.typing.specs.Shape.{shapeSound, operandsSound};
 ghost use Rattle.typing.specs.Typing.{fitsBeside, sideFits, relationTyped, classTyped, signTyped, testTyped, typed};
 use crate::Test;
 use tables::Row;
@@ -14,13 +15,14 @@ use tables::operands::row_of;
 use tables::rows::is_group;
 use tables::rows::is_numeric;
 use tables::tokens::is_item;
+use tables::tokens::name_there;
 
 // The relation, class or sign test of a relation number, and whether NOT belongs to it.
 pub fn test_of(relation: u32) -> Test
     ensures { λ r. ⌜ r ≡ testOf relation ⌝ }
 {
     match relation {
-        0 => Test::Switch,
+        0 => Test::Alone,
         5..=9 => Test::Relation {
             word: relation,
             negated: false,
@@ -72,6 +74,16 @@ fn switch_exists(token: u32) -> bool
     ((token / 65536 == 2) | (token / 65536 == 3)) & (token % 65536 <= 7)
 }
 
+// A switch, or a condition-name of its table.
+fn alone_exists(names: &[u32], token: u32) -> bool
+    ensures { λ r. ⌜ r ≡ (isSwitch token && leb (indexOf token) 7 || nameThere (nameCount (now (names .entry))) token) ⌝ }
+{
+    if switch_exists(token) {
+        return true;
+    }
+    name_there(token, names.len() / 18)
+}
+
 // The shape of a relation, and that of a class or a sign test.
 fn two_operands(items: &[u32], literals: &[u32], subject: u32, object: u32) -> bool
     ensures { λ r. ⌜ r ≡ (operandSound (lend (now (items .entry)) (now (literals .entry)) []) subject && operandSound (lend (now (items .entry)) (now (literals .entry)) []) object) ⌝ }
@@ -89,11 +101,18 @@ fn one_operand(items: &[u32], literals: &[u32], subject: u32, object: u32) -> bo
 }
 
 // Whether the tokens are within their tables, and of the kinds that the test asks.
-fn shape_sound(items: &[u32], literals: &[u32], test: Test, subject: u32, object: u32) -> bool
-    ensures { λ r. ⌜ r ≡ shapeSound (lend (now (items .entry)) (now (literals .entry)) []) test subject object ⌝ }
+fn shape_sound(
+    items: &[u32],
+    literals: &[u32],
+    names: &[u32],
+    test: Test,
+    subject: u32,
+    object: u32,
+) -> bool
+    ensures { λ r. ⌜ r ≡ shapeSound (lendNames (now (items .entry)) (now (literals .entry)) [] (now (names .entry))) test subject object ⌝ }
 {
     match test {
-        Test::Switch => switch_exists(subject) & (object == 0),
+        Test::Alone => alone_exists(names, subject) & (object == 0),
         Test::Relation {
             word: _,
             negated: _,
@@ -117,7 +136,8 @@ fn fits_beside(row: Row) -> bool
     (row.scale == 0) & !((row.kind == 8) | (row.kind == 9))
 }
 
-fn sides_fit(side: Row, other: Row) -> bool
+// Whether two sides may be compared: an item with a literal of a condition-name too.
+pub fn sides_fit(side: Row, other: Row) -> bool
     ensures { λ r. ⌜ r ≡ (sideFits side other && sideFits other side) ⌝ }
 {
     let numeric = is_numeric(side);
@@ -165,11 +185,11 @@ fn sign_typed(items: &[u32], literals: &[u32], subject: u32) -> bool
 
 // Whether a simple condition of sound shape is well typed.
 fn test_typed(items: &[u32], literals: &[u32], test: Test, subject: u32, object: u32) -> bool
-    requires { ⌜ shapeSound (lend (now items) (now literals) []) test subject object ≡ true ⌝ }
+    requires { ⌜ operandsSound (lend (now items) (now literals) []) test subject object ≡ true ⌝ }
     ensures { λ r. ⌜ r ≡ testTyped (lend (now (items .entry)) (now (literals .entry)) []) test subject object ⌝ }
 {
     match test {
-        Test::Switch => true,
+        Test::Alone => true,
         Test::Relation {
             word: _,
             negated: _,
@@ -185,7 +205,7 @@ fn test_typed(items: &[u32], literals: &[u32], test: Test, subject: u32, object:
 
 // The typing of a row that the planner wrote: its shape is sound.
 pub fn well_typed(items: &[u32], literals: &[u32], subject: u32, relation: u32, object: u32) -> bool
-    requires { ⌜ shapeSound (lend (now items) (now literals) []) (testOf relation) subject object ≡ true ⌝ }
+    requires { ⌜ operandsSound (lend (now items) (now literals) []) (testOf relation) subject object ≡ true ⌝ }
     ensures { λ r. ⌜ r ≡ typed (lend (now (items .entry)) (now (literals .entry)) []) subject relation object ⌝ }
 {
     test_typed(items, literals, test_of(relation), subject, object)
@@ -195,14 +215,15 @@ pub fn well_typed(items: &[u32], literals: &[u32], subject: u32, relation: u32, 
 pub fn condition_sound(
     items: &[u32],
     literals: &[u32],
+    names: &[u32],
     subject: u32,
     relation: u32,
     object: u32,
 ) -> bool
-    ensures { λ r. ⌜ r ≡ (shapeSound (lend (now (items .entry)) (now (literals .entry)) []) (testOf relation) subject object && typed (lend (now (items .entry)) (now (literals .entry)) []) subject relation object) ⌝ }
+    ensures { λ r. ⌜ r ≡ (shapeSound (lendNames (now (items .entry)) (now (literals .entry)) [] (now (names .entry))) (testOf relation) subject object && typed (lendNames (now (items .entry)) (now (literals .entry)) [] (now (names .entry))) subject relation object) ⌝ }
 {
     let test = test_of(relation);
-    if !shape_sound(items, literals, test, subject, object) {
+    if !shape_sound(items, literals, names, test, subject, object) {
         return false;
     }
     test_typed(items, literals, test, subject, object)

@@ -3,32 +3,37 @@
 use Prim.Native.Nat.{ℕ, _/_, _≤_}
 use native.Mathlib.Omega.{arith}
 use native.Mathlib.Decide.{ℕ-discrete}
-use mathlib.Core.Path.{_≡_, refl, sym, subst⁻¹}
+use mathlib.Core.Path.{_≡_, refl, sym, subst⁻¹, _∙_}
 use mathlib.Core.Bool.{Bool, true, false, cond, _&&_, or-false}
-use mathlib.Core.List.{List}
+use mathlib.Core.List.{List, [], _∷_}
 use mathlib.Core.Logic.{⊎-elim}
 use lib.Dec.{eqb, leb}
 use lib.ListN.{length, length-drop}
-use borrow.Author.Tests.{leb-true, eqb-true, ne-eqb}
+use borrow.Author.Tests.{leb-true, ltb-true, eqb-true, ne-eqb}
 use Rattle.tables.specs.declared.Check.the-variants.{Sound}
 use Rattle.tables.specs.declared.Refusal.the-variants.{ItemRow, LiteralRow, Record}
 use Rattle.tables.specs.declared.Row.{Row}
-use Rattle.typing.specs.declared.Test.the-variants.{Switch, Relation, Class, Sign}
-use Rattle.tables.specs.Tokens.{isItem, isOn, isOff, isSwitch, indexOf, exists}
+use Rattle.typing.specs.declared.Test.the-variants.{Alone, Relation, Class, Sign}
+use Rattle.tables.specs.Tokens.{isItem, isOn, isOff, isSwitch, isName, indexOf, exists}
 use Rattle.tables.specs.Rows.{rowCount, rowSound, isNumeric}
 use Rattle.content.specs.Content.{digitBytes, digitCharacters, unsignedLast}
-use Rattle.tables.specs.Operands.{Lent, operandSound, switchSound, rowOf, operandBytes, liesWithin, Within}
+use Rattle.tables.specs.Operands.{Lent, lend, lendNames, operandSound, switchSound, aloneSound, rowOf, operandBytes, liesWithin, Within}
 use Rattle.tables.specs.Refusals.{firstOf}
 use Rattle.typing.specs.Tests.{testOf}
 use Rattle.typing.specs.Typing.{typed}
 use Rattle.tables.specs.Tables.{tableLines, recordCheck}
 use Rattle.tables.proofs.Tests.{both, four, either}
-use Rattle.tables.proofs.Lines.{every-sound, AllSound, lines-sound}
+use Rattle.tables.proofs.Lines.{every-sound, AllSound, lines-sound, lines-before}
 use Rattle.tables.proofs.Bytes.{row-facts, display-kinds, packed-fits, digits-fit, scale-small, item-there, literal-there, operand-length}
 use Rattle.content.proofs.Bytes.{but-last-length}
 use Rattle.compare.specs.Compared.{scaledOrder}
 use Rattle.values.specs.Comparison.{Side, side, sideOf, numeric, valueOf, givesDigits, characters, comparison}
-use Rattle.values.specs.Truth.{Readable, Fit, Near, Sided, Numeral}
+use Rattle.values.specs.Names.{nameCheck, lentLines}
+use Rattle.values.specs.Truth.{Readable, Named, Fit, Near, Sided, Numeral}
+
+-- where 18 is ruled out after 1 to 4, those are
+pub tables-sound : (lent : Lent) → firstOf (lentLines lent) ≡ Sound → firstOf (tableLines lent) ≡ Sound
+tables-sound lent e = lines-sound (firstOf (tableLines lent) ∷ nameCheck lent ∷ []) (sym (lines-before (tableLines lent) (nameCheck lent ∷ [])) ∙ e) .0
 
 -- where no line on the tables applies and the record holds its items, a sound operand is fit to be read
 module _ (lent : Lent) (content : List ℕ) (x : ℕ) (tables : firstOf (tableLines lent) ≡ Sound) (holds : recordCheck lent content ≡ Sound) (there : operandSound lent x ≡ true) where
@@ -127,13 +132,25 @@ module _ {lent : Lent} {content : List ℕ} {x : ℕ} (s : Sided lent content x)
   pub read-fit : Fit (side item row bytes)
   read-fit = subst⁻¹ Fit read-side (s .fit)
 
+-- a side is what it is without the names
+pub side-unnamed : {items literals bytes names content : List ℕ} {x : ℕ} → Sided (lendNames items literals bytes names) content x → Sided (lend items literals bytes) content x
+side-unnamed s = record { within = record { there = s .within .there; lies = s .within .lies }; fit = s .fit }
+
 -- what a readable condition gives to the code, by what it tests
 module _ {lent : Lent} {content : List ℕ} {subject relation object : ℕ} (readable : Readable lent content subject relation object) where
   side-of : {x : ℕ} → operandSound lent x ≡ true → Sided lent content x
-  side-of {x} there = sided lent content x (readable .tables) (readable .holds) there
+  side-of {x} there = sided lent content x (tables-sound lent (readable .tables)) (readable .holds) there
 
-  pub read-switch : testOf relation ≡ Switch → indexOf subject ≤ 7
-  read-switch e = switch-index lent subject (both (switchSound lent subject) _ (rw e at (readable .shape)) .0)
+  alone-there : testOf relation ≡ Alone → aloneSound lent subject ≡ true
+  alone-there e = both (aloneSound lent subject) _ (rw e at (readable .shape)) .0
+
+  pub read-switch : testOf relation ≡ Alone → isName subject ≡ false → indexOf subject ≤ 7
+  read-switch e n = switch-index lent subject (simp or-false at (rw n at (alone-there e)))
+
+  pub read-name : testOf relation ≡ Alone → isName subject ≡ true → Named lent content (indexOf subject)
+  read-name e n =
+      let k : subject / 65536 ≡ 5 = eqb-true (subject / 65536) 5 n in
+      record { tables = readable .tables; holds = readable .holds; there = ltb-true _ _ (rw k at (alone-there e)) }
 
   module _ {word : ℕ} {negated : Bool} where
     pub read-relation : testOf relation ≡ Relation word negated → Sided lent content subject × Sided lent content object

@@ -2,7 +2,7 @@
 use mathlib.Core.Path.{_≡_}
 use mathlib.Core.Bool.{Bool, true, false, not, cond}
 use mathlib.Core.List.{List}
-use Prim.Native.Nat.{ℕ, _≤_}
+use Prim.Native.Nat.{ℕ, _≤_, _<_}
 use lib.ListN.{length}
 use lib.Dec.{eqb}
 use lib.IntN.{pos}
@@ -11,20 +11,23 @@ use Rattle.tables.specs.declared.Outcome.the-variants.{True, False, Stopped}
 use Rattle.tables.specs.declared.Stop.{Stop}
 use Rattle.tables.specs.declared.Stop.the-variants.{Digits, Letters}
 use Rattle.typing.specs.declared.Test.{Test}
-use Rattle.typing.specs.declared.Test.the-variants.{Switch, Relation, Class, Sign, Unknown}
+use Rattle.typing.specs.declared.Test.the-variants.{Alone, Relation, Class, Sign, Unknown}
 use Rattle.tables.specs.declared.Check.the-variants.{Sound}
 use Rattle.tables.specs.declared.Row.{Row}
-use Rattle.tables.specs.Rows.{rowSound, isNumeric}
+use Rattle.tables.specs.Rows.{rowSound, isNumeric, nameCount}
 use Rattle.content.specs.WrongByte.{Wrong, Nowhere, At}
 use Rattle.tables.specs.Operands.{Lent, Within}
 use Rattle.tables.specs.Refusals.{firstOf}
-use Rattle.tables.specs.Tables.{tableLines, recordCheck}
+use Rattle.tables.specs.Tables.{recordCheck}
+use Rattle.tables.specs.Tokens.{isName, indexOf}
+use Rattle.tables.specs.Names.{nameItem}
 use Rattle.typing.specs.Tests.{testOf}
 use Rattle.typing.specs.Shape.{shapeSound}
 use Rattle.typing.specs.Typing.{typed}
 use Rattle.compare.specs.Fields.{NumberField}
 use Rattle.compare.specs.Order.{orderℤ, relationHolds, signHolds}
 use Rattle.values.specs.Comparison.{Side, sideOf, valueOf, comparison, wrongByte, fault}
+use Rattle.values.specs.Names.{itemSide, nameHolds, lentLines}
 use Rattle.compare.specs.Classes.{classHolds}
 use Rattle.compare.specs.Switches.{switchHolds}
 
@@ -58,9 +61,17 @@ classOutcome word negated s = truth (turned negated (classHolds word (s .row .ki
 abbrev pub signOutcome : ℕ → Bool → Side → Outcome
 signOutcome word negated s = orStop (s .row .kind) (wrongByte s) (truth (turned negated (signHolds word (orderℤ (valueOf s) (pos 0)))))
 
+-- Document 02, h): "is true if the item equals one value or lies in one range", and "An invalid item gives 13 or 17": as a relation with its
+-- literals would, which are no groups (rules/specs/Names.antt)
+abbrev pub nameOutcome : Lent → List ℕ → ℕ → Outcome
+nameOutcome lent content v =
+    let item = itemSide lent content (nameItem (lent .names) v) in
+    orStop (item .row .kind) (wrongByte item) (truth (nameHolds lent item v))
+
 module _ (lent : Lent) (content : List ℕ) (switches : ℕ) where
   abbrev pub testOutcome : Test → ℕ → ℕ → Outcome
-  testOutcome Switch subject object = truth (switchHolds switches subject)
+  testOutcome Alone subject object =
+      cond (isName subject) (nameOutcome lent content (indexOf subject)) (truth (switchHolds switches subject))
   testOutcome (Relation word negated) subject object =
       relationOutcome word negated (sideOf lent content subject) (sideOf lent content object)
   testOutcome (Class word negated) subject object = classOutcome word negated (sideOf lent content subject)
@@ -72,13 +83,19 @@ module _ (lent : Lent) (content : List ℕ) (switches : ℕ) where
   unfoldable pub outcome : ℕ → ℕ → ℕ → Outcome
   outcome subject relation object = testOutcome (testOf relation) subject object
 
--- What the code needs to know of a simple condition before it reads the record: refusals 1 to 4 and 12 are ruled out, and the
+-- What the code needs to know of a simple condition before it reads the record: refusals 1 to 4, 18 and 12 are ruled out, and the
 -- condition has a sound shape and is well typed.
 pub record Readable (lent : Lent) (content : List ℕ) (subject relation object : ℕ) : Type 0 where
-  pub tables : firstOf (tableLines lent) ≡ Sound
+  pub tables : firstOf (lentLines lent) ≡ Sound
   pub holds : recordCheck lent content ≡ Sound
   pub shape : shapeSound lent (testOf relation) subject object ≡ true
   pub well : typed lent subject relation object ≡ true
+
+-- the same of a condition-name of the table
+pub record Named (lent : Lent) (content : List ℕ) (v : ℕ) : Type 0 where
+  pub tables : firstOf (lentLines lent) ≡ Sound
+  pub holds : recordCheck lent content ≡ Sound
+  pub there : v < nameCount (lent .names)
 
 -- a side whose row is sound, with as many bytes as its row says
 pub record Fit (s : Side) : Type 0 where

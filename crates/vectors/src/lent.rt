@@ -1,6 +1,7 @@
 // The four calls on what a case lends them.
 use crate::parts::ITEMS;
 use crate::parts::LITERALS;
+use crate::parts::NAMES;
 use crate::parts::TOKENS;
 use crate::parts::part;
 use crate::parts::switches;
@@ -11,25 +12,37 @@ use tables::Written;
 pub fn expand(words: &[u32], bytes: &[u8], output: &mut [u32]) -> Written {
     let items = part(words, ITEMS);
     let literals = part(words, LITERALS);
+    let names = part(words, NAMES);
     let tokens = part(words, TOKENS);
-    calls::expand(items, literals, bytes, tokens, output)
+    calls::expand(items, literals, bytes, names, tokens, output)
 }
 
 pub fn plan(words: &[u32], bytes: &[u8], tokens: &[u32], output: &mut [u32]) -> Written {
     let items = part(words, ITEMS);
     let literals = part(words, LITERALS);
-    calls::plan(items, literals, bytes, tokens, output)
+    let names = part(words, NAMES);
+    calls::plan(items, literals, bytes, names, tokens, output)
 }
 
 pub fn judge<'a>(words: &[u32], bytes: &'a [u8], record: &'a [u8]) -> Judged {
     let items = part(words, ITEMS);
     let literals = part(words, LITERALS);
+    let names = part(words, NAMES);
     let tokens = part(words, TOKENS);
-    calls::judge(items, literals, bytes, tokens, record, switches(words))
+    calls::judge(
+        items,
+        literals,
+        bytes,
+        names,
+        tokens,
+        record,
+        switches(words),
+    )
 }
 
 pub fn run<'a>(words: &[u32], bytes: &'a [u8], plan: &[u32], record: &'a [u8]) -> Judged {
     let items = part(words, ITEMS);
     let literals = part(words, LITERALS);
-    calls::run(items, literals, bytes, plan, record, switches(words))
+    let names = part(words, NAMES);
+    calls::run(items, literals, bytes, names, plan, record, switches(words))
 }

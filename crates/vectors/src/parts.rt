@@ -1,5 +1,5 @@
-// The parts of a case, each a count and so many words: items, literals, literal bytes, tokens, plan, record. Behind them stand
-// the switch byte and how many numbers expand and plan have room for.
+// The parts of a case, each a count and so many words: items, literals, literal bytes, names, tokens, plan,
+// record. Behind them stand the switch byte and how many numbers expand and plan have room for.
 
 // Room for the words of every case, and for the numbers of every output.
 pub const WORDS: usize = 2048;
@@ -12,13 +12,15 @@ pub const LITERALS: usize = 1;
 
 pub const BYTES: usize = 2;
 
-pub const TOKENS: usize = 3;
+pub const NAMES: usize = 3;
 
-pub const PLAN: usize = 4;
+pub const TOKENS: usize = 4;
 
-pub const RECORD: usize = 5;
+pub const PLAN: usize = 5;
 
-const PARTS: usize = 6;
+pub const RECORD: usize = 6;
+
+const PARTS: usize = 7;
 
 // The words behind the parts.
 const SWITCHES: usize = 0;

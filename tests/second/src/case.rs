@@ -2,11 +2,11 @@
 //!
 //! A file is one word with the number of cases, then the cases. A case is one
 //! word with the count of words that follow in it; then items, literals,
-//! literal bytes, tokens, plan and record, each as a count and so many words
-//! (one byte per word where they are bytes); then the switch byte, the room of
+//! literal bytes, names, tokens, plan and record, each as a count and so many
+//! words (one byte per word where they are bytes); then the switch byte, the room of
 //! expand's output and the room of plan's output.
 
-use crate::rules::Tables;
+use crate::rules::{Edition, Tables};
 use std::io::{self, Read, Write};
 
 /// What the four calls are given.
@@ -15,12 +15,15 @@ pub struct Case {
     pub items: Vec<u32>,
     pub literals: Vec<u32>,
     pub bytes: Vec<u8>,
+    pub names: Vec<u32>,
     pub tokens: Vec<u32>,
     pub plan: Vec<u32>,
     pub record: Vec<u8>,
     pub switches: u8,
     pub expand_room: usize,
     pub plan_room: usize,
+    /// In no file: the rules by which a case was made and is answered.
+    pub edition: Edition,
 }
 
 /// Outputs of more numbers and cases of more words than this are taken for a
@@ -34,13 +37,16 @@ impl Case {
             items: &self.items,
             literals: &self.literals,
             bytes: &self.bytes,
+            names: &self.names,
+            edition: self.edition,
         }
     }
 
     /// The count of words that follow in the case's binary form.
     pub fn words(&self) -> usize {
-        let numbers = self.items.len() + self.literals.len() + self.tokens.len() + self.plan.len();
-        numbers + self.bytes.len() + self.record.len() + 9
+        let tables = self.items.len() + self.literals.len() + self.names.len();
+        let bytes = self.bytes.len() + self.record.len();
+        tables + bytes + self.tokens.len() + self.plan.len() + 10
     }
 
     pub fn write(&self, output: &mut impl Write) -> io::Result<()> {
@@ -50,6 +56,7 @@ impl Case {
         put_words(&mut raw, &self.items);
         put_words(&mut raw, &self.literals);
         put_bytes(&mut raw, &self.bytes);
+        put_words(&mut raw, &self.names);
         put_words(&mut raw, &self.tokens);
         put_words(&mut raw, &self.plan);
         put_bytes(&mut raw, &self.record);
@@ -160,12 +167,14 @@ impl<'a> Words<'a> {
             items: self.words()?,
             literals: self.words()?,
             bytes: self.bytes()?,
+            names: self.words()?,
             tokens: self.words()?,
             plan: self.words()?,
             record: self.bytes()?,
             switches: self.byte()?,
             expand_room: self.room()?,
             plan_room: self.room()?,
+            edition: Edition::CURRENT,
         })
     }
 }

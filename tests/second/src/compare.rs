@@ -13,6 +13,8 @@ extern "C" {
         n_literals: usize,
         bytes: *const u8,
         n_bytes: usize,
+        names: *const u32,
+        n_names: usize,
         tokens: *const u32,
         n_tokens: usize,
         output: *mut u32,
@@ -26,6 +28,8 @@ extern "C" {
         n_literals: usize,
         bytes: *const u8,
         n_bytes: usize,
+        names: *const u32,
+        n_names: usize,
         tokens: *const u32,
         n_tokens: usize,
         output: *mut u32,
@@ -39,6 +43,8 @@ extern "C" {
         n_literals: usize,
         bytes: *const u8,
         n_bytes: usize,
+        names: *const u32,
+        n_names: usize,
         tokens: *const u32,
         n_tokens: usize,
         record: *const u8,
@@ -53,6 +59,8 @@ extern "C" {
         n_literals: usize,
         bytes: *const u8,
         n_bytes: usize,
+        names: *const u32,
+        n_names: usize,
         plan: *const u32,
         n_plan: usize,
         record: *const u8,
@@ -84,6 +92,8 @@ fn write(call: Writing, case: &Case, tokens: &[u32], output: &mut [u32]) -> Said
             case.literals.len(),
             case.bytes.as_ptr(),
             case.bytes.len(),
+            case.names.as_ptr(),
+            case.names.len(),
             tokens.as_ptr(),
             tokens.len(),
             output.as_mut_ptr(),
@@ -96,12 +106,12 @@ fn write(call: Writing, case: &Case, tokens: &[u32], output: &mut [u32]) -> Said
 
 /// Calls of judge and run have the same shape.
 #[derive(Clone, Copy)]
-enum Judging {
+pub enum Judging {
     Judge,
     Run,
 }
 
-fn judge(call: Judging, case: &Case, numbers: &[u32]) -> Said {
+pub fn judge(call: Judging, case: &Case, numbers: &[u32]) -> Said {
     let function = match call {
         Judging::Judge => oboecurlew_judge,
         Judging::Run => oboecurlew_run,
@@ -116,6 +126,8 @@ fn judge(call: Judging, case: &Case, numbers: &[u32]) -> Said {
             case.literals.len(),
             case.bytes.as_ptr(),
             case.bytes.len(),
+            case.names.as_ptr(),
+            case.names.len(),
             numbers.as_ptr(),
             numbers.len(),
             case.record.as_ptr(),

@@ -1,6 +1,7 @@
 //! Cases in readable form.
 
 use crate::case::Case;
+use crate::rules::names::NAME_ROW;
 use crate::rules::tables::ROW;
 use std::fmt::{self, Write};
 
@@ -25,7 +26,7 @@ pub const WORDS: [&str; 17] = [
     "ZERO",
 ];
 
-/// i0 is item row 0, l0 literal row 0, on0 and off0 switch 0.
+/// i0 is item row 0, l0 literal row 0, on0 and off0 switch 0, n0 name row 0.
 pub fn token(number: u32) -> String {
     let v = number & 0xFFFF;
     match number >> 16 {
@@ -34,6 +35,7 @@ pub fn token(number: u32) -> String {
         2 => format!("on{v}"),
         3 => format!("off{v}"),
         4 if v < 17 => WORDS[v as usize].to_string(),
+        5 => format!("n{v}"),
         _ => format!("<{number}>"),
     }
 }
@@ -73,15 +75,31 @@ pub fn show_rows(f: &mut fmt::Formatter, name: &str, table: &[u32], source: &[u8
     Ok(())
 }
 
+/// Rows of the name table, the zeros behind their values left out.
+pub fn show_names(f: &mut fmt::Formatter, names: &[u32]) -> fmt::Result {
+    writeln!(f, "names: {} numbers", names.len())?;
+    for (place, row) in names.chunks(NAME_ROW).enumerate() {
+        let used = row.iter().rposition(|&number| number != 0).unwrap_or(0);
+        writeln!(f, "  name {place}: {:?} of {}", &row[..=used], row.len())?;
+    }
+    Ok(())
+}
+
+pub fn show_plan(f: &mut fmt::Formatter, plan: &[u32]) -> fmt::Result {
+    writeln!(f, "plan: {} numbers", plan.len())?;
+    for (place, row) in plan.chunks(5).enumerate() {
+        writeln!(f, "  row {place}: {row:?}")?;
+    }
+    Ok(())
+}
+
 impl fmt::Display for Case {
     fn fmt(&self, f: &mut fmt::Formatter) -> fmt::Result {
         show_rows(f, "item", &self.items, &self.record)?;
         show_rows(f, "literal", &self.literals, &self.bytes)?;
+        show_names(f, &self.names)?;
         writeln!(f, "{} tokens: {}", self.tokens.len(), tokens(&self.tokens))?;
-        writeln!(f, "plan: {} numbers", self.plan.len())?;
-        for (place, row) in self.plan.chunks(5).enumerate() {
-            writeln!(f, "  row {place}: {row:?}")?;
-        }
+        show_plan(f, &self.plan)?;
         writeln!(f, "record: {} bytes", self.record.len())?;
         writeln!(f, "switches: {:08b}", self.switches)?;
         let (expand, plan) = (self.expand_room, self.plan_room);

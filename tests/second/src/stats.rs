@@ -7,7 +7,7 @@ use crate::rules::{self, Refusal, VERDICT_FALSE, VERDICT_TRUE};
 use std::fmt;
 
 /// One more than the greatest refusal number.
-const NUMBERS: usize = 18;
+const NUMBERS: usize = 19;
 
 /// Counts of answers by refusal number; 0 is success.
 type Histogram = [u64; NUMBERS];

@@ -13,6 +13,7 @@ struct Lent {
     items: Vec<u32>,
     literals: Vec<u32>,
     bytes: Vec<u32>,
+    names: Vec<u32>,
     tokens: Vec<u32>,
     record: Vec<u32>,
     plan: Vec<u32>,
@@ -25,6 +26,7 @@ impl Lent {
             "items" => &mut self.items,
             "literals" => &mut self.literals,
             "bytes" => &mut self.bytes,
+            "names" => &mut self.names,
             "condition" => &mut self.tokens,
             "record" => &mut self.record,
             "plan" => &mut self.plan,
@@ -62,6 +64,8 @@ impl Lent {
             items: &self.items,
             literals: &self.literals,
             bytes: &bytes,
+            names: &self.names,
+            ..Tables::default()
         };
         if all || asked == "expand" {
             let given = rules::expand(&tables, &self.tokens, &mut output);
@@ -112,7 +116,8 @@ fn list(value: &str, hexadecimal: bool) -> Vec<u32> {
 }
 
 /// a to z are items 0 to 25, A to Z literals 0 to 25, s0 is switch 0 on, o0
-/// switch 0 off; words and relations as document 01 has them.
+/// switch 0 off, n0 condition-name 0; words and relations as document 01 has
+/// them.
 fn token(word: &str) -> u32 {
     if let Ok(number) = word.parse() {
         return number;
@@ -125,6 +130,7 @@ fn token(word: &str) -> u32 {
         [literal @ b'A'..=b'Z'] => 65_536 + u32::from(literal - b'A'),
         [b's', number] => 2 * 65_536 + u32::from(number - b'0'),
         [b'o', number] => 3 * 65_536 + u32::from(number - b'0'),
+        [b'n', number] => 5 * 65_536 + u32::from(number - b'0'),
         _ => panic!("no such word: {word}"),
     }
 }

@@ -1,6 +1,6 @@
 //! Conditions: written by a walk along the grammar, then sometimes damaged.
 
-use super::{any_operand, any_switch, damage, find_operand, simple_condition, Facts};
+use super::{any_operand, any_switch, any_whole, damage, find_operand, simple_condition, Facts};
 use crate::case::Case;
 use crate::random::Random;
 
@@ -78,7 +78,7 @@ fn longest_expansion(random: &mut Random, case: &Case) -> Vec<u32> {
 pub fn any_token(random: &mut Random, case: &Case) -> u32 {
     match random.below(20) {
         0..=6 => any_operand(random, case).unwrap_or(NOT),
-        7 => any_switch(random),
+        7 => any_whole(random, case),
         8..=9 => NOT,
         10..=11 => random.pick(&[OPEN, CLOSE]),
         12..=14 => random.pick(&[AND, OR]),
@@ -289,7 +289,7 @@ impl Writer<'_> {
             if (exact - self.tokens.len()).is_multiple_of(2) {
                 self.tokens.push(NOT);
             }
-            let switch = any_switch(self.random);
+            let switch = any_switch(self.random, self.case);
             self.tokens.push(switch);
         }
     }

@@ -1,9 +1,11 @@
 //! Damage: one rule broken, mostly by one.
 
-use super::{any_operand, condition, find_operand, tables, Facts};
+use super::{any_operand, any_whole, condition, find_operand, names, tables, Facts};
 use crate::case::Case;
 use crate::random::Random;
+use crate::rules::names::NAME_ROW;
 use crate::rules::tables::ROW;
+use crate::rules::tokens::NAME;
 
 const WORD: u32 = 4 * 65_536;
 const WORD_10: u32 = WORD + 10;
@@ -27,7 +29,8 @@ pub fn change_tokens(random: &mut Random, case: &Case, tokens: &mut Vec<u32>) {
         10 => other_word(random, tokens, place),
         11 => bracket(random, tokens, place),
         12 => tokens.push(condition::any_token(random, case)),
-        13..=16 => break_typing(random, case, tokens, place),
+        13..=15 => break_typing(random, case, tokens, place),
+        16 => drop_carry(random, case, tokens, place),
         _ => tokens.insert(place, WORD + random.below(2)),
     }
 }
@@ -65,6 +68,16 @@ fn break_typing(random: &mut Random, case: &Case, tokens: &mut [u32], place: usi
     }
 }
 
+/// Puts a switch or a condition-name behind the next condition that is joined to
+/// another: what is abbreviated behind it has no carry.
+fn drop_carry(random: &mut Random, case: &Case, tokens: &mut Vec<u32>, place: usize) {
+    let is_joiner = |&token: &u32| matches!(token, condition::AND | condition::OR);
+    if let Some(next) = tokens[place..].iter().position(is_joiner) {
+        let whole = [tokens[place + next], any_whole(random, case)];
+        tokens.splice(place + next..place + next, whole);
+    }
+}
+
 /// Puts any other relation, class or sign word for the next one.
 fn other_word(random: &mut Random, tokens: &mut [u32], place: usize) {
     let is_word = |&token: &u32| token >= WORD + 5;
@@ -89,8 +102,8 @@ pub fn missing_token(random: &mut Random, case: &Case) -> u32 {
         2 => 2 * 65_536 + 8,
         3 => 3 * 65_536 + 8,
         4 => WORD + 17,
-        5 => 5 * 65_536 + random.below(8),
-        6 => random.below(5) * 65_536 + 65_535,
+        5 => NAME + (case.names.len() / NAME_ROW) as u32,
+        6 => random.below(7) * 65_536 + 65_535,
         7 => 0xFFFF_0000 + random.below(17),
         _ => random.any() as u32 | 0x8_0000,
     }
@@ -109,7 +122,7 @@ pub fn cut_record(random: &mut Random, case: &mut Case) {
 
 /// Leaves the tables of nine cases in ten alone; sometimes breaks two rules.
 pub fn damage_tables(random: &mut Random, case: &mut Case) {
-    if random.chance(100) {
+    if random.chance(120) {
         damage_a_table(random, case);
         if random.chance(200) {
             damage_a_table(random, case);
@@ -135,11 +148,12 @@ pub fn damage_item_table(random: &mut Random, case: &mut Case) {
     }
 }
 
-fn damage_a_table(random: &mut Random, case: &mut Case) {
+pub fn damage_a_table(random: &mut Random, case: &mut Case) {
     match random.below(20) {
         0..=3 => break_length(random, &mut case.items),
         4..=8 => break_item_row(random, case),
-        9..=12 => break_length(random, &mut case.literals),
+        9..=10 => break_length(random, &mut case.literals),
+        11..=15 => names::damage(random, case),
         _ => break_literal_row(random, case),
     }
 }
@@ -259,7 +273,21 @@ pub fn damage_plan(random: &mut Random, plan: &mut Vec<u32>) {
         7 => plan[start + 1] = random.pick(&[5, 7, 9, 10, 11, 14, 37, 42]),
         8 => plan[start + 2] = plan[start + 2].wrapping_add(1),
         9 => plan[start + 2] = random.pick(&[0, 1, 64, 65_536, 65_600, 131_072, WORD]),
-        10 => plan[start] = random.pick(&[0, 1, 64, 65_536, 131_079, 131_080, 196_616, WORD]),
+        10 => {
+            let tokens = [
+                0,
+                1,
+                64,
+                65_536,
+                131_079,
+                131_080,
+                196_616,
+                WORD,
+                NAME,
+                NAME + 64,
+            ];
+            plan[start] = random.pick(&tokens);
+        }
         11 => plan[start] = random.any() as u32,
         12 => plan[start + 2] = 0,
         _ => plan[start + random.index(5)] ^= 1 << random.below(32),

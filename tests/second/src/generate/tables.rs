@@ -1,6 +1,7 @@
 //! Valid item and literal tables with their bytes.
 
 use super::content::{self, Theme};
+use super::names;
 use crate::case::Case;
 use crate::random::Random;
 use crate::rules::tables::ROW;
@@ -10,6 +11,7 @@ pub fn fill(random: &mut Random, case: &mut Case) {
     fill_items(random, case);
     fill_record(random, &theme, case);
     fill_literals(random, &theme, case);
+    names::fill(random, &theme, case);
 }
 
 fn fill_items(random: &mut Random, case: &mut Case) {
@@ -120,7 +122,7 @@ pub fn fill_literals(random: &mut Random, theme: &Theme, case: &mut Case) {
         90..=98 => random.between(5, 9),
         _ => random.between(62, 64),
     };
-    for _ in 0..rows {
+    for _ in case.literals.len() / ROW..rows as usize {
         if case.literals.is_empty() || random.chance(850) {
             add_literal(random, theme, case);
         } else {
@@ -132,9 +134,19 @@ pub fn fill_literals(random: &mut Random, theme: &Theme, case: &mut Case) {
     }
 }
 
-fn add_literal(random: &mut Random, theme: &Theme, case: &mut Case) {
+pub fn add_literal(random: &mut Random, theme: &Theme, case: &mut Case) {
     let kind = random.pick(&[2, 2, 3, 3, 5]);
-    let [size, scale, digits] = measures(random, kind);
+    let measures = measures(random, kind);
+    add_literal_of(random, theme, kind, measures, case);
+}
+
+pub fn add_literal_of(
+    random: &mut Random,
+    theme: &Theme,
+    kind: u32,
+    [size, scale, digits]: [u32; 3],
+    case: &mut Case,
+) {
     let start = case.bytes.len();
     let row = [kind, start as u32, size, scale, digits];
     case.literals.extend(row);

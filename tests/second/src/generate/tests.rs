@@ -4,6 +4,7 @@ use super::*;
 use crate::answers;
 use crate::rules::content::{first_no_letter, first_wrong};
 use crate::rules::tables::Row;
+use crate::rules::tokens::LITERAL;
 use crate::rules::{VERDICT_FALSE, VERDICT_TRUE};
 use std::collections::HashSet;
 
@@ -27,6 +28,7 @@ struct Side<'a> {
     row: &'a [u32],
     place: usize,
     byte: u8,
+    /// The other side's kind, 10 more for a literal's; 99 where there is none.
     beside: u32,
 }
 
@@ -39,10 +41,10 @@ fn first_fault(row: &[u32], content: &[u8]) -> Option<usize> {
 
 fn stopped(case: &Case, refusal: Refusal) -> Stopped<'_> {
     let row = &case.plan[5 * refusal.place as usize..][..5];
-    let tokens = if row[1] % 32 < 10 {
-        vec![row[0], row[2]]
-    } else {
-        vec![row[0]]
+    let tokens = match (row[0] >> 16, row[1] % 32) {
+        (5, _) => vec![case.names[NAME_ROW * (row[0] - NAME) as usize]],
+        (_, 5..=9) => vec![row[0], row[2]],
+        _ => vec![row[0]],
     };
     let mut wrong = Vec::new();
     for (side, &token) in tokens.iter().enumerate() {
@@ -134,13 +136,15 @@ fn first_wrong_half(row: &[u32], place: usize, byte: u8) -> u32 {
 
 /// Runs that stop with 17: every place of sizes 1 to 6, beside every kind of
 /// item but the group and every kind of literal (10 more), digits, hyphens
-/// and bytes over 127; both sides wrong with 13 and 17 either way.
+/// and bytes over 127; both sides wrong with 13 and 17 either way; items of
+/// condition-names too.
 #[test]
 fn no_letters_at_every_place() {
     let mut places = HashSet::new();
     let mut besides = HashSet::new();
     let mut sorts = HashSet::new();
     let mut pairs = HashSet::new();
+    let mut names = 0;
     each_stop(29, 100_000, |stop| {
         if let [first, second] = &stop.wrong[..] {
             pairs.insert((stop.number, first.row[0] == 1, second.row[0] == 1));
@@ -157,7 +161,10 @@ fn no_letters_at_every_place() {
         } = stop.wrong[0];
         assert_eq!(row[0], 1);
         places.insert((side, row[2], place));
-        besides.insert((side, beside));
+        match beside {
+            99 => names += 1,
+            beside => drop(besides.insert((side, beside))),
+        }
         sorts.insert(match byte {
             b'0'..=b'9' => "digit",
             b'-' => "hyphen",
@@ -176,6 +183,7 @@ fn no_letters_at_every_place() {
         }
     }
     assert_eq!(besides.len(), 18);
+    assert!(names > 50, "{names}");
     assert_eq!(sorts.len(), 4);
     let both = [
         (17, true, false),
@@ -225,4 +233,43 @@ fn groups_of_kind_7() {
         }
     }
     assert_eq!(seen.len(), 24);
+}
+
+/// Condition-names over items of every kind, true and false, with values and with
+/// ranges of numbers and of texts where they may be compared; stops by 13 and 17;
+/// unsound tables.
+#[test]
+fn condition_names() {
+    let mut seen = HashSet::new();
+    let (mut refused, mut stopped) = (0, HashSet::new());
+    for index in 0..60_000 {
+        let case = case(37, index);
+        if case.names.is_empty() || case.record.len() > 2_000 {
+            continue;
+        }
+        for place in 0..(case.names.len() / NAME_ROW) as u32 {
+            let plan = [NAME + place, 0, 0, VERDICT_TRUE, VERDICT_FALSE];
+            match rules::run(&case.tables(), &plan, &case.record, 0).answer {
+                Ok(truth) => {
+                    let row = &case.names[NAME_ROW * place as usize..][..NAME_ROW];
+                    let kind = Facts::of(&case, row[0]).kind;
+                    let numeric = Facts::of(&case, LITERAL + row[2]).numeric();
+                    seen.insert((kind, numeric, row[2] == row[3], truth));
+                }
+                Err(Refusal { number: 18, .. }) => refused += 1,
+                Err(refusal) => drop(stopped.insert(refusal.number)),
+            }
+        }
+    }
+    for kind in 0..=9 {
+        for truth in [true, false] {
+            for alone in [true, false] {
+                assert!(seen.contains(&(kind, true, alone, truth)), "{kind}");
+                let text = seen.contains(&(kind, false, alone, truth));
+                assert!(text || kind >= 8, "{kind}");
+            }
+        }
+    }
+    assert!(refused > 1_000, "{refused}");
+    assert!(stopped.contains(&13) && stopped.contains(&17));
 }

@@ -10,7 +10,8 @@ pub const DEEPEST: usize = 16;
 #[derive(Clone, Copy, PartialEq, Eq, Debug)]
 pub enum Symbol {
     Operand,
-    Switch,
+    /// a simple condition of one token: a switch, or a condition-name (02, h)
+    Whole,
     Open,
     Close,
     Not,
@@ -37,7 +38,7 @@ pub const WORD_SYMBOLS: [Symbol; 17] = {
 pub fn symbol(token: u32) -> Symbol {
     match kind_of(token) {
         0 | 1 => Symbol::Operand,
-        2 | 3 => Symbol::Switch,
+        2 | 3 | 5 => Symbol::Whole,
         _ => WORD_SYMBOLS[v_of(token) as usize],
     }
 }
@@ -80,7 +81,8 @@ mod spot {
 /// condition may also be a relation and an object, or an object alone." "Class,
 /// sign and switch conditions, each "(" and each ")" drop the carry. AND, OR
 /// and a logical NOT keep it." "NOT directly before > < = belongs to the
-/// relation".
+/// relation". A condition-name "is a simple condition of its own, drops the
+/// carry" (02, h).
 pub const fn moves(symbol: Symbol) -> [(u16, u16); 3] {
     use spot::*;
     const NONE: (u16, u16) = (0, 0);
@@ -90,7 +92,7 @@ pub const fn moves(symbol: Symbol) -> [(u16, u16); 3] {
             (TERM_CARRY | BODY_CARRY, END_CARRY),
             (OBJECT, END_CARRY),
         ],
-        Symbol::Switch => [(BODY_COMES, END_NEW), NONE, NONE],
+        Symbol::Whole => [(BODY_COMES, END_NEW), NONE, NONE],
         Symbol::Open => [(BODY_COMES, TERM_NEW), NONE, NONE],
         Symbol::Close => [(ENDS, END_NEW), NONE, NONE],
         Symbol::Not => [
@@ -114,7 +116,7 @@ pub const MOVES: [[(u16, u16); 3]; 10] = {
     use Symbol::*;
     [
         moves(Operand),
-        moves(Switch),
+        moves(Whole),
         moves(Open),
         moves(Close),
         moves(Not),

@@ -6,7 +6,7 @@ use super::WITH_NOT;
 
 /// A simple condition with nothing omitted, as the first three numbers of a
 /// plan row: "A switch has 0, 0 after its token; class and sign rows have
-/// object 0."
+/// object 0." A condition-name's row "is the token, 0, 0" (02, h).
 #[derive(Clone, Copy)]
 pub struct Simple {
     pub subject: u32,
@@ -108,7 +108,7 @@ impl Iterator for Parts<'_> {
                     self.relation = v_of(token) + belonging;
                     return Some(self.simple(0, logical));
                 }
-                Symbol::Switch => {
+                Symbol::Whole => {
                     (self.subject, self.relation) = (token, 0);
                     return Some(self.simple(0, logical));
                 }

@@ -171,7 +171,7 @@ pub fn row_is_simple(tables: &Tables, simple: &Simple) -> bool {
         return false;
     }
     match (kind_of(simple.subject), simple.relation) {
-        (2 | 3, 0) => simple.object == 0,
+        (2 | 3 | 5, 0) => simple.object == 0,
         (0 | 1, 5..=9 | 37..=39) => operand_exists(tables, simple.object) && typed(tables, simple),
         (0 | 1, 10..=16 | 42..=48) => simple.object == 0 && typed(tables, simple),
         _ => false,

@@ -1,15 +1,20 @@
-//! The two tables: rows and refusals 1 to 4; the record they name parts of: 12.
+//! The tables of items and literals: rows and refusals 1 to 4; the record they name parts of: 12.
 
 use super::content::valid_content;
-use super::{refuse, Refusal};
+use super::names::check_names;
+use super::{refuse, Edition, Refusal};
 use std::ops::Range;
 
-/// The two tables and the literal bytes, lent to every call.
-#[derive(Clone, Copy, Debug)]
+/// The tables and the literal bytes, lent to every call: "a lent table of up to 64
+/// rows of 18 numbers" for condition-names too (02, h).
+#[derive(Clone, Copy, Debug, Default)]
 pub struct Tables<'a> {
     pub items: &'a [u32],
     pub literals: &'a [u32],
     pub bytes: &'a [u8],
+    pub names: &'a [u32],
+    /// Not lent: the rules by which the call goes.
+    pub edition: Edition,
 }
 
 /// "A row is four numbers: kind, offset, size in bytes, scale (digits after
@@ -118,10 +123,11 @@ pub fn check_items(items: &[u32]) -> Result<(), Refusal> {
 /// 1: "item table length not a multiple of 4, or over 256", place 0; 2: "an
 /// item row breaks its rules", "first such row"; 3, 4: "the same two for
 /// literals". "Tables are then multiples of 5 and at most 320 numbers, which
-/// amends refusals 1 to 4" (02, f).
+/// amends refusals 1 to 4" (02, f). 18 comes "just after 4" (02, h).
 pub fn check_tables(tables: &Tables) -> Result<(), Refusal> {
     check_items(tables.items)?;
-    check_literals(tables)
+    check_literals(tables)?;
+    check_names(tables)
 }
 
 pub fn check_literals(tables: &Tables) -> Result<(), Refusal> {

@@ -1,6 +1,7 @@
 //! The sixteen cases of the scope paper, its "also run" list, and refusals.
 
 mod grammar;
+mod names;
 mod packed;
 
 use super::tokens::{WORD, WORD_AND};
@@ -16,8 +17,7 @@ const ABCD: [u32; 20] = [3, 0, 2, 0, 2, 3, 2, 2, 0, 2, 3, 4, 2, 0, 2, 3, 6, 2, 0
 fn items_only(items: &[u32]) -> Tables<'_> {
     Tables {
         items,
-        literals: &[],
-        bytes: &[],
+        ..Tables::default()
     }
 }
 
@@ -533,6 +533,7 @@ fn table_refusals() {
             items,
             literals,
             bytes,
+            ..Tables::default()
         };
         let judged = judge(&tables, &tokens("p"), &[0; 80_000], 0);
         let refusal = judged.answer.unwrap_err();

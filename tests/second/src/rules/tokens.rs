@@ -1,9 +1,14 @@
 //! Tokens and the rows they name; refusals 5 and 6.
 
+use super::names::NAME_ROW;
 use super::tables::{Row, Tables, ROW};
-use super::{refuse, Refusal};
+use super::{refuse, Edition, Refusal};
 
-/// "A token is kind × 65,536 + v": the words as tokens.
+/// "A token is kind × 65,536 + v".
+pub const LITERAL: u32 = 65_536;
+/// "Add token kind 5 for a condition-name" (02, h).
+pub const NAME: u32 = 5 * 65_536;
+/// The words as tokens.
 pub const WORD: u32 = 4 * 65_536;
 pub const WORD_OPEN: u32 = WORD;
 pub const WORD_CLOSE: u32 = WORD + 1;
@@ -48,12 +53,15 @@ pub fn check_each_token(tokens: &[u32], exists: impl Fn(u32) -> bool) -> Result<
     }
 }
 
-/// The table of token kinds: items, literals, switches "(v 0 to 7)", words 0 to 16.
+/// The table of token kinds: items, literals, switches "(v 0 to 7)", words 0 to 16,
+/// condition-names (02, h); "token kind 3 is retired" (02, l).
 pub fn exists(tables: &Tables, token: u32) -> bool {
     match kind_of(token) {
         0 | 1 => operand_exists(tables, token),
-        2 | 3 => v_of(token) <= 7,
+        2 => v_of(token) <= 7,
+        3 => v_of(token) <= 7 && tables.edition == Edition::WithOffSwitches,
         4 => v_of(token) <= 16,
+        5 => (v_of(token) as usize) < tables.names.len() / NAME_ROW,
         _ => false,
     }
 }

@@ -22,7 +22,8 @@ pub fn check_typing(tables: &Tables, tokens: &[u32]) -> Result<usize, Refusal> {
 /// NUMERIC for kinds 2 to 6, the alphabetic tests for 0 to 2"; "sign: an item
 /// of kinds 3 to 6". Both class tests take kind 7, a group: "NUMERIC on it means
 /// all digits" (02, b). "NUMERIC [...] and sign tests are allowed on packed
-/// items" (02, f). A switch has no typing.
+/// items" (02, f). A switch has no typing; a condition-name's values may be
+/// compared with its item, or 18 was given.
 pub fn typed(tables: &Tables, simple: &Simple) -> bool {
     let subject = simple.subject;
     let kind = || is_item(subject).then(|| row_of(tables, subject).kind);

@@ -3,9 +3,10 @@
 use super::content::{
     all_digits, digits, first_no_letter, first_wrong, valid_content, value, Digits,
 };
+use super::names::name_of;
 use super::parts::Simple;
 use super::tables::{Row, Tables};
-use super::tokens::{is_item, kind_of, row_of, v_of};
+use super::tokens::{is_item, kind_of, row_of, v_of, LITERAL};
 use super::{Refusal, WITH_NOT};
 use std::cmp::Ordering;
 use std::iter;
@@ -65,6 +66,7 @@ pub fn test(tables: &Tables, simple: &Simple, record: &[u8], switches: u8) -> Re
     let object = || operand(tables, simple.object, record);
     let word = simple.relation % WITH_NOT;
     let holds = match word {
+        0 if kind_of(simple.subject) == 5 => name_holds(tables, simple.subject, record)?,
         0 => switch_holds(simple.subject, switches),
         5..=9 => relation_holds(word, compare(&subject(), &object())?),
         10 => numeric_holds(&subject()),
@@ -79,6 +81,28 @@ pub fn test(tables: &Tables, simple: &Simple, record: &[u8], switches: u8) -> Re
 fn switch_holds(token: u32, switches: u8) -> bool {
     let on = switches & (0x80 >> v_of(token)) != 0;
     on == (kind_of(token) == 2)
+}
+
+/// "True if the item equals one value or lies in one range by 01's comparison";
+/// "an invalid item gives 13 or 17" (02, h): whichever literal it stands beside.
+fn name_holds(tables: &Tables, token: u32, record: &[u8]) -> Result<bool, Stop> {
+    let name = name_of(tables, token);
+    let item = operand(tables, name.item, record);
+    let beside = |row: u32| compare(&item, &operand(tables, LITERAL + row, record));
+    for [low, high] in name.pairs() {
+        if beside(low)? != Ordering::Less && beside(high)? != Ordering::Greater {
+            return Ok(true);
+        }
+    }
+    Ok(false)
+}
+
+/// Whether two literals are the ends of a range: both numeric or neither, and the
+/// low one not above the high one, "by 01's comparison" of the two.
+pub fn literals_ordered(tables: &Tables, pair: [u32; 2]) -> bool {
+    let [low, high] = pair.map(|row| operand(tables, LITERAL + row, &[]));
+    low.row.numeric() == high.row.numeric()
+        && compare(&low, &high).is_ok_and(|order| order != Ordering::Greater)
 }
 
 /// Words 5 to 9: > < = >= <=.

@@ -8,7 +8,7 @@ use denote.Ref.{now}
 use borrow.Author.Needs.{needs}
 use Rattle.tables.specs.declared.Check.{Check}
 use Rattle.tables.specs.declared.Refusal.the-variants.{PlanRow as PlanFault}
-use Rattle.tables.specs.Operands.{lend}
+use Rattle.tables.specs.Operands.{lendNames}
 use Rattle.tables.specs.Refusals.{unless, firstOf}
 use Rattle.tables.proofs.Lines.{test-passed, test-failed, Passed, passed-none, passed-more, failed-at, passed-all, line-sound, line-refused, line-last}
 use Rattle.grammar.specs.Plan.{planRow, planRowSound, planLengthSound}
@@ -20,15 +20,15 @@ past : (plan : List ℕ) {line : Check} → not (planLengthSound plan) ≡ false
 past plan e = sym (line-sound _ (test-passed {b = planLengthSound plan} (PlanFault 0) refl e) ∙ line-last _)
 
 abbrev Inv-loop : tie.InvT-loop
-Inv-loop items literals plan rows k₀ k = Passed (λ v. planRowSound (lend items literals []) rows v (planRow plan v)) PlanFault rows k
+Inv-loop items literals names plan rows k₀ k = Passed (λ v. planRowSound (lendNames items literals [] names) rows v (planRow plan v)) PlanFault rows k
 
 abbrev μ-loop : tie.MeasureT-loop
-μ-loop items literals plan rows k₀ k = rows - k
+μ-loop items literals names plan rows k₀ k = rows - k
 
 returns : tie.Need-returns Inv-loop μ-loop
 returns c =
     sym
-    (line-refused _ (test-failed {b = planLengthSound (now (c .before .before .before .before .args .plan))} (PlanFault 0) refl (c .if1 .taken)))
+    (line-refused _ (test-failed {b = planLengthSound (now (c .before .before .before .before .before .args .plan))} (PlanFault 0) refl (c .if1 .taken)))
 
 loop-holds : tie.Need-loop-holds Inv-loop μ-loop
 loop-holds c = passed-none _ _ _
@@ -43,7 +43,7 @@ returns-2 : tie.Need-returns-2 Inv-loop μ-loop
 returns-2 c =
     let row = rw (c .before .before .plan-row .ensures) at (c .before .row-sound .ensures) in
     failed-at (c .before .before .before .before .loop .inv) (c .before .before .before .loop-test .taken) row (c .if2 .taken)
-    ∙ past (now (c .before .before .before .before .before .before .before .before .before .args .plan)) (c .before .before .before .before .before .if1 .left)
+    ∙ past (now (c .before .before .before .before .before .before .before .before .before .before .args .plan)) (c .before .before .before .before .before .if1 .left)
 
 add-k : tie.Need-add-k Inv-loop μ-loop
 add-k c = omega arith
@@ -59,7 +59,7 @@ loop-again c =
 returns-3 : tie.Need-returns-3 Inv-loop μ-loop
 returns-3 c =
     passed-all (c .before .loop .inv) (c .loop-test .left)
-    ∙ past (now (c .before .before .before .before .before .before .args .plan)) (c .before .before .if1 .left)
+    ∙ past (now (c .before .before .before .before .before .before .before .args .plan)) (c .before .before .if1 .left)
 
 pub check-plan-spec : {M : Type 1} → statement M
 check-plan-spec =

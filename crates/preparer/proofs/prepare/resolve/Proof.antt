@@ -41,7 +41,7 @@ enum-known-parsed-2 : tie.Need-enum-known-parsed-2
 enum-known-parsed-2 c = search needs
 
 check-typing-requires : tie.Need-check-typing-requires
-check-typing-requires c κs = shaped-rows _ _ _ _ (c .before .before .before .before .before .before .before .before .before .before .before .before .before .check-depth .ensures) (c .before .before .before .before .before .before .before .before .before .before .before .before .parsed-tokens .ensures .0) (rw (c .before .before .parsed2 .given .1) at (c .before .before .before .before .before .before .before .before .before .parse .ensures)) (rw (c .before .before .parsed2 .given .1) at (c .before .before .before .before .before .before .earlier-of .ensures)) (c .before .before .before .before .enum-told .given .1) (c .before .before .before .before .before .before .before .before .before .before .before .before .before .before .before .before .before .before .pre .1)
+check-typing-requires c κs = shaped-rows _ _ _ _ _ (c .before .before .before .before .before .before .before .before .before .before .before .before .before .check-depth .ensures) (c .before .before .before .before .before .before .before .before .before .before .before .before .parsed-tokens .ensures .0) (rw (c .before .before .parsed2 .given .1) at (c .before .before .before .before .before .before .before .before .before .parse .ensures)) (rw (c .before .before .parsed2 .given .1) at (c .before .before .before .before .before .before .earlier-of .ensures)) (c .before .before .before .before .enum-told .given .1) (c .before .before .before .before .before .before .before .before .before .before .before .before .before .before .before .before .before .before .pre .1)
 
 enum-told-2 : tie.Need-enum-told-2
 enum-told-2 c = search needs
@@ -59,13 +59,13 @@ same-length-3 : tie.Need-same-length-3
 same-length-3 c = search needs
 
 returns-3 : tie.Need-returns-3
-returns-3 c = resolved _ _ _ _ (c .before .before .before .before .before .before .before .before .before .before .before .before .before .before .before .before .check-depth .ensures) (c .before .before .before .before .before .before .before .before .before .before .before .before .before .before .before .parsed-tokens .ensures .0) (rw (c .before .before .before .before .before .parsed2 .given .1) at (c .before .before .before .before .before .before .before .before .before .before .before .before .parse .ensures)) (rw (c .before .before .before .before .before .parsed2 .given .1) at (c .before .before .before .before .before .before .before .before .before .earlier-of .ensures)) (c .before .before .before .before .before .before .before .enum-told .given .1) (c .before .before .before .before .before .before .before .before .before .before .before .before .before .before .before .before .before .before .before .before .before .pre .1) (c .before .before .check-typing .ensures) (c .enum-told2 .given .1)
+returns-3 c = resolved _ _ _ _ _ (c .before .before .before .before .before .before .before .before .before .before .before .before .before .before .before .before .check-depth .ensures) (c .before .before .before .before .before .before .before .before .before .before .before .before .before .before .before .parsed-tokens .ensures .0) (rw (c .before .before .before .before .before .parsed2 .given .1) at (c .before .before .before .before .before .before .before .before .before .before .before .before .parse .ensures)) (rw (c .before .before .before .before .before .parsed2 .given .1) at (c .before .before .before .before .before .before .before .before .before .earlier-of .ensures)) (c .before .before .before .before .before .before .before .enum-told .given .1) (c .before .before .before .before .before .before .before .before .before .before .before .before .before .before .before .before .before .before .before .before .before .pre .1) (c .before .before .check-typing .ensures) (c .enum-told2 .given .1)
 
 same-length-4 : tie.Need-same-length-4
 same-length-4 c = search needs
 
 returns-4 : tie.Need-returns-4
-returns-4 c = typing-refused _ _ _ _ (c .before .before .before .before .before .before .before .before .before .before .before .before .before .before .before .before .before .check-depth .ensures) (c .before .before .before .before .before .before .before .before .before .before .before .before .before .before .before .before .parsed-tokens .ensures .0) (rw (c .before .before .before .before .before .before .parsed2 .given .1) at (c .before .before .before .before .before .before .before .before .before .before .before .before .before .parse .ensures)) (rw (c .before .before .before .before .before .before .parsed2 .given .1) at (c .before .before .before .before .before .before .before .before .before .before .earlier-of .ensures)) (c .before .before .before .before .before .before .before .before .enum-told .given .1) (c .before .before .before .before .before .before .before .before .before .before .before .before .before .before .before .before .before .before .before .before .before .before .pre .1) (c .before .before .before .check-typing .ensures) (c .before .typing .given .1)
+returns-4 c = typing-refused _ _ _ _ _ (c .before .before .before .before .before .before .before .before .before .before .before .before .before .before .before .before .before .check-depth .ensures) (c .before .before .before .before .before .before .before .before .before .before .before .before .before .before .before .before .parsed-tokens .ensures .0) (rw (c .before .before .before .before .before .before .parsed2 .given .1) at (c .before .before .before .before .before .before .before .before .before .before .before .before .before .parse .ensures)) (rw (c .before .before .before .before .before .before .parsed2 .given .1) at (c .before .before .before .before .before .before .before .before .before .before .earlier-of .ensures)) (c .before .before .before .before .before .before .before .before .enum-told .given .1) (c .before .before .before .before .before .before .before .before .before .before .before .before .before .before .before .before .before .before .before .before .before .before .pre .1) (c .before .before .before .check-typing .ensures) (c .before .typing .given .1)
 
 pub resolve-spec : {M : Type 1} → statement M
 resolve-spec =

@@ -1,11 +1,11 @@
 -- Each return cites how the parser goes on by the first token.
-use mathlib.Core.Path.{_≡_, refl}
+use mathlib.Core.Path.{_≡_, refl, sym, _∙_}
 use native.Mathlib.Omega.{arith}
 use borrow.Author.Needs.{needs}
 use Rattle.reader.specs.Reads.{carryOf}
 use Rattle.reader.proofs.Looking.{inside}
 use Rattle.reader.proofs.Resolving.{Here, short-here, no-short, carries-none, reads-row, reads-stuck, reads-on}
-use Rattle.reader.proofs.Resolving.{at-operand, at-switch, at-bound, at-no-simple}
+use Rattle.reader.proofs.Resolving.{word-here, within-false, at-operand, at-switch, at-name, at-bound, at-no-simple}
 use Rattle.reader.proofs.simple.read_simple.Statement.{statement}
 use Rattle.reader.proofs.simple.read_simple.Tie as tie
 
@@ -27,26 +27,42 @@ returns-2 c =
     (at-switch _ _ e (carryOf (c .before .before .before .before .before .args .carry)) (c .before .before .if1 .left) (c .before .if2 .taken))
     (carries-none _ refl) (omega arith) (omega arith))
 
+-- a condition-name
+named : (c : tie.Then3) → let t = c .before .before .before .before in
+    Here (t .before .before .args .tokens .now) (t .before .before .args .at) (t .peek .result) 327680 393215
+named c = word-here _ _ 327680 393215 (c .before .before .before .before .peek .ensures) (omega arith) (c .before .is-name .ensures) (c .if3 .taken)
+
+returns-3 : tie.Need-returns-3
+returns-3 c =
+    let e = c .before .before .before .before .before .peek .ensures in
+    let (l, h, i) = named (c .before) in
+    rw (c .tested2 .ensures)
+    (reads-row _ 1 _ _ _ (at-name _ _ e (carryOf (c .before .before .before .before .before .before .before .args .carry)) l h)
+    (carries-none _ refl) (omega arith) (omega arith))
+
 -- >= or <= where a relation is carried
-short : (c : tie.Then3) → let a = c .before .before .before .before .before .before .args in Here (a .tokens .now) (a .at) (c .before .before .before .before .peek .result) 262152 262153 × (a .carry .relation ≡ 0 → ⊥)
-short c = short-here _ _ _ _ _ _ (c .before .before .before .before .peek .ensures) (omega arith) (c .before .is-bound .ensures) (c .if3 .taken)
+short : (c : tie.Then4) → let t = c .before .before .before .before .before .before in
+    Here (t .before .before .args .tokens .now) (t .before .before .args .at) (t .peek .result) 262152 262153 × (t .before .before .args .carry .relation ≡ 0 → ⊥)
+short c = short-here _ _ _ _ _ _ (c .before .before .before .before .before .before .peek .ensures) (omega arith) (c .before .is-bound .ensures) (c .if4 .taken)
 
 read-object-requires : tie.Need-read-object-requires
 read-object-requires c κs = omega (arith, short c .0)
 
-returns-3 : tie.Need-returns-3
-returns-3 c =
-    let a = c .before .before .before .before .before .before .before .args in
-    let ((l, h, i), n) = short (c .before) in
-    reads-on _ 1 _ _ _ 1 _ (c .read-object .result)
-    (at-bound _ _ (c .before .before .before .before .before .peek .ensures) (a .carry) (c .before .before .before .if2 .left) n l h)
-    (omega arith) (omega arith) (c .read-object .ensures)
-
 returns-4 : tie.Need-returns-4
 returns-4 c =
-    let a = c .before .before .before .before .before .before .args in
+    let t = c .before .before .before .before .before .before .before in
+    let ((l, h, i), n) = short (c .before) in
+    reads-on _ 1 _ _ _ 1 _ (c .read-object .result)
+    (at-bound _ _ (t .peek .ensures) (t .before .before .args .carry) (c .before .before .before .before .before .if2 .left) (λ l. omega arith) n l h)
+    (omega arith) (omega arith) (c .read-object .ensures)
+
+returns-5 : tie.Need-returns-5
+returns-5 c =
+    let t = c .before .before .before .before .before .before in
+    let unnamed = within-false 327680 393215 (t .peek .result) (sym (c .before .before .before .is-name .ensures) ∙ c .before .before .if3 .left) in
     reads-stuck _ 1 _ _
-    (at-no-simple _ _ (c .before .before .before .before .peek .ensures) (a .carry) (c .before .before .if2 .left) (no-short _ _ _ _ (c .before .is-bound .ensures) (c .if3 .left)))
+    (at-no-simple _ _ (t .peek .ensures) (t .before .before .args .carry) (c .before .before .before .before .if2 .left) unnamed
+    (no-short _ _ _ _ (c .before .is-bound .ensures) (c .if4 .left)))
     (omega arith) (omega arith)
 
 pub read-simple-spec : {M : Type 1} → statement M
@@ -61,7 +77,11 @@ read-simple-spec =
     (λ c κs. search needs)
     returns-2
     (λ c κs. search needs)
+    (λ c. omega (arith, named c))
+    (λ c κs. search needs)
+    returns-3
+    (λ c κs. search needs)
     (λ c. search needs)
     read-object-requires
-    returns-3
-    returns-4)
+    returns-4
+    returns-5)

@@ -23,8 +23,8 @@ switch-there items literals token = by (ℕ-discrete (token / 65536) 2) (ℕ-dis
 enum-told : tie.Need-enum-told
 enum-told c = search needs
 
-switch-exists-requires : tie.Need-switch-exists-requires
-switch-exists-requires c κs = search needs
+alone-exists-requires : tie.Need-alone-exists-requires
+alone-exists-requires c κs = search needs
 
 enum-told-2 : tie.Need-enum-told-2
 enum-told-2 c = search needs
@@ -48,7 +48,7 @@ enum-told-5 : tie.Need-enum-told-5
 enum-told-5 c = search needs
 
 returns : tie.Need-returns
-returns c = rw (c .before .enum-told .given .1, c .switch-exists .ensures, ← switch-there)
+returns c = rw (c .before .enum-told .given .1, c .alone-exists .ensures, ← switch-there)
 
 returns-2 : tie.Need-returns-2
 returns-2 c = rw (c .before .enum-told2 .given .1) (c .two-operands .ensures)
@@ -67,7 +67,7 @@ shape-sound-spec =
     tie.close
     (tie.spec
     enum-told
-    switch-exists-requires
+    alone-exists-requires
     enum-told-2
     two-operands-requires
     enum-told-3

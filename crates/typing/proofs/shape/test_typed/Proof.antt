@@ -17,13 +17,13 @@ enum-known-test : tie.Need-enum-known-test
 enum-known-test c = search needs
 
 class-typed-requires : tie.Need-class-typed-requires
-class-typed-requires c κs = both _ _ (rw (c .before .test .given .1) at (c .before .before .before .before .before .pre)) .0
+class-typed-requires c κs = rw (c .before .test .given .1) at (c .before .before .before .before .before .pre)
 
 enum-told-3 : tie.Need-enum-told-3
 enum-told-3 c = search needs
 
 sign-typed-requires : tie.Need-sign-typed-requires
-sign-typed-requires c κs = both _ _ (rw (c .enum-told3 .given .1) at (c .before .before .before .before .pre)) .0
+sign-typed-requires c κs = rw (c .enum-told3 .given .1) at (c .before .before .before .before .pre)
 
 enum-told-4 : tie.Need-enum-told-4
 enum-told-4 c = search needs

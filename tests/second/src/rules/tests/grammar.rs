@@ -15,7 +15,7 @@ const NOT: u8 = 4;
 fn all_symbols() -> [Symbol; 10] {
     use Symbol::*;
     [
-        Operand, Switch, Open, Close, Not, And, Or, Plain, Joined, Test,
+        Operand, Whole, Open, Close, Not, And, Or, Plain, Joined, Test,
     ]
 }
 

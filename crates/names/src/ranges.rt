@@ -1,0 +1,174 @@
+// A condition-name's truth: its item is read once, and compared with each value or range until one holds.
+ghost use mathlib.Core.Path.{_≡_};
+ghost use mathlib.Core.Bool.{true, false};
+ghost use mathlib.Core.List.{[]};
+ghost use Prim.Native.Nat.{_<_};
+ghost use lib.ListN.{length, getD};
+ghost use Rattle.tables.specs.Rows.{rowCount};
+ghost use Rattle.tables.specs.Operands.{lend, lendNames};
+ghost use Rattle.values.specs.Comparison.{side, comparison};
+ghost use Rattle.values.specs.Names.{literalSide, inRange, nameHolds};
+ghost use Rattle.values.specs.Truth.{nameOutcome, Named, Fit};
+ghost use Rattle.names.specs.Ranges.{Held, Literals, Pairs};
+use compare::Number;
+use compare::Order;
+use compare::orders::relation_holds;
+use content::fields::valid_content;
+use numbers::fields::read_number;
+use numbers::scaled::compare_scaled;
+use tables::Outcome;
+use tables::Row;
+use tables::rows::is_numeric;
+use tables::rows::row_at;
+use tables::rows::row_part;
+use values::sides::compare_sides;
+use values::sides::stop_at;
+
+// A number of the name table.
+pub fn number_at(names: &[u32], at: usize) -> usize
+    requires { ⌜ at < length (now names) ⌝ }
+    ensures { λ r. ⌜ r ≡ getD (now (names .entry)) at 0 ⌝ }
+{
+    wide(names[at])
+}
+
+fn wide(x: u32) -> usize
+    ensures { λ r. ⌜ r ≡ x ⌝ }
+{
+    x as usize
+}
+
+// What a field holds, for all its comparisons.
+pub fn held(row: Row, bytes: &[u8]) -> Number
+    requires { ⌜ Fit (side true row (now bytes)) ⌝ }
+    ensures { λ r. ⌜ Held row (now (bytes .entry)) r ⌝ }
+{
+    if is_numeric(row) {
+        return read_number(row.kind, row.digits, bytes);
+    }
+    Number {
+        valid: valid_content(row.kind, row.digits, bytes),
+        minus: false,
+        digits: 0,
+    }
+}
+
+// 01's comparison of a side with a literal: by value where both are numeric, else by characters.
+pub fn compare_literal(
+    item: bool,
+    row: Row,
+    bytes: &[u8],
+    number: Number,
+    literal: Row,
+    value: &[u8],
+) -> Order
+    requires { ⌜ Fit (side item row (now bytes)) × Fit (side false literal (now value)) ⌝ }
+    requires { ⌜ Held row (now bytes) number ⌝ }
+    ensures { λ r. ⌜ r ≡ comparison (side item row (now (bytes .entry))) (side false literal (now (value .entry))) ⌝ }
+{
+    if is_numeric(row) & is_numeric(literal) {
+        let right = read_number(literal.kind, literal.digits, value);
+        return compare_scaled(
+            number.minus,
+            number.digits,
+            row.scale,
+            right.minus,
+            right.digits,
+            literal.scale,
+        );
+    }
+    compare_sides(item, row, bytes, false, literal, value)
+}
+
+// The item and a literal, by its row.
+fn compare_end(
+    row: Row,
+    part: &[u8],
+    number: Number,
+    literals: &[u32],
+    bytes: &[u8],
+    end: usize,
+) -> Order
+    requires { ⌜ Fit (side true row (now part)) × Held row (now part) number ⌝ }
+    requires { ⌜ Literals (now literals) (now bytes) × (end < rowCount (now literals)) ⌝ }
+    ensures { λ r. ⌜ r ≡ comparison (side true row (now (part .entry))) (literalSide (lend [] (now (literals .entry)) (now (bytes .entry))) end) ⌝ }
+{
+    let literal = row_at(literals, end);
+    compare_literal(true, row, part, number, literal, row_part(literal, bytes))
+}
+
+// The item lies in a range, ends included; of a single value, whose ends are one literal, one comparison tells.
+fn in_range(
+    row: Row,
+    part: &[u8],
+    number: Number,
+    literals: &[u32],
+    bytes: &[u8],
+    low: usize,
+    high: usize,
+) -> bool
+    requires { ⌜ Fit (side true row (now part)) × Held row (now part) number ⌝ }
+    requires { ⌜ Literals (now literals) (now bytes) × (low < rowCount (now literals)) × (high < rowCount (now literals)) ⌝ }
+    ensures { λ r. ⌜ r ≡ inRange (side true row (now (part .entry))) (literalSide (lend [] (now (literals .entry)) (now (bytes .entry))) low) (literalSide (lend [] (now (literals .entry)) (now (bytes .entry))) high) ⌝ }
+{
+    let order = compare_end(row, part, number, literals, bytes, low);
+    if low == high {
+        return relation_holds(7, order);
+    }
+    if !relation_holds(8, order) {
+        return false;
+    }
+    relation_holds(9, compare_end(row, part, number, literals, bytes, high))
+}
+
+// Whether the item lies in one of the name's ranges: they are tried in order.
+fn some_range(
+    row: Row,
+    part: &[u8],
+    number: Number,
+    literals: &[u32],
+    bytes: &[u8],
+    names: &[u32],
+    v: usize,
+) -> bool
+    requires { ⌜ Fit (side true row (now part)) × Held row (now part) number ⌝ }
+    requires { ⌜ Literals (now literals) (now bytes) × Pairs (now literals) (now names) v ⌝ }
+    ensures { λ r. ⌜ r ≡ nameHolds (lendNames [] (now (literals .entry)) (now (bytes .entry)) (now (names .entry))) (side true row (now (part .entry))) v ⌝ }
+{
+    let at = v * 18;
+    let pairs = number_at(names, at + 1);
+    let mut k: usize = 0;
+    while k < pairs {
+        let low = number_at(names, at + 2 + k * 2);
+        let high = number_at(names, at + 3 + k * 2);
+        if in_range(row, part, number, literals, bytes, low, high) {
+            return true;
+        }
+        k += 1;
+    }
+    false
+}
+
+// What condition-name v comes to: the stop at its item's first wrong byte, or its truth.
+pub fn name_outcome(
+    items: &[u32],
+    literals: &[u32],
+    bytes: &[u8],
+    names: &[u32],
+    record: &[u8],
+    v: usize,
+) -> Outcome
+    requires { ⌜ Named (lendNames (now items) (now literals) (now bytes) (now names)) (now «record») v ⌝ }
+    ensures { λ r. ⌜ r ≡ nameOutcome (lendNames (now (items .entry)) (now (literals .entry)) (now (bytes .entry)) (now (names .entry))) (now («record» .entry)) v ⌝ }
+{
+    let row = row_at(items, number_at(names, v * 18));
+    let part = row_part(row, record);
+    let number = held(row, part);
+    if !number.valid {
+        return stop_at(row, part);
+    }
+    if some_range(row, part, number, literals, bytes, names, v) {
+        return Outcome::True;
+    }
+    Outcome::False
+}
