@@ -15,7 +15,8 @@ enum-known-lent c = search needs
 returns : tie.Need-returns
 returns c =
     let a = c .before .before .before .before .before .before .before .before .before .before .before .before .args in
-    sym (lent-refuses (now (a .items)) (now (a .literals)) (now (a .bytes)) (now (a .names)) (now (a .plan)) (now (a .old)) (now (a .first)) (now (a .second)) (sym (c .before .before .before .check-lent .ensures) ∙ c .before .lent .given .1))
+    sym (lent-refuses (now (a .items)) (now (a .literals)) (now (a .bytes)) (now (a .names)) (now (a .plan)) (now (a .old)) (now (a .first)) (now (a .second))
+    (sym (c .before .before .before .check-lent .ensures) ∙ c .before .lent .given .1))
 
 enum-told : tie.Need-enum-told
 enum-told c = search needs
@@ -30,7 +31,8 @@ returns-2 : tie.Need-returns-2
 returns-2 c =
     let a = c .before .before .before .before .before .before .before .before .before .before .before .before .before .before .before .args in
     let lent = sym (c .before .before .before .before .before .before .check-lent .ensures) ∙ c .before .before .before .before .enum-told .given .1 in
-    sym (overlap-refuses (now (a .items)) (now (a .literals)) (now (a .bytes)) (now (a .names)) (now (a .plan)) (now (a .old)) (now (a .first)) (now (a .second)) lent (sym (c .before .before .before .check-overlap .ensures) ∙ c .before .overlap .given .1))
+    sym (overlap-refuses (now (a .items)) (now (a .literals)) (now (a .bytes)) (now (a .names)) (now (a .plan)) (now (a .old)) (now (a .first)) (now (a .second)) lent
+    (sym (c .before .before .before .check-overlap .ensures) ∙ c .before .overlap .given .1))
 
 enum-told-2 : tie.Need-enum-told-2
 enum-told-2 c = search needs
@@ -46,7 +48,8 @@ returns-3 c =
     let a = c .before .before .before .before .before .before .before .before .before .before .before .before .before .before .before .before .before .before .args in
     let lent = sym (c .before .before .before .before .before .before .before .before .before .check-lent .ensures) ∙ c .before .before .before .before .before .before .before .enum-told .given .1 in
     let overlap = sym (c .before .before .before .before .before .before .check-overlap .ensures) ∙ c .before .before .before .before .enum-told2 .given .1 in
-    sym (lengths-refuse (now (a .items)) (now (a .literals)) (now (a .bytes)) (now (a .names)) (now (a .plan)) (now (a .old)) (now (a .first)) (now (a .second)) lent overlap (sym (c .before .before .before .check-lengths .ensures) ∙ c .before .lengths .given .1))
+    sym (lengths-refuse (now (a .items)) (now (a .literals)) (now (a .bytes)) (now (a .names)) (now (a .plan)) (now (a .old)) (now (a .first)) (now (a .second)) lent overlap
+    (sym (c .before .before .before .check-lengths .ensures) ∙ c .before .lengths .given .1))
 
 enum-told-3 : tie.Need-enum-told-3
 enum-told-3 c = search needs
@@ -63,7 +66,8 @@ returns-4 c =
     let lent = sym (c .before .before .before .before .before .before .before .before .before .before .before .before .check-lent .ensures) ∙ c .before .before .before .before .before .before .before .before .before .before .enum-told .given .1 in
     let overlap = sym (c .before .before .before .before .before .before .before .before .before .check-overlap .ensures) ∙ c .before .before .before .before .before .before .before .enum-told2 .given .1 in
     let lengths = sym (c .before .before .before .before .before .before .check-lengths .ensures) ∙ c .before .before .before .before .enum-told3 .given .1 in
-    sym (plan-refuses (now (a .items)) (now (a .literals)) (now (a .bytes)) (now (a .names)) (now (a .plan)) (now (a .old)) (now (a .first)) (now (a .second)) lent overlap lengths (sym (c .before .before .before .check-plan .ensures) ∙ c .before .rows .given .1))
+    sym (plan-refuses (now (a .items)) (now (a .literals)) (now (a .bytes)) (now (a .names)) (now (a .plan)) (now (a .old)) (now (a .first)) (now (a .second)) lent overlap lengths
+    (sym (c .before .before .before .check-plan .ensures) ∙ c .before .rows .given .1))
 
 enum-told-4 : tie.Need-enum-told-4
 enum-told-4 c = search needs
@@ -78,7 +82,8 @@ returns-5 c =
     let overlap = sym (c .before .before .before .before .before .before .before .before .before .check-overlap .ensures) ∙ c .before .before .before .before .before .before .before .enum-told2 .given .1 in
     let lengths = sym (c .before .before .before .before .before .before .check-lengths .ensures) ∙ c .before .before .before .before .enum-told3 .given .1 in
     let rows = sym (c .before .before .before .check-plan .ensures) ∙ c .before .enum-told4 .given .1 in
-    record-decides (now (a .items)) (now (a .literals)) (now (a .bytes)) (now (a .names)) (now (a .plan)) (now (a .old)) (now (a .first)) (now (a .second)) lent overlap lengths rows (c .check-record .ensures)
+    record-decides (now (a .items)) (now (a .literals)) (now (a .bytes)) (now (a .names))
+    (now (a .plan)) (now (a .old)) (now (a .first)) (now (a .second)) lent overlap lengths rows (c .check-record .ensures)
 
 pub check-desk-spec : {M : Type 1} → statement M
 check-desk-spec =

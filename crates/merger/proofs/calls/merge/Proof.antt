@@ -29,7 +29,8 @@ enum-told c = search needs
 count-apart-requires : tie.Need-count-apart-requires
 count-apart-requires c κs =
     let a = c .before .before .before .before .before .before .before .before .before .before .before .before .before .args in
-    desk-ready (now (a .items)) (now (a .literals)) (now (a .bytes)) (now (a .names)) (now (a .plan)) (now (a .old)) (now (a .first)) (now (a .second)) (sym (c .before .before .check-desk .ensures) ∙ c .enum-told .given .1)
+    desk-ready (now (a .items)) (now (a .literals)) (now (a .bytes)) (now (a .names)) (now (a .plan)) (now (a .old)) (now (a .first)) (now (a .second))
+    (sym (c .before .before .check-desk .ensures) ∙ c .enum-told .given .1)
 
 decide-requires : tie.Need-decide-requires
 decide-requires c κs = search needs
@@ -37,8 +38,13 @@ decide-requires c κs = search needs
 merge-decided-requires : tie.Need-merge-decided-requires
 merge-decided-requires c κs =
     let a = c .before .before .before .before .before .before .before .before .before .before .before .before .before .before .before .before .before .args in
-    let fine = sym (c .before .before .before .before .before .before .check-desk .ensures) ∙ c .before .before .before .before .enum-told .given .1 in
-    (desk-ready (now (a .items)) (now (a .literals)) (now (a .bytes)) (now (a .names)) (now (a .plan)) (now (a .old)) (now (a .first)) (now (a .second)) fine, desk-few (now (a .items)) (now (a .literals)) (now (a .bytes)) (now (a .names)) (now (a .plan)) (now (a .old)) (now (a .first)) (now (a .second)) fine, c .before .before .before .count-apart .ensures)
+    let fine = sym (c .before .before .before .before .before .before .check-desk .ensures) ∙ c .before .before .before .before .enum-told .given .1 in (
+      desk-ready (now (a .items)) (now (a .literals)) (now (a .bytes)) (now (a .names))
+          (now (a .plan)) (now (a .old)) (now (a .first)) (now (a .second)) fine,
+      desk-few (now (a .items)) (now (a .literals)) (now (a .bytes)) (now (a .names))
+          (now (a .plan)) (now (a .old)) (now (a .first)) (now (a .second)) fine,
+      c .before .before .before .count-apart .ensures,
+    )
 
 same-length : tie.Need-same-length
 same-length c = search needs
@@ -55,7 +61,8 @@ returns-2 c =
     let fine = sym (c .before .before .before .before .before .before .before .before .before .before .before .check-desk .ensures) ∙ c .before .before .before .before .before .before .before .before .before .enum-told .given .1 in
     let same =
     lines-pass lines (copiesOf (now (a .items)) (now (a .old)) (now (a .first)) (now (a .second))) verdict (now (a .merged)) (now (a .contested)) fine
-    ∙ decided-as lent (now (a .plan)) (now (a .old)) (now (a .first)) (now (a .second)) (a .switches) (c .before .before .before .before .before .before .before .before .count-apart .result) verdict
+    ∙ decided-as lent
+    (now (a .plan)) (now (a .old)) (now (a .first)) (now (a .second)) (a .switches) (c .before .before .before .before .before .before .before .before .count-apart .result) verdict
     (c .before .before .before .before .before .before .before .before .count-apart .ensures) (c .before .before .before .before .before .before .before .decide .ensures) lines (now (a .merged)) (now (a .contested)) in
     leaves-as same (c .before .before .before .before .merge-decided .ensures)
 

@@ -61,7 +61,8 @@ write-merged-requires c κs =
     let rows = c .before .before .before .before .contested-count .result in
     let counted = c .before .before .before .before .contested-count .ensures ∙ contested-count copies (a .verdict) (a .apart) (start .pre .2) in
     let room = c .before .before .before .check-rooms .ensures in
-    ready-for copies (start .pre .0) (length-take-le (length (now (a .old))) (now (a .merged)) (bytes-fit copies (a .verdict) rows counted (now (a .merged)) (now (a .contested)) room (c .before .enum-told .given .1)))
+    ready-for copies (start .pre .0) (length-take-le (length (now (a .old))) (now (a .merged))
+    (bytes-fit copies (a .verdict) rows counted (now (a .merged)) (now (a .contested)) room (c .before .enum-told .given .1)))
 
 write-contested-requires : tie.Need-write-contested-requires
 write-contested-requires c κs =

@@ -29,12 +29,14 @@ list-apart-requires c κs =
 returns : tie.Need-returns
 returns c =
     let a = c .before .before .before .before .before .before .before .args in
-    sym (ap (λ (w : Verdict). contested (copiesOf (now (a .items)) (now (a .old)) (now (a .first)) (now (a .second))) w ++ drop (length (contested (copiesOf (now (a .items)) (now (a .old)) (now (a .first)) (now (a .second))) w)) (now (a .list))) (c .enum-told .given .1))
+    sym (ap (λ (w : Verdict). contested (copiesOf (now (a .items)) (now (a .old)) (now (a .first)) (now (a .second))) w
+    ++ drop (length (contested (copiesOf (now (a .items)) (now (a .old)) (now (a .first)) (now (a .second))) w)) (now (a .list))) (c .enum-told .given .1))
 
 returns-2 : tie.Need-returns-2
 returns-2 c =
     let a = c .before .before .before .before .before .before .before .args in
-    sym (ap (λ (w : Verdict). contested (copiesOf (now (a .items)) (now (a .old)) (now (a .first)) (now (a .second))) w ++ drop (length (contested (copiesOf (now (a .items)) (now (a .old)) (now (a .first)) (now (a .second))) w)) (now (a .list))) (c .enum-told2 .given .1))
+    sym (ap (λ (w : Verdict). contested (copiesOf (now (a .items)) (now (a .old)) (now (a .first)) (now (a .second))) w
+    ++ drop (length (contested (copiesOf (now (a .items)) (now (a .old)) (now (a .first)) (now (a .second))) w)) (now (a .list))) (c .enum-told2 .given .1))
 
 same-length : tie.Need-same-length
 same-length c = search needs
@@ -43,7 +45,8 @@ returns-3 : tie.Need-returns-3
 returns-3 c =
     let a = c .before .before .before .before .before .before .before .before .before .before .before .args in
     c .before .before .list-apart .ensures
-    ∙ sym (ap (λ (w : Verdict). contested (copiesOf (now (a .items)) (now (a .old)) (now (a .first)) (now (a .second))) w ++ drop (length (contested (copiesOf (now (a .items)) (now (a .old)) (now (a .first)) (now (a .second))) w)) (now (a .list))) (c .before .before .before .before .enum-told3 .given .1))
+    ∙ sym (ap (λ (w : Verdict). contested (copiesOf (now (a .items)) (now (a .old)) (now (a .first)) (now (a .second))) w
+    ++ drop (length (contested (copiesOf (now (a .items)) (now (a .old)) (now (a .first)) (now (a .second))) w)) (now (a .list))) (c .before .before .before .before .enum-told3 .given .1))
 
 pub write-contested-spec : {M : Type 1} → statement M
 write-contested-spec =

@@ -31,9 +31,12 @@ row-at-requires : tie.Need-row-at-requires Inv-loop μ-loop
 row-at-requires c κs = omega arith
 
 is-apart-requires : tie.Need-is-apart-requires Inv-loop μ-loop
-is-apart-requires c κs = let e = c .row-at .ensures in
-    let h : rowAt (now (c .before .before .before .before .before .before .before .args .items)) (c .before .before .loop .v) .offset + rowAt (now (c .before .before .before .before .before .before .before .args .items)) (c .before .before .loop .v) .size ≤ length (now (c .before .before .before .before .before .before .before .args .old)) = c .before .before .before .before .before .before .before .pre .lies (c .before .before .loop .v) (c .before .loop-test .taken) in
-    (rw e h, c .before .before .before .before .before .before .before .pre .first-long, c .before .before .before .before .before .before .before .pre .second-long)
+is-apart-requires c κs =
+    let a = c .before .before .before .before .before .before .before .args in
+    let pre = c .before .before .before .before .before .before .before .pre in
+    let e = c .row-at .ensures in
+    let h : rowAt (now (a .items)) (c .before .before .loop .v) .offset + rowAt (now (a .items)) (c .before .before .loop .v) .size ≤ length (now (a .old)) = pre .lies (c .before .before .loop .v) (c .before .loop-test .taken) in
+    (rw e h, pre .first-long, pre .second-long)
 
 add-count : tie.Need-add-count Inv-loop μ-loop
 add-count c = omega arith
@@ -45,19 +48,27 @@ loop-less : tie.Need-loop-less Inv-loop μ-loop
 loop-less c = omega arith
 
 loop-again : tie.Need-loop-again Inv-loop μ-loop
-loop-again c = let same = c .before .is-apart .ensures ∙ ap (λ (r : Row). isElementary r && changedApart (part r (now (c .before .before .before .before .before .before .before .before .before .args .old))) (part r (now (c .before .before .before .before .before .before .before .before .before .args .first))) (part r (now (c .before .before .before .before .before .before .before .before .before .args .second)))) (c .before .before .row-at .ensures) in
+loop-again c =
+    let a = c .before .before .before .before .before .before .before .before .before .args in
+    let l = c .before .before .before .before .loop in
+    let copies = copiesOf (now (a .items)) (now (a .old)) (now (a .first)) (now (a .second)) in
+    let same = c .before .is-apart .ensures
+    ∙ ap (λ (r : Row). isElementary r && changedApart (part r (now (a .old))) (part r (now (a .first))) (part r (now (a .second)))) (c .before .before .row-at .ensures) in
     ⊎-elim
     (λ w.
-    let t : (apartAt (copiesOf (now (c .before .before .before .before .before .before .before .before .before .args .items)) (now (c .before .before .before .before .before .before .before .before .before .args .old)) (now (c .before .before .before .before .before .before .before .before .before .args .first)) (now (c .before .before .before .before .before .before .before .before .before .args .second)))) (c .before .before .before .before .loop .v) ≡ true = sym same ∙ w .0 .taken in
-    (omega arith, omega (arith, w .1), w .1 ∙ ap (λ (n : ℕ). n + 1) (c .before .before .before .before .loop .inv .2) ∙ sym (count-hit (apartAt (copiesOf (now (c .before .before .before .before .before .before .before .before .before .args .items)) (now (c .before .before .before .before .before .before .before .before .before .args .old)) (now (c .before .before .before .before .before .before .before .before .before .args .first)) (now (c .before .before .before .before .before .before .before .before .before .args .second)))) (c .before .before .before .before .loop .v) t)))
+    let t : (apartAt copies) (l .v) ≡ true = sym same ∙ w .0 .taken in
+    (omega arith, omega (arith, w .1), w .1 ∙ ap (λ (n : ℕ). n + 1) (l .inv .2) ∙ sym (count-hit (apartAt copies) (l .v) t)))
     (λ w.
-    let t : (apartAt (copiesOf (now (c .before .before .before .before .before .before .before .before .before .args .items)) (now (c .before .before .before .before .before .before .before .before .before .args .old)) (now (c .before .before .before .before .before .before .before .before .before .args .first)) (now (c .before .before .before .before .before .before .before .before .before .args .second)))) (c .before .before .before .before .loop .v) ≡ false = sym same ∙ w .0 .left in
-    (omega arith, omega (arith, w .1), w .1 ∙ c .before .before .before .before .loop .inv .2 ∙ sym (ap length (rows-miss (apartAt (copiesOf (now (c .before .before .before .before .before .before .before .before .before .args .items)) (now (c .before .before .before .before .before .before .before .before .before .args .old)) (now (c .before .before .before .before .before .before .before .before .before .args .first)) (now (c .before .before .before .before .before .before .before .before .before .args .second)))) (c .before .before .before .before .loop .v) t))))
+    let t : (apartAt copies) (l .v) ≡ false = sym same ∙ w .0 .left in
+    (omega arith, omega (arith, w .1), w .1 ∙ l .inv .2 ∙ sym (ap length (rows-miss (apartAt copies) (l .v) t))))
     (c .if1 .came)
 
 returns : tie.Need-returns Inv-loop μ-loop
-returns c = let q : c .before .loop .v ≡ rowCount (now (c .before .before .before .before .before .before .args .items)) = omega arith in
-    c .before .loop .inv .2 ∙ ap (λ (n : ℕ). length (rowsWhere (apartAt (copiesOf (now (c .before .before .before .before .before .before .args .items)) (now (c .before .before .before .before .before .before .args .old)) (now (c .before .before .before .before .before .before .args .first)) (now (c .before .before .before .before .before .before .args .second)))) n)) q
+returns c =
+    let a = c .before .before .before .before .before .before .args in
+    let l = c .before .loop in
+    let q : l .v ≡ rowCount (now (a .items)) = omega arith in
+    l .inv .2 ∙ ap (λ (n : ℕ). length (rowsWhere (apartAt (copiesOf (now (a .items)) (now (a .old)) (now (a .first)) (now (a .second)))) n)) q
 
 pub count-apart-spec : {M : Type 1} → statement M
 count-apart-spec =

@@ -34,9 +34,11 @@ same-bytes-requires-3 : tie.Need-same-bytes-requires-3
 same-bytes-requires-3 c κs = search needs
 
 returns-2 : tie.Need-returns-2
-returns-2 c = let g : isGroup (c .before .before .before .before .before .before .before .before .before .before .before .args .row) ≡ false = sym (c .before .before .before .before .before .before .before .is-group .ensures) ∙ c .before .before .before .before .before .before .if1 .left in
+returns-2 c =
+    let a = c .before .before .before .before .before .before .before .before .before .before .before .args in
+    let g : isGroup (a .row) ≡ false = sym (c .before .before .before .before .before .before .before .is-group .ensures) ∙ c .before .before .before .before .before .before .if1 .left in
     rw g
-    (apart-flags (part (c .before .before .before .before .before .before .before .before .before .before .before .args .row) (now (c .before .before .before .before .before .before .before .before .before .before .before .args .old))) (part (c .before .before .before .before .before .before .before .before .before .before .before .args .row) (now (c .before .before .before .before .before .before .before .before .before .before .before .args .first))) (part (c .before .before .before .before .before .before .before .before .before .before .before .args .row) (now (c .before .before .before .before .before .before .before .before .before .before .before .args .second)))
+    (apart-flags (part (a .row) (now (a .old))) (part (a .row) (now (a .first))) (part (a .row) (now (a .second)))
     (c .before .before .same-bytes .ensures ∙ ap₂ same (c .before .before .before .before .row-part2 .ensures) (c .before .before .before .before .before .row-part .ensures))
     (c .before .same-bytes2 .ensures ∙ ap₂ same (c .before .before .before .row-part3 .ensures) (c .before .before .before .before .before .row-part .ensures))
     (c .same-bytes3 .ensures ∙ ap₂ same (c .before .before .before .before .row-part2 .ensures) (c .before .before .before .row-part3 .ensures)))

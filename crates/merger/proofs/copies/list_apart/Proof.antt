@@ -34,24 +34,45 @@ row-at-requires : tie.Need-row-at-requires Inv-loop μ-loop
 row-at-requires c κs = omega arith
 
 is-apart-requires : tie.Need-is-apart-requires Inv-loop μ-loop
-is-apart-requires c κs = let e = c .row-at .ensures in
-    let h : rowAt (now (c .before .before .before .before .before .before .before .before .args .items)) (c .before .before .loop .v) .offset + rowAt (now (c .before .before .before .before .before .before .before .before .args .items)) (c .before .before .loop .v) .size ≤ length (now (c .before .before .before .before .before .before .before .before .args .old)) = c .before .before .before .before .before .before .before .before .pre .0 .lies (c .before .before .loop .v) (c .before .loop-test .taken) in
-    (rw e h, c .before .before .before .before .before .before .before .before .pre .0 .first-long, c .before .before .before .before .before .before .before .before .pre .0 .second-long)
+is-apart-requires c κs =
+    let a = c .before .before .before .before .before .before .before .before .args in
+    let pre = c .before .before .before .before .before .before .before .before .pre in
+    let e = c .row-at .ensures in
+    let h : rowAt (now (a .items)) (c .before .before .loop .v) .offset + rowAt (now (a .items)) (c .before .before .loop .v) .size ≤ length (now (a .old)) = pre .0 .lies (c .before .before .loop .v) (c .before .loop-test .taken) in
+    (rw e h, pre .0 .first-long, pre .0 .second-long)
 
 cast-list : tie.Need-cast-list Inv-loop μ-loop
 cast-list c = omega (arith, c .before .before .before .before .before .before .before .before .before .before .pre .1)
 
 mul-list : tie.Need-mul-list Inv-loop μ-loop
-mul-list c = let t : (apartAt (copiesOf (now (c .before .before .before .before .before .before .before .before .before .before .args .items)) (now (c .before .before .before .before .before .before .before .before .before .before .args .old)) (now (c .before .before .before .before .before .before .before .before .before .before .args .first)) (now (c .before .before .before .before .before .before .before .before .before .before .args .second)))) (c .before .before .before .before .loop .v) ≡ true = sym (c .before .is-apart .ensures ∙ ap (λ (r : Row). isElementary r && changedApart (part r (now (c .before .before .before .before .before .before .before .before .before .before .args .old))) (part r (now (c .before .before .before .before .before .before .before .before .before .before .args .first))) (part r (now (c .before .before .before .before .before .before .before .before .before .before .args .second)))) (c .before .before .row-at .ensures)) ∙ c .if1 .taken in
-    omega (arith, c .before .before .before .before .before .before .before .before .before .before .pre .2, count-hit (apartAt (copiesOf (now (c .before .before .before .before .before .before .before .before .before .before .args .items)) (now (c .before .before .before .before .before .before .before .before .before .before .args .old)) (now (c .before .before .before .before .before .before .before .before .before .before .args .first)) (now (c .before .before .before .before .before .before .before .before .before .before .args .second)))) (c .before .before .before .before .loop .v) t, rows-grow (apartAt (copiesOf (now (c .before .before .before .before .before .before .before .before .before .before .args .items)) (now (c .before .before .before .before .before .before .before .before .before .before .args .old)) (now (c .before .before .before .before .before .before .before .before .before .before .args .first)) (now (c .before .before .before .before .before .before .before .before .before .before .args .second)))) (c .before .before .before .before .loop .v + 1) (rowCount (now (c .before .before .before .before .before .before .before .before .before .before .args .items))) (omega arith))
+mul-list c =
+    let a = c .before .before .before .before .before .before .before .before .before .before .args in
+    let l = c .before .before .before .before .loop in
+    let pre = c .before .before .before .before .before .before .before .before .before .before .pre in
+    let copies = copiesOf (now (a .items)) (now (a .old)) (now (a .first)) (now (a .second)) in
+    let t : (apartAt copies) (l .v) ≡ true = sym (c .before .is-apart .ensures
+    ∙ ap (λ (r : Row). isElementary r && changedApart (part r (now (a .old))) (part r (now (a .first))) (part r (now (a .second)))) (c .before .before .row-at .ensures)) ∙ c .if1 .taken in
+    omega (arith, pre .2, count-hit (apartAt copies) (l .v) t, rows-grow (apartAt copies) (l .v + 1) (rowCount (now (a .items))) (omega arith))
 
 slice-write-list : tie.Need-slice-write-list Inv-loop μ-loop
-slice-write-list c = let t : (apartAt (copiesOf (now (c .before .before .before .before .before .before .before .before .before .before .args .items)) (now (c .before .before .before .before .before .before .before .before .before .before .args .old)) (now (c .before .before .before .before .before .before .before .before .before .before .args .first)) (now (c .before .before .before .before .before .before .before .before .before .before .args .second)))) (c .before .before .before .before .loop .v) ≡ true = sym (c .before .is-apart .ensures ∙ ap (λ (r : Row). isElementary r && changedApart (part r (now (c .before .before .before .before .before .before .before .before .before .before .args .old))) (part r (now (c .before .before .before .before .before .before .before .before .before .before .args .first))) (part r (now (c .before .before .before .before .before .before .before .before .before .before .args .second)))) (c .before .before .row-at .ensures)) ∙ c .if1 .taken in
-    omega (arith, c .before .before .before .before .before .before .before .before .before .before .pre .2, count-hit (apartAt (copiesOf (now (c .before .before .before .before .before .before .before .before .before .before .args .items)) (now (c .before .before .before .before .before .before .before .before .before .before .args .old)) (now (c .before .before .before .before .before .before .before .before .before .before .args .first)) (now (c .before .before .before .before .before .before .before .before .before .before .args .second)))) (c .before .before .before .before .loop .v) t, rows-grow (apartAt (copiesOf (now (c .before .before .before .before .before .before .before .before .before .before .args .items)) (now (c .before .before .before .before .before .before .before .before .before .before .args .old)) (now (c .before .before .before .before .before .before .before .before .before .before .args .first)) (now (c .before .before .before .before .before .before .before .before .before .before .args .second)))) (c .before .before .before .before .loop .v + 1) (rowCount (now (c .before .before .before .before .before .before .before .before .before .before .args .items))) (omega arith))
+slice-write-list c =
+    let a = c .before .before .before .before .before .before .before .before .before .before .args in
+    let l = c .before .before .before .before .loop in
+    let pre = c .before .before .before .before .before .before .before .before .before .before .pre in
+    let copies = copiesOf (now (a .items)) (now (a .old)) (now (a .first)) (now (a .second)) in
+    let t : (apartAt copies) (l .v) ≡ true = sym (c .before .is-apart .ensures
+    ∙ ap (λ (r : Row). isElementary r && changedApart (part r (now (a .old))) (part r (now (a .first))) (part r (now (a .second)))) (c .before .before .row-at .ensures)) ∙ c .if1 .taken in
+    omega (arith, pre .2, count-hit (apartAt copies) (l .v) t, rows-grow (apartAt copies) (l .v + 1) (rowCount (now (a .items))) (omega arith))
 
 add-count : tie.Need-add-count Inv-loop μ-loop
-add-count c = let t : (apartAt (copiesOf (now (c .before .before .before .before .before .before .before .before .before .before .args .items)) (now (c .before .before .before .before .before .before .before .before .before .before .args .old)) (now (c .before .before .before .before .before .before .before .before .before .before .args .first)) (now (c .before .before .before .before .before .before .before .before .before .before .args .second)))) (c .before .before .before .before .loop .v) ≡ true = sym (c .before .is-apart .ensures ∙ ap (λ (r : Row). isElementary r && changedApart (part r (now (c .before .before .before .before .before .before .before .before .before .before .args .old))) (part r (now (c .before .before .before .before .before .before .before .before .before .before .args .first))) (part r (now (c .before .before .before .before .before .before .before .before .before .before .args .second)))) (c .before .before .row-at .ensures)) ∙ c .if1 .taken in
-    omega (arith, c .before .before .before .before .before .before .before .before .before .before .pre .2, count-hit (apartAt (copiesOf (now (c .before .before .before .before .before .before .before .before .before .before .args .items)) (now (c .before .before .before .before .before .before .before .before .before .before .args .old)) (now (c .before .before .before .before .before .before .before .before .before .before .args .first)) (now (c .before .before .before .before .before .before .before .before .before .before .args .second)))) (c .before .before .before .before .loop .v) t, rows-grow (apartAt (copiesOf (now (c .before .before .before .before .before .before .before .before .before .before .args .items)) (now (c .before .before .before .before .before .before .before .before .before .before .args .old)) (now (c .before .before .before .before .before .before .before .before .before .before .args .first)) (now (c .before .before .before .before .before .before .before .before .before .before .args .second)))) (c .before .before .before .before .loop .v + 1) (rowCount (now (c .before .before .before .before .before .before .before .before .before .before .args .items))) (omega arith))
+add-count c =
+    let a = c .before .before .before .before .before .before .before .before .before .before .args in
+    let l = c .before .before .before .before .loop in
+    let pre = c .before .before .before .before .before .before .before .before .before .before .pre in
+    let copies = copiesOf (now (a .items)) (now (a .old)) (now (a .first)) (now (a .second)) in
+    let t : (apartAt copies) (l .v) ≡ true = sym (c .before .is-apart .ensures
+    ∙ ap (λ (r : Row). isElementary r && changedApart (part r (now (a .old))) (part r (now (a .first))) (part r (now (a .second)))) (c .before .before .row-at .ensures)) ∙ c .if1 .taken in
+    omega (arith, pre .2, count-hit (apartAt copies) (l .v) t, rows-grow (apartAt copies) (l .v + 1) (rowCount (now (a .items))) (omega arith))
 
 add-v : tie.Need-add-v Inv-loop μ-loop
 add-v c = omega arith
@@ -60,32 +81,38 @@ loop-less : tie.Need-loop-less Inv-loop μ-loop
 loop-less c = omega arith
 
 loop-again : tie.Need-loop-again Inv-loop μ-loop
-loop-again c = let same = c .before .is-apart .ensures ∙ ap (λ (r : Row). isElementary r && changedApart (part r (now (c .before .before .before .before .before .before .before .before .before .before .args .old))) (part r (now (c .before .before .before .before .before .before .before .before .before .before .args .first))) (part r (now (c .before .before .before .before .before .before .before .before .before .before .args .second)))) (c .before .before .row-at .ensures) in
-    let rows = rowsWhere (apartAt (copiesOf (now (c .before .before .before .before .before .before .before .before .before .before .args .items)) (now (c .before .before .before .before .before .before .before .before .before .before .args .old)) (now (c .before .before .before .before .before .before .before .before .before .before .args .first)) (now (c .before .before .before .before .before .before .before .before .before .before .args .second)))) (c .before .before .before .before .loop .v) in
+loop-again c =
+    let a = c .before .before .before .before .before .before .before .before .before .before .args in
+    let l = c .before .before .before .before .loop in
+    let pre = c .before .before .before .before .before .before .before .before .before .before .pre in
+    let copies = copiesOf (now (a .items)) (now (a .old)) (now (a .first)) (now (a .second)) in
+    let same = c .before .is-apart .ensures
+    ∙ ap (λ (r : Row). isElementary r && changedApart (part r (now (a .old))) (part r (now (a .first))) (part r (now (a .second)))) (c .before .before .row-at .ensures) in
+    let rows = rowsWhere (apartAt copies) (l .v) in
     ⊎-elim
     (λ w.
-    let t : (apartAt (copiesOf (now (c .before .before .before .before .before .before .before .before .before .before .args .items)) (now (c .before .before .before .before .before .before .before .before .before .before .args .old)) (now (c .before .before .before .before .before .before .before .before .before .before .args .first)) (now (c .before .before .before .before .before .before .before .before .before .before .args .second)))) (c .before .before .before .before .loop .v) ≡ true = sym same ∙ w .0 .taken in
-    let long : length rows < length (now (c .before .before .before .before .before .before .before .before .before .before .args .list)) = omega (arith, c .before .before .before .before .before .before .before .before .before .before .pre .2, count-hit (apartAt (copiesOf (now (c .before .before .before .before .before .before .before .before .before .before .args .items)) (now (c .before .before .before .before .before .before .before .before .before .before .args .old)) (now (c .before .before .before .before .before .before .before .before .before .before .args .first)) (now (c .before .before .before .before .before .before .before .before .before .before .args .second)))) (c .before .before .before .before .loop .v) t, rows-grow (apartAt (copiesOf (now (c .before .before .before .before .before .before .before .before .before .before .args .items)) (now (c .before .before .before .before .before .before .before .before .before .before .args .old)) (now (c .before .before .before .before .before .before .before .before .before .before .args .first)) (now (c .before .before .before .before .before .before .before .before .before .before .args .second)))) (c .before .before .before .before .loop .v + 1) (rowCount (now (c .before .before .before .before .before .before .before .before .before .before .args .items))) (omega arith)) in
-    let grown = sym (count-hit (apartAt (copiesOf (now (c .before .before .before .before .before .before .before .before .before .before .args .items)) (now (c .before .before .before .before .before .before .before .before .before .before .args .old)) (now (c .before .before .before .before .before .before .before .before .before .before .args .first)) (now (c .before .before .before .before .before .before .before .before .before .before .args .second)))) (c .before .before .before .before .loop .v) t) in (
+    let t : (apartAt copies) (l .v) ≡ true = sym same ∙ w .0 .taken in
+    let long : length rows < length (now (a .list)) = omega (arith, pre .2, count-hit (apartAt copies) (l .v) t, rows-grow (apartAt copies) (l .v + 1) (rowCount (now (a .items))) (omega arith)) in
+    let grown = sym (count-hit (apartAt copies) (l .v) t) in (
       omega arith,
-      w .2 ∙ ap (λ (n : ℕ). n + 1) (c .before .before .before .before .loop .inv .1) ∙ grown,
-      ap length (w .1) ∙ length-set (c .before .before .before .before .loop .list) (c .before .before .before .before .loop .count) (c .before .before .before .before .loop .v) ∙ c .before .before .before .before .loop .inv .2,
+      w .2 ∙ ap (λ (n : ℕ). n + 1) (l .inv .1) ∙ grown,
+      ap length (w .1) ∙ length-set (l .list) (l .count) (l .v) ∙ l .inv .2,
       w .1
-          ∙ ap (λ (l : List ℕ). set l (c .before .before .before .before .loop .count) (c .before .before .before .before .loop .v)) (c .before .before .before .before .loop .inv .3)
-          ∙ ap (λ (n : ℕ). set (rows ++ drop n (now (c .before .before .before .before .before .before .before .before .before .before .args .list))) n (c .before .before .before .before .loop .v)) (c .before .before .before .before .loop .inv .1)
-          ∙ list-put (now (c .before .before .before .before .before .before .before .before .before .before .args .list)) rows (c .before .before .before .before .loop .v) long
-          ∙ ap (λ (l : List ℕ). l ++ drop (length rows + 1) (now (c .before .before .before .before .before .before .before .before .before .before .args .list))) (sym (rows-hit (apartAt (copiesOf (now (c .before .before .before .before .before .before .before .before .before .before .args .items)) (now (c .before .before .before .before .before .before .before .before .before .before .args .old)) (now (c .before .before .before .before .before .before .before .before .before .before .args .first)) (now (c .before .before .before .before .before .before .before .before .before .before .args .second)))) (c .before .before .before .before .loop .v) t))
-          ∙ ap (λ (n : ℕ). rowsWhere (apartAt (copiesOf (now (c .before .before .before .before .before .before .before .before .before .before .args .items)) (now (c .before .before .before .before .before .before .before .before .before .before .args .old)) (now (c .before .before .before .before .before .before .before .before .before .before .args .first)) (now (c .before .before .before .before .before .before .before .before .before .before .args .second)))) (c .before .before .before .before .loop .v + 1) ++ drop n (now (c .before .before .before .before .before .before .before .before .before .before .args .list))) (sym (w .2 ∙ ap (λ (n : ℕ). n + 1) (c .before .before .before .before .loop .inv .1))),
+          ∙ ap (λ (l : List ℕ). set l (l .count) (l .v)) (l .inv .3)
+          ∙ ap (λ (n : ℕ). set (rows ++ drop n (now (a .list))) n (l .v)) (l .inv .1)
+          ∙ list-put (now (a .list)) rows (l .v) long
+          ∙ ap (λ (l : List ℕ). l ++ drop (length rows + 1) (now (a .list))) (sym (rows-hit (apartAt copies) (l .v) t))
+          ∙ ap (λ (n : ℕ). rowsWhere (apartAt copies) (l .v + 1) ++ drop n (now (a .list))) (sym (w .2 ∙ ap (λ (n : ℕ). n + 1) (l .inv .1))),
     ))
     (λ w.
-    let t : (apartAt (copiesOf (now (c .before .before .before .before .before .before .before .before .before .before .args .items)) (now (c .before .before .before .before .before .before .before .before .before .before .args .old)) (now (c .before .before .before .before .before .before .before .before .before .before .args .first)) (now (c .before .before .before .before .before .before .before .before .before .before .args .second)))) (c .before .before .before .before .loop .v) ≡ false = sym same ∙ w .0 .left in
-    let still = sym (rows-miss (apartAt (copiesOf (now (c .before .before .before .before .before .before .before .before .before .before .args .items)) (now (c .before .before .before .before .before .before .before .before .before .before .args .old)) (now (c .before .before .before .before .before .before .before .before .before .before .args .first)) (now (c .before .before .before .before .before .before .before .before .before .before .args .second)))) (c .before .before .before .before .loop .v) t) in (
+    let t : (apartAt copies) (l .v) ≡ false = sym same ∙ w .0 .left in
+    let still = sym (rows-miss (apartAt copies) (l .v) t) in (
       omega arith,
-      w .2 ∙ c .before .before .before .before .loop .inv .1 ∙ ap length still,
-      ap length (w .1) ∙ c .before .before .before .before .loop .inv .2,
-      w .1 ∙ c .before .before .before .before .loop .inv .3
-          ∙ ap (λ (l : List ℕ). l ++ drop (c .before .before .before .before .loop .count) (now (c .before .before .before .before .before .before .before .before .before .before .args .list))) still
-          ∙ ap (λ (n : ℕ). rowsWhere (apartAt (copiesOf (now (c .before .before .before .before .before .before .before .before .before .before .args .items)) (now (c .before .before .before .before .before .before .before .before .before .before .args .old)) (now (c .before .before .before .before .before .before .before .before .before .before .args .first)) (now (c .before .before .before .before .before .before .before .before .before .before .args .second)))) (c .before .before .before .before .loop .v + 1) ++ drop n (now (c .before .before .before .before .before .before .before .before .before .before .args .list))) (sym (w .2)),
+      w .2 ∙ l .inv .1 ∙ ap length still,
+      ap length (w .1) ∙ l .inv .2,
+      w .1 ∙ l .inv .3
+          ∙ ap (λ (l : List ℕ). l ++ drop (l .count) (now (a .list))) still
+          ∙ ap (λ (n : ℕ). rowsWhere (apartAt copies) (l .v + 1) ++ drop n (now (a .list))) (sym (w .2)),
     ))
     (c .if1 .came)
 
@@ -93,10 +120,14 @@ same-length : tie.Need-same-length Inv-loop μ-loop
 same-length c = c .before .loop .inv .2
 
 returns : tie.Need-returns Inv-loop μ-loop
-returns c = let q : c .before .loop .v ≡ rowCount (now (c .before .before .before .before .before .before .before .args .items)) = omega arith in
-    c .before .loop .inv .3
-    ∙ ap (λ (n : ℕ). rowsWhere (apartAt (copiesOf (now (c .before .before .before .before .before .before .before .args .items)) (now (c .before .before .before .before .before .before .before .args .old)) (now (c .before .before .before .before .before .before .before .args .first)) (now (c .before .before .before .before .before .before .before .args .second)))) (c .before .loop .v) ++ drop n (now (c .before .before .before .before .before .before .before .args .list))) (c .before .loop .inv .1)
-    ∙ ap (λ (n : ℕ). rowsWhere (apartAt (copiesOf (now (c .before .before .before .before .before .before .before .args .items)) (now (c .before .before .before .before .before .before .before .args .old)) (now (c .before .before .before .before .before .before .before .args .first)) (now (c .before .before .before .before .before .before .before .args .second)))) n ++ drop (length (rowsWhere (apartAt (copiesOf (now (c .before .before .before .before .before .before .before .args .items)) (now (c .before .before .before .before .before .before .before .args .old)) (now (c .before .before .before .before .before .before .before .args .first)) (now (c .before .before .before .before .before .before .before .args .second)))) n)) (now (c .before .before .before .before .before .before .before .args .list))) q
+returns c =
+    let a = c .before .before .before .before .before .before .before .args in
+    let l = c .before .loop in
+    let copies = copiesOf (now (a .items)) (now (a .old)) (now (a .first)) (now (a .second)) in
+    let q : l .v ≡ rowCount (now (a .items)) = omega arith in
+    l .inv .3
+    ∙ ap (λ (n : ℕ). rowsWhere (apartAt copies) (l .v) ++ drop n (now (a .list))) (l .inv .1)
+    ∙ ap (λ (n : ℕ). rowsWhere (apartAt copies) n ++ drop (length (rowsWhere (apartAt copies) n)) (now (a .list))) q
 
 pub list-apart-spec : {M : Type 1} → statement M
 list-apart-spec =

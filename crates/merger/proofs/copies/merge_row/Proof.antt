@@ -35,23 +35,28 @@ merged-item-requires : tie.Need-merged-item-requires
 merged-item-requires c κs = search needs
 
 put-part-requires : tie.Need-put-part-requires
-put-part-requires c κs = let got = c .before .merged-item .ensures ∙ chosen-from (c .before .before .before .before .before .before .before .before .before .before .before .args .verdict) (c .before .before .before .before .row-part .ensures) (c .before .before .before .row-part2 .ensures) (c .before .before .row-part3 .ensures) in (
-  ap length got ∙ merged-length (c .before .before .before .before .before .before .before .before .before .before .before .args .verdict) _ _ _ (c .before .before .before .before .before .before .before .before .before .before .before .args .row .size)
-      (part-length (c .before .before .before .before .before .before .before .before .before .before .before .args .row) (now (c .before .before .before .before .before .before .before .before .before .before .before .args .old)) (c .before .before .before .before .before .before .before .before .before .before .before .pre .0))
-      (part-length (c .before .before .before .before .before .before .before .before .before .before .before .args .row) (now (c .before .before .before .before .before .before .before .before .before .before .before .args .first)) (omega (arith, c .before .before .before .before .before .before .before .before .before .before .before .pre)))
-      (part-length (c .before .before .before .before .before .before .before .before .before .before .before .args .row) (now (c .before .before .before .before .before .before .before .before .before .before .before .args .second)) (omega (arith, c .before .before .before .before .before .before .before .before .before .before .before .pre))),
-  omega (arith, c .before .before .before .before .before .before .before .before .before .before .before .pre),
-)
+put-part-requires c κs =
+    let a = c .before .before .before .before .before .before .before .before .before .before .before .args in
+    let pre = c .before .before .before .before .before .before .before .before .before .before .before .pre in
+    let got = c .before .merged-item .ensures ∙ chosen-from (a .verdict) (c .before .before .before .before .row-part .ensures) (c .before .before .before .row-part2 .ensures) (c .before .before .row-part3 .ensures) in (
+      ap length got ∙ merged-length (a .verdict) _ _ _ (a .row .size)
+          (part-length (a .row) (now (a .old)) (pre .0))
+          (part-length (a .row) (now (a .first)) (omega (arith, pre)))
+          (part-length (a .row) (now (a .second)) (omega (arith, pre))),
+      omega (arith, pre),
+    )
 
 same-length : tie.Need-same-length
 same-length c = search needs
 
 returns-2 : tie.Need-returns-2
-returns-2 c = let g : isGroup (c .before .before .before .before .before .before .before .before .before .before .before .before .before .before .args .row) ≡ false = sym (c .before .before .before .before .before .before .before .before .before .is-group .ensures) ∙ c .before .before .before .before .before .before .before .before .if1 .left in
+returns-2 c =
+    let a = c .before .before .before .before .before .before .before .before .before .before .before .before .before .before .args in
+    let g : isGroup (a .row) ≡ false = sym (c .before .before .before .before .before .before .before .before .before .is-group .ensures) ∙ c .before .before .before .before .before .before .before .before .if1 .left in
     rw g
     (c .before .before .put-part .ensures
-    ∙ ap (λ (l : List ℕ). replaced (c .before .before .before .before .before .before .before .before .before .before .before .before .before .before .args .row) l (now (c .before .before .before .before .before .before .before .before .before .before .before .before .before .before .args .out)))
-    (c .before .before .before .before .merged-item .ensures ∙ chosen-from (c .before .before .before .before .before .before .before .before .before .before .before .before .before .before .args .verdict) (c .before .before .before .before .before .before .before .row-part .ensures) (c .before .before .before .before .before .before .row-part2 .ensures) (c .before .before .before .before .before .row-part3 .ensures)))
+    ∙ ap (λ (l : List ℕ). replaced (a .row) l (now (a .out)))
+    (c .before .before .before .before .merged-item .ensures ∙ chosen-from (a .verdict) (c .before .before .before .before .before .before .before .row-part .ensures) (c .before .before .before .before .before .before .row-part2 .ensures) (c .before .before .before .before .before .row-part3 .ensures)))
 
 pub merge-row-spec : {M : Type 1} → statement M
 merge-row-spec =

@@ -11,19 +11,28 @@ same-bytes-requires : tie.Need-same-bytes-requires
 same-bytes-requires c κs = search needs
 
 returns : tie.Need-returns
-returns c = pick-second (c .before .before .before .before .before .args .verdict) (now (c .before .before .before .before .before .args .old)) (now (c .before .before .before .before .before .args .first)) (now (c .before .before .before .before .before .args .second)) (sym (c .before .same-bytes .ensures) ∙ c .if1 .taken)
+returns c =
+    let a = c .before .before .before .before .before .args in
+    pick-second (a .verdict) (now (a .old)) (now (a .first)) (now (a .second)) (sym (c .before .same-bytes .ensures) ∙ c .if1 .taken)
 
 same-bytes-requires-2 : tie.Need-same-bytes-requires-2
 same-bytes-requires-2 c κs = search needs
 
 returns-2 : tie.Need-returns-2
-returns-2 c = pick-first (c .before .before .before .before .before .before .before .args .verdict) (now (c .before .before .before .before .before .before .before .args .old)) (now (c .before .before .before .before .before .before .before .args .first)) (now (c .before .before .before .before .before .before .before .args .second)) (sym (c .before .before .before .same-bytes .ensures) ∙ c .before .before .if1 .left) (sym (c .before .same-bytes2 .ensures) ∙ c .if2 .taken)
+returns-2 c =
+    let a = c .before .before .before .before .before .before .before .args in
+    pick-first (a .verdict) (now (a .old)) (now (a .first)) (now (a .second)) (sym (c .before .before .before .same-bytes .ensures) ∙ c .before .before .if1 .left)
+    (sym (c .before .same-bytes2 .ensures) ∙ c .if2 .taken)
 
 same-bytes-requires-3 : tie.Need-same-bytes-requires-3
 same-bytes-requires-3 c κs = search needs
 
 returns-3 : tie.Need-returns-3
-returns-3 c = pick-alike (c .before .before .before .before .before .before .before .before .before .args .verdict) (now (c .before .before .before .before .before .before .before .before .before .args .old)) (now (c .before .before .before .before .before .before .before .before .before .args .first)) (now (c .before .before .before .before .before .before .before .before .before .args .second)) (sym (c .before .before .before .before .before .same-bytes .ensures) ∙ c .before .before .before .before .if1 .left) (sym (c .before .before .before .same-bytes2 .ensures) ∙ c .before .before .if2 .left) (sym (c .before .same-bytes3 .ensures) ∙ c .if3 .taken)
+returns-3 c =
+    let a = c .before .before .before .before .before .before .before .before .before .args in
+    pick-alike (a .verdict) (now (a .old)) (now (a .first)) (now (a .second))
+    (sym (c .before .before .before .before .before .same-bytes .ensures) ∙ c .before .before .before .before .if1 .left)
+    (sym (c .before .before .before .same-bytes2 .ensures) ∙ c .before .before .if2 .left) (sym (c .before .same-bytes3 .ensures) ∙ c .if3 .taken)
 
 enum-told : tie.Need-enum-told
 enum-told c = search needs
@@ -35,19 +44,31 @@ enum-told-3 : tie.Need-enum-told-3
 enum-told-3 c = search needs
 
 returns-4 : tie.Need-returns-4
-returns-4 c = sym (ap (λ (w : Verdict). decided w (now (c .before .before .before .before .before .before .before .before .before .before .before .args .old)) (now (c .before .before .before .before .before .before .before .before .before .before .before .args .first)) (now (c .before .before .before .before .before .before .before .before .before .before .before .args .second))) (c .enum-told .given .1))
-    ∙ pick-decided (c .before .before .before .before .before .before .before .before .before .before .before .args .verdict) (now (c .before .before .before .before .before .before .before .before .before .before .before .args .old)) (now (c .before .before .before .before .before .before .before .before .before .before .before .args .first)) (now (c .before .before .before .before .before .before .before .before .before .before .before .args .second))
-    (sym (c .before .before .before .before .before .before .before .same-bytes .ensures) ∙ c .before .before .before .before .before .before .if1 .left) (sym (c .before .before .before .before .before .same-bytes2 .ensures) ∙ c .before .before .before .before .if2 .left) (sym (c .before .before .before .same-bytes3 .ensures) ∙ c .before .before .if3 .left)
+returns-4 c =
+    let a = c .before .before .before .before .before .before .before .before .before .before .before .args in
+    sym (ap (λ (w : Verdict). decided w (now (a .old)) (now (a .first)) (now (a .second))) (c .enum-told .given .1))
+    ∙ pick-decided (a .verdict) (now (a .old)) (now (a .first)) (now (a .second))
+    (sym (c .before .before .before .before .before .before .before .same-bytes .ensures) ∙ c .before .before .before .before .before .before .if1 .left)
+    (sym (c .before .before .before .before .before .same-bytes2 .ensures) ∙ c .before .before .before .before .if2 .left)
+    (sym (c .before .before .before .same-bytes3 .ensures) ∙ c .before .before .if3 .left)
 
 returns-5 : tie.Need-returns-5
-returns-5 c = sym (ap (λ (w : Verdict). decided w (now (c .before .before .before .before .before .before .before .before .before .before .before .args .old)) (now (c .before .before .before .before .before .before .before .before .before .before .before .args .first)) (now (c .before .before .before .before .before .before .before .before .before .before .before .args .second))) (c .enum-told2 .given .1))
-    ∙ pick-decided (c .before .before .before .before .before .before .before .before .before .before .before .args .verdict) (now (c .before .before .before .before .before .before .before .before .before .before .before .args .old)) (now (c .before .before .before .before .before .before .before .before .before .before .before .args .first)) (now (c .before .before .before .before .before .before .before .before .before .before .before .args .second))
-    (sym (c .before .before .before .before .before .before .before .same-bytes .ensures) ∙ c .before .before .before .before .before .before .if1 .left) (sym (c .before .before .before .before .before .same-bytes2 .ensures) ∙ c .before .before .before .before .if2 .left) (sym (c .before .before .before .same-bytes3 .ensures) ∙ c .before .before .if3 .left)
+returns-5 c =
+    let a = c .before .before .before .before .before .before .before .before .before .before .before .args in
+    sym (ap (λ (w : Verdict). decided w (now (a .old)) (now (a .first)) (now (a .second))) (c .enum-told2 .given .1))
+    ∙ pick-decided (a .verdict) (now (a .old)) (now (a .first)) (now (a .second))
+    (sym (c .before .before .before .before .before .before .before .same-bytes .ensures) ∙ c .before .before .before .before .before .before .if1 .left)
+    (sym (c .before .before .before .before .before .same-bytes2 .ensures) ∙ c .before .before .before .before .if2 .left)
+    (sym (c .before .before .before .same-bytes3 .ensures) ∙ c .before .before .if3 .left)
 
 returns-6 : tie.Need-returns-6
-returns-6 c = sym (ap (λ (w : Verdict). decided w (now (c .before .before .before .before .before .before .before .before .before .before .before .args .old)) (now (c .before .before .before .before .before .before .before .before .before .before .before .args .first)) (now (c .before .before .before .before .before .before .before .before .before .before .before .args .second))) (c .enum-told3 .given .1))
-    ∙ pick-decided (c .before .before .before .before .before .before .before .before .before .before .before .args .verdict) (now (c .before .before .before .before .before .before .before .before .before .before .before .args .old)) (now (c .before .before .before .before .before .before .before .before .before .before .before .args .first)) (now (c .before .before .before .before .before .before .before .before .before .before .before .args .second))
-    (sym (c .before .before .before .before .before .before .before .same-bytes .ensures) ∙ c .before .before .before .before .before .before .if1 .left) (sym (c .before .before .before .before .before .same-bytes2 .ensures) ∙ c .before .before .before .before .if2 .left) (sym (c .before .before .before .same-bytes3 .ensures) ∙ c .before .before .if3 .left)
+returns-6 c =
+    let a = c .before .before .before .before .before .before .before .before .before .before .before .args in
+    sym (ap (λ (w : Verdict). decided w (now (a .old)) (now (a .first)) (now (a .second))) (c .enum-told3 .given .1))
+    ∙ pick-decided (a .verdict) (now (a .old)) (now (a .first)) (now (a .second))
+    (sym (c .before .before .before .before .before .before .before .same-bytes .ensures) ∙ c .before .before .before .before .before .before .if1 .left)
+    (sym (c .before .before .before .before .before .same-bytes2 .ensures) ∙ c .before .before .before .before .if2 .left)
+    (sym (c .before .before .before .same-bytes3 .ensures) ∙ c .before .before .if3 .left)
 
 pub merged-item-spec : {M : Type 1} → statement M
 merged-item-spec =

@@ -32,9 +32,12 @@ row-at-requires : tie.Need-row-at-requires Inv-loop μ-loop
 row-at-requires c κs = omega arith
 
 merge-row-requires : tie.Need-merge-row-requires Inv-loop μ-loop
-merge-row-requires c κs = let e = c .before .row-at .ensures in
-    let h : rowAt (now (c .before .before .before .before .before .before .before .before .before .before .before .before .before .args .items)) (c .before .before .before .loop .v) .offset + rowAt (now (c .before .before .before .before .before .before .before .before .before .before .before .before .before .args .items)) (c .before .before .before .loop .v) .size ≤ length (now (c .before .before .before .before .before .before .before .before .before .before .before .before .before .args .old)) = c .before .before .before .before .before .before .before .before .before .before .before .before .before .pre .lies (c .before .before .before .loop .v) (c .before .before .loop-test .taken) in
-    (rw e h, c .before .before .before .before .before .before .before .before .before .before .before .before .before .pre .first-long, c .before .before .before .before .before .before .before .before .before .before .before .before .before .pre .second-long, c .before .before .before .loop .inv .1)
+merge-row-requires c κs =
+    let a = c .before .before .before .before .before .before .before .before .before .before .before .before .before .args in
+    let pre = c .before .before .before .before .before .before .before .before .before .before .before .before .before .pre in
+    let e = c .before .row-at .ensures in
+    let h : rowAt (now (a .items)) (c .before .before .before .loop .v) .offset + rowAt (now (a .items)) (c .before .before .before .loop .v) .size ≤ length (now (a .old)) = pre .lies (c .before .before .before .loop .v) (c .before .before .loop-test .taken) in
+    (rw e h, pre .first-long, pre .second-long, c .before .before .before .loop .inv .1)
 
 add-v : tie.Need-add-v Inv-loop μ-loop
 add-v c = omega arith
@@ -43,21 +46,27 @@ loop-less : tie.Need-loop-less Inv-loop μ-loop
 loop-less c = omega arith
 
 loop-again : tie.Need-loop-again Inv-loop μ-loop
-loop-again c = (
-  omega arith,
-  c .before .out2 .given ∙ c .before .before .before .before .before .before .loop .inv .1,
-  c .before .before .merge-row .ensures
-      ∙ ap (λ (r : Row). cond (isElementary r) (replaced r (mergedItem (c .before .before .before .before .before .before .before .before .before .before .before .before .before .before .before .before .args .verdict) (part r (now (c .before .before .before .before .before .before .before .before .before .before .before .before .before .before .before .before .args .old))) (part r (now (c .before .before .before .before .before .before .before .before .before .before .before .before .before .before .before .before .args .first))) (part r (now (c .before .before .before .before .before .before .before .before .before .before .before .before .before .before .before .before .args .second)))) (c .before .before .before .before .before .before .loop .out)) (c .before .before .before .before .before .before .loop .out)) (c .before .before .before .before .row-at .ensures)
-      ∙ ap (λ (l : List ℕ). cond (isElementary (rowAt (now (c .before .before .before .before .before .before .before .before .before .before .before .before .before .before .before .before .args .items)) (c .before .before .before .before .before .before .loop .v))) (replaced (rowAt (now (c .before .before .before .before .before .before .before .before .before .before .before .before .before .before .before .before .args .items)) (c .before .before .before .before .before .before .loop .v)) ((mergedAt (copiesOf (now (c .before .before .before .before .before .before .before .before .before .before .before .before .before .before .before .before .args .items)) (now (c .before .before .before .before .before .before .before .before .before .before .before .before .before .before .before .before .args .old)) (now (c .before .before .before .before .before .before .before .before .before .before .before .before .before .before .before .before .args .first)) (now (c .before .before .before .before .before .before .before .before .before .before .before .before .before .before .before .before .args .second))) (c .before .before .before .before .before .before .before .before .before .before .before .before .before .before .before .before .args .verdict)) (c .before .before .before .before .before .before .loop .v)) l) l) (c .before .before .before .before .before .before .loop .inv .2)
-      ∙ sym (rewritten-more (now (c .before .before .before .before .before .before .before .before .before .before .before .before .before .before .before .before .args .items)) (mergedAt (copiesOf (now (c .before .before .before .before .before .before .before .before .before .before .before .before .before .before .before .before .args .items)) (now (c .before .before .before .before .before .before .before .before .before .before .before .before .before .before .before .before .args .old)) (now (c .before .before .before .before .before .before .before .before .before .before .before .before .before .before .before .before .args .first)) (now (c .before .before .before .before .before .before .before .before .before .before .before .before .before .before .before .before .args .second))) (c .before .before .before .before .before .before .before .before .before .before .before .before .before .before .before .before .args .verdict)) (now (c .before .before .before .before .before .before .before .before .before .before .before .before .before .before .before .before .args .old)) (c .before .before .before .before .before .before .loop .v)),
-)
+loop-again c =
+    let a = c .before .before .before .before .before .before .before .before .before .before .before .before .before .before .before .before .args in
+    let l = c .before .before .before .before .before .before .loop in
+    let copies = copiesOf (now (a .items)) (now (a .old)) (now (a .first)) (now (a .second)) in (
+      omega arith,
+      c .before .out2 .given ∙ l .inv .1,
+      c .before .before .merge-row .ensures
+          ∙ ap (λ (r : Row). cond (isElementary r) (replaced r (mergedItem (a .verdict) (part r (now (a .old))) (part r (now (a .first))) (part r (now (a .second)))) (l .out)) (l .out)) (c .before .before .before .before .row-at .ensures)
+          ∙ ap (λ (l : List ℕ). cond (isElementary (rowAt (now (a .items)) (l .v))) (replaced (rowAt (now (a .items)) (l .v)) ((mergedAt copies (a .verdict)) (l .v)) l) l) (l .inv .2)
+          ∙ sym (rewritten-more (now (a .items)) (mergedAt copies (a .verdict)) (now (a .old)) (l .v)),
+    )
 
 same-length : tie.Need-same-length Inv-loop μ-loop
 same-length c = c .before .loop .inv .1 ∙ sym (c .before .before .before .before .before .before .before .before .before .before .before .pre .out-long)
 
 returns : tie.Need-returns Inv-loop μ-loop
-returns c = let q : c .before .loop .v ≡ rowCount (now (c .before .before .before .before .before .before .before .before .before .before .before .args .items)) = omega arith in
-    c .before .loop .inv .2 ∙ ap (λ (n : ℕ). rewritten (now (c .before .before .before .before .before .before .before .before .before .before .before .args .items)) (mergedAt (copiesOf (now (c .before .before .before .before .before .before .before .before .before .before .before .args .items)) (now (c .before .before .before .before .before .before .before .before .before .before .before .args .old)) (now (c .before .before .before .before .before .before .before .before .before .before .before .args .first)) (now (c .before .before .before .before .before .before .before .before .before .before .before .args .second))) (c .before .before .before .before .before .before .before .before .before .before .before .args .verdict)) (now (c .before .before .before .before .before .before .before .before .before .before .before .args .old)) n) q
+returns c =
+    let a = c .before .before .before .before .before .before .before .before .before .before .before .args in
+    let l = c .before .loop in
+    let q : l .v ≡ rowCount (now (a .items)) = omega arith in
+    l .inv .2 ∙ ap (λ (n : ℕ). rewritten (now (a .items)) (mergedAt (copiesOf (now (a .items)) (now (a .old)) (now (a .first)) (now (a .second))) (a .verdict)) (now (a .old)) n) q
 
 pub write-merged-spec : {M : Type 1} → statement M
 write-merged-spec =
