@@ -50,25 +50,25 @@ loop-less c = omega arith
 loop-again : tie.Need-loop-again Inv-loop μ-loop
 loop-again c =
     let a = c .before .before .before .before .before .before .before .before .before .args in
-    let l = c .before .before .before .before .loop in
+    let turn = c .before .before .before .before .loop in
     let copies = copiesOf (now (a .items)) (now (a .old)) (now (a .first)) (now (a .second)) in
     let same = c .before .is-apart .ensures
     ∙ ap (λ (r : Row). isElementary r && changedApart (part r (now (a .old))) (part r (now (a .first))) (part r (now (a .second)))) (c .before .before .row-at .ensures) in
     ⊎-elim
     (λ w.
-    let t : (apartAt copies) (l .v) ≡ true = sym same ∙ w .0 .taken in
-    (omega arith, omega (arith, w .1), w .1 ∙ ap (λ (n : ℕ). n + 1) (l .inv .2) ∙ sym (count-hit (apartAt copies) (l .v) t)))
+    let t : (apartAt copies) (turn .v) ≡ true = sym same ∙ w .0 .taken in
+    (omega arith, omega (arith, w .1), w .1 ∙ ap (λ (n : ℕ). n + 1) (turn .inv .2) ∙ sym (count-hit (apartAt copies) (turn .v) t)))
     (λ w.
-    let t : (apartAt copies) (l .v) ≡ false = sym same ∙ w .0 .left in
-    (omega arith, omega (arith, w .1), w .1 ∙ l .inv .2 ∙ sym (ap length (rows-miss (apartAt copies) (l .v) t))))
+    let t : (apartAt copies) (turn .v) ≡ false = sym same ∙ w .0 .left in
+    (omega arith, omega (arith, w .1), w .1 ∙ turn .inv .2 ∙ sym (ap length (rows-miss (apartAt copies) (turn .v) t))))
     (c .if1 .came)
 
 returns : tie.Need-returns Inv-loop μ-loop
 returns c =
     let a = c .before .before .before .before .before .before .args in
-    let l = c .before .loop in
-    let q : l .v ≡ rowCount (now (a .items)) = omega arith in
-    l .inv .2 ∙ ap (λ (n : ℕ). length (rowsWhere (apartAt (copiesOf (now (a .items)) (now (a .old)) (now (a .first)) (now (a .second)))) n)) q
+    let turn = c .before .loop in
+    let q : turn .v ≡ rowCount (now (a .items)) = omega arith in
+    turn .inv .2 ∙ ap (λ (n : ℕ). length (rowsWhere (apartAt (copiesOf (now (a .items)) (now (a .old)) (now (a .first)) (now (a .second)))) n)) q
 
 pub count-apart-spec : {M : Type 1} → statement M
 count-apart-spec =

@@ -47,32 +47,32 @@ cast-list c = omega (arith, c .before .before .before .before .before .before .b
 mul-list : tie.Need-mul-list Inv-loop μ-loop
 mul-list c =
     let a = c .before .before .before .before .before .before .before .before .before .before .args in
-    let l = c .before .before .before .before .loop in
+    let turn = c .before .before .before .before .loop in
     let pre = c .before .before .before .before .before .before .before .before .before .before .pre in
     let copies = copiesOf (now (a .items)) (now (a .old)) (now (a .first)) (now (a .second)) in
-    let t : (apartAt copies) (l .v) ≡ true = sym (c .before .is-apart .ensures
+    let t : (apartAt copies) (turn .v) ≡ true = sym (c .before .is-apart .ensures
     ∙ ap (λ (r : Row). isElementary r && changedApart (part r (now (a .old))) (part r (now (a .first))) (part r (now (a .second)))) (c .before .before .row-at .ensures)) ∙ c .if1 .taken in
-    omega (arith, pre .2, count-hit (apartAt copies) (l .v) t, rows-grow (apartAt copies) (l .v + 1) (rowCount (now (a .items))) (omega arith))
+    omega (arith, pre .2, count-hit (apartAt copies) (turn .v) t, rows-grow (apartAt copies) (turn .v + 1) (rowCount (now (a .items))) (omega arith))
 
 slice-write-list : tie.Need-slice-write-list Inv-loop μ-loop
 slice-write-list c =
     let a = c .before .before .before .before .before .before .before .before .before .before .args in
-    let l = c .before .before .before .before .loop in
+    let turn = c .before .before .before .before .loop in
     let pre = c .before .before .before .before .before .before .before .before .before .before .pre in
     let copies = copiesOf (now (a .items)) (now (a .old)) (now (a .first)) (now (a .second)) in
-    let t : (apartAt copies) (l .v) ≡ true = sym (c .before .is-apart .ensures
+    let t : (apartAt copies) (turn .v) ≡ true = sym (c .before .is-apart .ensures
     ∙ ap (λ (r : Row). isElementary r && changedApart (part r (now (a .old))) (part r (now (a .first))) (part r (now (a .second)))) (c .before .before .row-at .ensures)) ∙ c .if1 .taken in
-    omega (arith, pre .2, count-hit (apartAt copies) (l .v) t, rows-grow (apartAt copies) (l .v + 1) (rowCount (now (a .items))) (omega arith))
+    omega (arith, pre .2, count-hit (apartAt copies) (turn .v) t, rows-grow (apartAt copies) (turn .v + 1) (rowCount (now (a .items))) (omega arith))
 
 add-count : tie.Need-add-count Inv-loop μ-loop
 add-count c =
     let a = c .before .before .before .before .before .before .before .before .before .before .args in
-    let l = c .before .before .before .before .loop in
+    let turn = c .before .before .before .before .loop in
     let pre = c .before .before .before .before .before .before .before .before .before .before .pre in
     let copies = copiesOf (now (a .items)) (now (a .old)) (now (a .first)) (now (a .second)) in
-    let t : (apartAt copies) (l .v) ≡ true = sym (c .before .is-apart .ensures
+    let t : (apartAt copies) (turn .v) ≡ true = sym (c .before .is-apart .ensures
     ∙ ap (λ (r : Row). isElementary r && changedApart (part r (now (a .old))) (part r (now (a .first))) (part r (now (a .second)))) (c .before .before .row-at .ensures)) ∙ c .if1 .taken in
-    omega (arith, pre .2, count-hit (apartAt copies) (l .v) t, rows-grow (apartAt copies) (l .v + 1) (rowCount (now (a .items))) (omega arith))
+    omega (arith, pre .2, count-hit (apartAt copies) (turn .v) t, rows-grow (apartAt copies) (turn .v + 1) (rowCount (now (a .items))) (omega arith))
 
 add-v : tie.Need-add-v Inv-loop μ-loop
 add-v c = omega arith
@@ -83,36 +83,36 @@ loop-less c = omega arith
 loop-again : tie.Need-loop-again Inv-loop μ-loop
 loop-again c =
     let a = c .before .before .before .before .before .before .before .before .before .before .args in
-    let l = c .before .before .before .before .loop in
+    let turn = c .before .before .before .before .loop in
     let pre = c .before .before .before .before .before .before .before .before .before .before .pre in
     let copies = copiesOf (now (a .items)) (now (a .old)) (now (a .first)) (now (a .second)) in
     let same = c .before .is-apart .ensures
     ∙ ap (λ (r : Row). isElementary r && changedApart (part r (now (a .old))) (part r (now (a .first))) (part r (now (a .second)))) (c .before .before .row-at .ensures) in
-    let rows = rowsWhere (apartAt copies) (l .v) in
+    let rows = rowsWhere (apartAt copies) (turn .v) in
     ⊎-elim
     (λ w.
-    let t : (apartAt copies) (l .v) ≡ true = sym same ∙ w .0 .taken in
-    let long : length rows < length (now (a .list)) = omega (arith, pre .2, count-hit (apartAt copies) (l .v) t, rows-grow (apartAt copies) (l .v + 1) (rowCount (now (a .items))) (omega arith)) in
-    let grown = sym (count-hit (apartAt copies) (l .v) t) in (
+    let t : (apartAt copies) (turn .v) ≡ true = sym same ∙ w .0 .taken in
+    let long : length rows < length (now (a .list)) = omega (arith, pre .2, count-hit (apartAt copies) (turn .v) t, rows-grow (apartAt copies) (turn .v + 1) (rowCount (now (a .items))) (omega arith)) in
+    let grown = sym (count-hit (apartAt copies) (turn .v) t) in (
       omega arith,
-      w .2 ∙ ap (λ (n : ℕ). n + 1) (l .inv .1) ∙ grown,
-      ap length (w .1) ∙ length-set (l .list) (l .count) (l .v) ∙ l .inv .2,
+      w .2 ∙ ap (λ (n : ℕ). n + 1) (turn .inv .1) ∙ grown,
+      ap length (w .1) ∙ length-set (turn .list) (turn .count) (turn .v) ∙ turn .inv .2,
       w .1
-          ∙ ap (λ (l : List ℕ). set l (l .count) (l .v)) (l .inv .3)
-          ∙ ap (λ (n : ℕ). set (rows ++ drop n (now (a .list))) n (l .v)) (l .inv .1)
-          ∙ list-put (now (a .list)) rows (l .v) long
-          ∙ ap (λ (l : List ℕ). l ++ drop (length rows + 1) (now (a .list))) (sym (rows-hit (apartAt copies) (l .v) t))
-          ∙ ap (λ (n : ℕ). rowsWhere (apartAt copies) (l .v + 1) ++ drop n (now (a .list))) (sym (w .2 ∙ ap (λ (n : ℕ). n + 1) (l .inv .1))),
+          ∙ ap (λ (l : List ℕ). set l (turn .count) (turn .v)) (turn .inv .3)
+          ∙ ap (λ (n : ℕ). set (rows ++ drop n (now (a .list))) n (turn .v)) (turn .inv .1)
+          ∙ list-put (now (a .list)) rows (turn .v) long
+          ∙ ap (λ (l : List ℕ). l ++ drop (length rows + 1) (now (a .list))) (sym (rows-hit (apartAt copies) (turn .v) t))
+          ∙ ap (λ (n : ℕ). rowsWhere (apartAt copies) (turn .v + 1) ++ drop n (now (a .list))) (sym (w .2 ∙ ap (λ (n : ℕ). n + 1) (turn .inv .1))),
     ))
     (λ w.
-    let t : (apartAt copies) (l .v) ≡ false = sym same ∙ w .0 .left in
-    let still = sym (rows-miss (apartAt copies) (l .v) t) in (
+    let t : (apartAt copies) (turn .v) ≡ false = sym same ∙ w .0 .left in
+    let still = sym (rows-miss (apartAt copies) (turn .v) t) in (
       omega arith,
-      w .2 ∙ l .inv .1 ∙ ap length still,
-      ap length (w .1) ∙ l .inv .2,
-      w .1 ∙ l .inv .3
-          ∙ ap (λ (l : List ℕ). l ++ drop (l .count) (now (a .list))) still
-          ∙ ap (λ (n : ℕ). rowsWhere (apartAt copies) (l .v + 1) ++ drop n (now (a .list))) (sym (w .2)),
+      w .2 ∙ turn .inv .1 ∙ ap length still,
+      ap length (w .1) ∙ turn .inv .2,
+      w .1 ∙ turn .inv .3
+          ∙ ap (λ (l : List ℕ). l ++ drop (turn .count) (now (a .list))) still
+          ∙ ap (λ (n : ℕ). rowsWhere (apartAt copies) (turn .v + 1) ++ drop n (now (a .list))) (sym (w .2)),
     ))
     (c .if1 .came)
 
@@ -122,11 +122,11 @@ same-length c = c .before .loop .inv .2
 returns : tie.Need-returns Inv-loop μ-loop
 returns c =
     let a = c .before .before .before .before .before .before .before .args in
-    let l = c .before .loop in
+    let turn = c .before .loop in
     let copies = copiesOf (now (a .items)) (now (a .old)) (now (a .first)) (now (a .second)) in
-    let q : l .v ≡ rowCount (now (a .items)) = omega arith in
-    l .inv .3
-    ∙ ap (λ (n : ℕ). rowsWhere (apartAt copies) (l .v) ++ drop n (now (a .list))) (l .inv .1)
+    let q : turn .v ≡ rowCount (now (a .items)) = omega arith in
+    turn .inv .3
+    ∙ ap (λ (n : ℕ). rowsWhere (apartAt copies) (turn .v) ++ drop n (now (a .list))) (turn .inv .1)
     ∙ ap (λ (n : ℕ). rowsWhere (apartAt copies) n ++ drop (length (rowsWhere (apartAt copies) n)) (now (a .list))) q
 
 pub list-apart-spec : {M : Type 1} → statement M

@@ -48,14 +48,14 @@ loop-less c = omega arith
 loop-again : tie.Need-loop-again Inv-loop μ-loop
 loop-again c =
     let a = c .before .before .before .before .before .before .before .before .before .before .before .before .before .before .before .before .args in
-    let l = c .before .before .before .before .before .before .loop in
+    let turn = c .before .before .before .before .before .before .loop in
     let copies = copiesOf (now (a .items)) (now (a .old)) (now (a .first)) (now (a .second)) in (
       omega arith,
-      c .before .out2 .given ∙ l .inv .1,
+      c .before .out2 .given ∙ turn .inv .1,
       c .before .before .merge-row .ensures
-          ∙ ap (λ (r : Row). cond (isElementary r) (replaced r (mergedItem (a .verdict) (part r (now (a .old))) (part r (now (a .first))) (part r (now (a .second)))) (l .out)) (l .out)) (c .before .before .before .before .row-at .ensures)
-          ∙ ap (λ (l : List ℕ). cond (isElementary (rowAt (now (a .items)) (l .v))) (replaced (rowAt (now (a .items)) (l .v)) ((mergedAt copies (a .verdict)) (l .v)) l) l) (l .inv .2)
-          ∙ sym (rewritten-more (now (a .items)) (mergedAt copies (a .verdict)) (now (a .old)) (l .v)),
+          ∙ ap (λ (r : Row). cond (isElementary r) (replaced r (mergedItem (a .verdict) (part r (now (a .old))) (part r (now (a .first))) (part r (now (a .second)))) (turn .out)) (turn .out)) (c .before .before .before .before .row-at .ensures)
+          ∙ ap (λ (l : List ℕ). cond (isElementary (rowAt (now (a .items)) (turn .v))) (replaced (rowAt (now (a .items)) (turn .v)) ((mergedAt copies (a .verdict)) (turn .v)) l) l) (turn .inv .2)
+          ∙ sym (rewritten-more (now (a .items)) (mergedAt copies (a .verdict)) (now (a .old)) (turn .v)),
     )
 
 same-length : tie.Need-same-length Inv-loop μ-loop
@@ -64,9 +64,9 @@ same-length c = c .before .loop .inv .1 ∙ sym (c .before .before .before .befo
 returns : tie.Need-returns Inv-loop μ-loop
 returns c =
     let a = c .before .before .before .before .before .before .before .before .before .before .before .args in
-    let l = c .before .loop in
-    let q : l .v ≡ rowCount (now (a .items)) = omega arith in
-    l .inv .2 ∙ ap (λ (n : ℕ). rewritten (now (a .items)) (mergedAt (copiesOf (now (a .items)) (now (a .old)) (now (a .first)) (now (a .second))) (a .verdict)) (now (a .old)) n) q
+    let turn = c .before .loop in
+    let q : turn .v ≡ rowCount (now (a .items)) = omega arith in
+    turn .inv .2 ∙ ap (λ (n : ℕ). rewritten (now (a .items)) (mergedAt (copiesOf (now (a .items)) (now (a .old)) (now (a .first)) (now (a .second))) (a .verdict)) (now (a .old)) n) q
 
 pub write-merged-spec : {M : Type 1} → statement M
 write-merged-spec =
