@@ -1,5 +1,5 @@
-/* Oboecurlew: COBOL conditions, read and printed, expanded, planned, judged and run; record descriptions, read; records, compared and
- * mended.
+/* Oboecurlew: COBOL conditions, read and printed, expanded, planned, judged and run; record descriptions, read; records, compared,
+ * merged and mended.
  *
  * Build the archive with `rt staticlib conditions_c` (target/staticlib/libconditions_c.a) and link it.
  *
@@ -57,7 +57,8 @@ enum oboecurlew_refusal {
     OBOECURLEW_NAME = 16,         /* read: an unknown or doubled name, its first byte; print: an item without a name of its own, its token */
     OBOECURLEW_LETTERS = 17,      /* invalid alphabetic data reached: as 13 */
     OBOECURLEW_CONDITION_NAME = 18, /* name table length not a multiple of 18, or over 1,152: 0; else the first unsound row; just after 4 */
-    OBOECURLEW_OVERLAP = 19       /* two elementary items share a byte: the first row that overlaps an earlier one */
+    OBOECURLEW_OVERLAP = 19,      /* two elementary items share a byte: the first row that overlaps an earlier one */
+    OBOECURLEW_LENGTHS = 20       /* the copies to be merged are not equally long: 0 */
 };
 
 /* Row kinds: group, alphabetic, alphanumeric, unsigned numeric, sign in the last byte, sign leading or trailing separate, group with no
@@ -138,6 +139,16 @@ uint32_t oboecurlew_run(const uint32_t *items, size_t item_numbers, const uint32
  * either record), 10. */
 uint32_t oboecurlew_differ(const uint32_t *items, size_t item_numbers, const uint8_t *first, size_t first_size, const uint8_t *second,
                            size_t second_size, uint32_t *output, size_t output_numbers, oboecurlew_answer *answer);
+
+/* Merges two copies of a record with the one that both began from, item by item: what one side changed is taken from it; what both
+ * changed, and not alike, goes by a plan, which is run once, on the first copy (true takes the first, false the second); if it stops,
+ * the item keeps its old bytes and its row is listed. Bytes in no elementary item stay old. The merged record is as long as the copies;
+ * 64 numbers hold every list. Refusals 1 to 4, 18, 19, 20, 11, 12, 10, which change neither output. */
+uint32_t oboecurlew_merge(const uint32_t *items, size_t item_numbers, const uint32_t *literals, size_t literal_numbers,
+                          const uint8_t *bytes, size_t byte_count, const uint32_t *names, size_t name_numbers, const uint32_t *plan,
+                          size_t plan_numbers, const uint8_t *old, size_t old_size, const uint8_t *first, size_t first_size,
+                          const uint8_t *second, size_t second_size, uint8_t switches, uint8_t *merged, size_t merged_size,
+                          uint32_t *contested, size_t contested_numbers, oboecurlew_answer *answer);
 
 /* Mends a record in place: in each item of kinds 3 to 6, spaces that lead its digits become 0 and a blank separate sign +, where the
  * item is valid then. Lists each changed byte, three numbers: offset, old, new, by rising offset. Three numbers for each byte of the

@@ -48,6 +48,7 @@
            88  LETTERS-INVALID      VALUE 17.
            88  CONDITION-NAME-UNSOUND VALUE 18.
            88  ITEMS-OVERLAP        VALUE 19.
+           88  LENGTHS-UNEQUAL      VALUE 20.
       *> The refusal's place, or 1 for true and 0 for false (judge,
       *> run); for refusals 13 and 17 the item's first wrong byte,
       *> counted from 0 in the record; how many simple conditions were

@@ -33,6 +33,7 @@ pub unsafe extern "C" fn second_plan(
         literals: lent(literals, literal_numbers),
         bytes: lent(bytes, byte_count),
         names: lent(names, name_numbers),
+        edition: Default::default(),
     };
     let count = rules::plan(&tables, lent(tokens, token_count), lent_mut(output, output_numbers));
     told(of_written(count.map(|count| [count])), &mut *answer)
@@ -62,6 +63,7 @@ pub unsafe extern "C" fn second_judge(
         literals: lent(literals, literal_numbers),
         bytes: lent(bytes, byte_count),
         names: lent(names, name_numbers),
+        edition: Default::default(),
     };
     let judged = rules::judge(&tables, lent(tokens, token_count), lent(record, record_size), switches);
     told(of_judged(judged), &mut *answer)
@@ -91,6 +93,7 @@ pub unsafe extern "C" fn second_run(
         literals: lent(literals, literal_numbers),
         bytes: lent(bytes, byte_count),
         names: lent(names, name_numbers),
+        edition: Default::default(),
     };
     let judged = rules::run(&tables, lent(plan, plan_numbers), lent(record, record_size), switches);
     told(of_judged(judged), &mut *answer)
@@ -108,12 +111,10 @@ pub unsafe extern "C" fn second_describe(
     place_count: usize,
     answer: *mut Answer,
 ) -> u32 {
-    // no text that is measured has condition-names, so their outputs need no room
-    let (rows, places) = (lent_mut(rows, row_numbers), lent_mut(places, place_count));
-    let outputs = descriptions::Outputs {
-        numbers: [rows, places, &mut [], &mut [], &mut []],
-        bytes: &mut [],
-    };
-    let counts = descriptions::describe(lent(text, text_size), outputs);
+    let counts = descriptions::describe(
+        lent(text, text_size),
+        lent_mut(rows, row_numbers),
+        lent_mut(places, place_count),
+    );
     told(of_written(counts), &mut *answer)
 }

@@ -1,5 +1,6 @@
 pub mod Answer
 pub mod Description
 pub mod Mending
+pub mod Merging
 pub mod Differences
 pub mod Texts

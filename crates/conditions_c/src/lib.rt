@@ -3,6 +3,7 @@
 pub mod describe; // record descriptions
 pub mod differ; // what differs between two copies
 pub mod mend; // mending
+pub mod merge; // the merge desk
 pub mod printed; // conditions as printed
 
 ghost use mathlib.Core.Path.{_≡_};

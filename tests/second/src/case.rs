@@ -6,7 +6,7 @@
 //! words (one byte per word where they are bytes); then the switch byte, the room of
 //! expand's output and the room of plan's output.
 
-use crate::rules::Tables;
+use crate::rules::{Edition, Tables};
 use std::io::{self, Read, Write};
 
 /// What the four calls are given.
@@ -22,6 +22,8 @@ pub struct Case {
     pub switches: u8,
     pub expand_room: usize,
     pub plan_room: usize,
+    /// In no file: the rules by which a case was made and is answered.
+    pub edition: Edition,
 }
 
 /// Outputs of more numbers and cases of more words than this are taken for a
@@ -36,6 +38,7 @@ impl Case {
             literals: &self.literals,
             bytes: &self.bytes,
             names: &self.names,
+            edition: self.edition,
         }
     }
 
@@ -171,6 +174,7 @@ impl<'a> Words<'a> {
             switches: self.byte()?,
             expand_room: self.room()?,
             plan_room: self.room()?,
+            edition: Edition::CURRENT,
         })
     }
 }

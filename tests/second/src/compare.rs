@@ -106,12 +106,12 @@ fn write(call: Writing, case: &Case, tokens: &[u32], output: &mut [u32]) -> Said
 
 /// Calls of judge and run have the same shape.
 #[derive(Clone, Copy)]
-enum Judging {
+pub enum Judging {
     Judge,
     Run,
 }
 
-fn judge(call: Judging, case: &Case, numbers: &[u32]) -> Said {
+pub fn judge(call: Judging, case: &Case, numbers: &[u32]) -> Said {
     let function = match call {
         Judging::Judge => oboecurlew_judge,
         Judging::Run => oboecurlew_run,

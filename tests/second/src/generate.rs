@@ -18,7 +18,7 @@ use crate::random::Random;
 use crate::rules::names::NAME_ROW;
 use crate::rules::tables::ROW;
 use crate::rules::tokens::NAME;
-use crate::rules::{self, Refusal};
+use crate::rules::{self, Edition, Refusal};
 
 /// Case `index` of a seed.
 pub fn case(seed: u64, index: u64) -> Case {
@@ -43,6 +43,36 @@ pub fn over_tables(random: &mut Random, mut case: Case) -> Case {
     case.tokens = condition::tokens(random, &case);
     damage::damage_literals(random, &mut case);
     case
+}
+
+/// Literals, names, a condition and a plan over given items, both often damaged.
+pub fn with_condition(random: &mut Random, mut case: Case) -> Case {
+    fill_values(random, &mut case);
+    case.tokens = condition::tokens(random, &case);
+    case.plan = plans::plan(random, &case);
+    case
+}
+
+fn fill_values(random: &mut Random, case: &mut Case) {
+    let theme = content::Theme::choose(random);
+    tables::fill_literals(random, &theme, case);
+    names::fill(random, &theme, case);
+}
+
+/// Literals, names and a plan over given items, the plan damaged now and then.
+pub fn with_sound_plan(random: &mut Random, mut case: Case) -> Case {
+    fill_values(random, &mut case);
+    case.tokens = condition::written(random, &case);
+    case.plan = plans::sound_plan(random, &case);
+    if random.chance(60) {
+        damage::damage_plan(random, &mut case.plan);
+    }
+    case
+}
+
+/// Breaks one of the tables.
+pub fn damage_one_table(random: &mut Random, case: &mut Case) {
+    damage::damage_a_table(random, case);
 }
 
 /// Room for the outputs, around what is needed: expand tells it of an output
@@ -146,8 +176,13 @@ fn find_operand(random: &mut Random, case: &Case, wanted: impl Fn(&Facts) -> boo
         .find(|&token| wanted(&Facts::of(case, token)))
 }
 
-fn any_switch(random: &mut Random) -> u32 {
-    random.between(2, 3) * 65_536 + random.below(8)
+/// Off switches as often as on ones, or hardly any where they are retired.
+fn any_switch(random: &mut Random, case: &Case) -> u32 {
+    let kind = match case.edition {
+        Edition::WithOffSwitches => random.between(2, 3),
+        Edition::WithoutOffSwitches => 2 + u32::from(random.chance(10)),
+    };
+    kind * 65_536 + random.below(8)
 }
 
 fn any_name(random: &mut Random, case: &Case) -> Option<u32> {
@@ -158,7 +193,7 @@ fn any_name(random: &mut Random, case: &Case) -> Option<u32> {
 /// A condition-name if there is one and chance wills it, or a switch.
 fn any_whole(random: &mut Random, case: &Case) -> u32 {
     let name = any_name(random, case).filter(|_| random.chance(600));
-    name.unwrap_or_else(|| any_switch(random))
+    name.unwrap_or_else(|| any_switch(random, case))
 }
 
 /// A well-typed simple condition as the first three numbers of a plan row.
@@ -170,7 +205,7 @@ fn simple_condition(random: &mut Random, case: &Case) -> [u32; 3] {
         6..=7 => test_of(random, case, &[14, 15, 16]),
         _ => relation_of(random, case),
     };
-    triple.unwrap_or_else(|| [any_switch(random), 0, 0])
+    triple.unwrap_or_else(|| [any_switch(random, case), 0, 0])
 }
 
 fn test_of(random: &mut Random, case: &Case, words: &[u32]) -> Option<[u32; 3]> {

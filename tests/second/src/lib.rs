@@ -8,11 +8,13 @@ pub mod case;
 pub mod compare;
 #[cfg(feature = "library")]
 mod comparison;
+pub mod convert;
 pub mod descriptions;
 pub mod differ;
 pub mod generate;
-pub mod literals;
+pub mod looked;
 pub mod mend;
+pub mod merge;
 pub mod outside;
 pub mod random;
 pub mod rules;

@@ -3,7 +3,9 @@
 use second::answers;
 use second::case::{self, Case};
 use second::subject::{self, Subject};
-use second::{descriptions, differ, generate, mend, spelling, stats, texts};
+use second::{
+    convert, descriptions, differ, generate, looked, mend, merge, spelling, stats, texts,
+};
 use std::env;
 use std::io::{self, BufReader, BufWriter, Write};
 use std::process::ExitCode;
@@ -17,7 +19,7 @@ second show SEED INDEX               one case in readable form
 second compare SEED COUNT            the library against the rules (feature library)
 second generate-SUBJECT SEED COUNT, answers-SUBJECT, show-SUBJECT SEED INDEX,
 second compare-SUBJECT SEED COUNT: the same for a SUBJECT: descriptions, spelling, differ,
-mend
+mend, merge, convert, looked
 second differ FILE FILE FILE          what the program that lists differences prints
 second differ-files SEED INDEX FOLDER three files for it";
 
@@ -112,9 +114,18 @@ fn about(verb: &str, subject: &str, numbers: &[&str]) -> io::Result<ExitCode> {
         ("compare", "differ") => compare(numbers, differ::compare::compare),
         #[cfg(feature = "library")]
         ("compare", "mend") => compare(numbers, mend::compare::compare),
+        #[cfg(feature = "convert")]
+        ("compare", "convert") => compare(numbers, convert::compare::compare),
+        #[cfg(feature = "looked")]
+        ("compare", "looked") => compare(numbers, looked::compare::compare),
+        #[cfg(feature = "merge")]
+        ("compare", "merge") => compare(numbers, merge::compare::compare),
         (_, "spelling") => of_subject::<spelling::case::Case>(verb, numbers),
         (_, "differ") => of_subject::<differ::case::Case>(verb, numbers),
         (_, "mend") => of_subject::<mend::case::Case>(verb, numbers),
+        (_, "convert") => of_subject::<convert::case::Case>(verb, numbers),
+        (_, "looked") => of_subject::<looked::case::Case>(verb, numbers),
+        (_, "merge") => of_subject::<merge::case::Case>(verb, numbers),
         _ => Err(invalid(USAGE)),
     }
 }

@@ -8,12 +8,13 @@
 
 pub(crate) mod apart;
 pub(crate) mod content;
+mod edition;
 mod expand;
 mod grammar;
 mod judge;
 pub(crate) mod names;
-mod parts;
-mod plan;
+pub(crate) mod parts;
+pub(crate) mod plan;
 pub(crate) mod tables;
 #[cfg(test)]
 mod tests;
@@ -21,8 +22,11 @@ pub(crate) mod tokens;
 mod typing;
 pub(crate) mod values;
 
+pub use edition::Edition;
 pub use plan::{VERDICT_FALSE, VERDICT_TRUE};
 pub use tables::Tables;
+
+use parts::Simple;
 
 /// "A refusal gives a number and a place, counted from 0, and changes nothing."
 #[derive(Clone, Copy, Debug, PartialEq, Eq)]
@@ -95,28 +99,50 @@ pub fn plan(tables: &Tables, tokens: &[u32], output: &mut [u32]) -> Result<u32, 
 /// refusal 12 where the table below gives it, else the answer of the derived
 /// tree."
 pub fn judge(tables: &Tables, tokens: &[u32], record: &[u8], switches: u8) -> Judged {
+    judge_and_tell(tables, tokens, record, switches, |_| {})
+}
+
+/// Tells each simple condition that judging reaches (02, n).
+pub(crate) fn judge_and_tell(
+    tables: &Tables,
+    tokens: &[u32],
+    record: &[u8],
+    switches: u8,
+    reached: impl FnMut(&Simple),
+) -> Judged {
     let checked =
         check_condition(tables, tokens).and_then(|_| tables::check_record(tables.items, record));
     match checked {
-        Ok(()) => judge::answer_of_tree(tables, tokens, record, switches),
+        Ok(()) => judge::answer_of_tree(tables, tokens, record, switches, reached),
         Err(refusal) => Judged::refused_earlier(refusal),
     }
 }
 
 /// "A run starts at row 0 and follows targets."
 pub fn run(tables: &Tables, plan: &[u32], record: &[u8], switches: u8) -> Judged {
+    run_and_tell(tables, plan, record, switches, |_| {})
+}
+
+/// Tells the simple condition of each row that a run reaches (02, n).
+pub(crate) fn run_and_tell(
+    tables: &Tables,
+    plan: &[u32],
+    record: &[u8],
+    switches: u8,
+    reached: impl FnMut(&Simple),
+) -> Judged {
     let checked = tables::check_tables(tables)
         .and_then(|()| plan::check_plan(tables, plan))
         .and_then(|()| tables::check_record(tables.items, record));
     match checked {
-        Ok(()) => judge::answer_of_plan(tables, plan, record, switches),
+        Ok(()) => judge::answer_of_plan(tables, plan, record, switches, reached),
         Err(refusal) => Judged::refused_earlier(refusal),
     }
 }
 
 /// Refusals 1 to 4, 18, 5 to 9 in their order; 7 and 8 come out of one walk. Gives the
 /// number of simple conditions.
-fn check_condition(tables: &Tables, tokens: &[u32]) -> Result<usize, Refusal> {
+pub(crate) fn check_condition(tables: &Tables, tokens: &[u32]) -> Result<usize, Refusal> {
     tables::check_tables(tables)?;
     tokens::check_tokens(tables, tokens)?;
     grammar::recognise(tokens)?;

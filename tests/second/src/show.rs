@@ -85,16 +85,21 @@ pub fn show_names(f: &mut fmt::Formatter, names: &[u32]) -> fmt::Result {
     Ok(())
 }
 
+pub fn show_plan(f: &mut fmt::Formatter, plan: &[u32]) -> fmt::Result {
+    writeln!(f, "plan: {} numbers", plan.len())?;
+    for (place, row) in plan.chunks(5).enumerate() {
+        writeln!(f, "  row {place}: {row:?}")?;
+    }
+    Ok(())
+}
+
 impl fmt::Display for Case {
     fn fmt(&self, f: &mut fmt::Formatter) -> fmt::Result {
         show_rows(f, "item", &self.items, &self.record)?;
         show_rows(f, "literal", &self.literals, &self.bytes)?;
         show_names(f, &self.names)?;
         writeln!(f, "{} tokens: {}", self.tokens.len(), tokens(&self.tokens))?;
-        writeln!(f, "plan: {} numbers", self.plan.len())?;
-        for (place, row) in self.plan.chunks(5).enumerate() {
-            writeln!(f, "  row {place}: {row:?}")?;
-        }
+        show_plan(f, &self.plan)?;
         writeln!(f, "record: {} bytes", self.record.len())?;
         writeln!(f, "switches: {:08b}", self.switches)?;
         let (expand, plan) = (self.expand_room, self.plan_room);

@@ -65,6 +65,7 @@ impl Lent {
             literals: &self.literals,
             bytes: &bytes,
             names: &self.names,
+            ..Tables::default()
         };
         if all || asked == "expand" {
             let given = rules::expand(&tables, &self.tokens, &mut output);

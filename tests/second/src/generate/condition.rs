@@ -289,7 +289,7 @@ impl Writer<'_> {
             if (exact - self.tokens.len()).is_multiple_of(2) {
                 self.tokens.push(NOT);
             }
-            let switch = any_switch(self.random);
+            let switch = any_switch(self.random, self.case);
             self.tokens.push(switch);
         }
     }

@@ -1,6 +1,6 @@
 //! Damage: one rule broken, mostly by one.
 
-use super::{any_operand, condition, find_operand, names, tables, Facts};
+use super::{any_operand, any_whole, condition, find_operand, names, tables, Facts};
 use crate::case::Case;
 use crate::random::Random;
 use crate::rules::names::NAME_ROW;
@@ -29,7 +29,8 @@ pub fn change_tokens(random: &mut Random, case: &Case, tokens: &mut Vec<u32>) {
         10 => other_word(random, tokens, place),
         11 => bracket(random, tokens, place),
         12 => tokens.push(condition::any_token(random, case)),
-        13..=16 => break_typing(random, case, tokens, place),
+        13..=15 => break_typing(random, case, tokens, place),
+        16 => drop_carry(random, case, tokens, place),
         _ => tokens.insert(place, WORD + random.below(2)),
     }
 }
@@ -64,6 +65,16 @@ fn break_typing(random: &mut Random, case: &Case, tokens: &mut [u32], place: usi
                 tokens[second] = other;
             }
         }
+    }
+}
+
+/// Puts a switch or a condition-name behind the next condition that is joined to
+/// another: what is abbreviated behind it has no carry.
+fn drop_carry(random: &mut Random, case: &Case, tokens: &mut Vec<u32>, place: usize) {
+    let is_joiner = |&token: &u32| matches!(token, condition::AND | condition::OR);
+    if let Some(next) = tokens[place..].iter().position(is_joiner) {
+        let whole = [tokens[place + next], any_whole(random, case)];
+        tokens.splice(place + next..place + next, whole);
     }
 }
 
@@ -137,12 +148,12 @@ pub fn damage_item_table(random: &mut Random, case: &mut Case) {
     }
 }
 
-fn damage_a_table(random: &mut Random, case: &mut Case) {
+pub fn damage_a_table(random: &mut Random, case: &mut Case) {
     match random.below(20) {
         0..=3 => break_length(random, &mut case.items),
         4..=8 => break_item_row(random, case),
-        9..=11 => break_length(random, &mut case.literals),
-        12..=15 => names::damage(random, case),
+        9..=10 => break_length(random, &mut case.literals),
+        11..=15 => names::damage(random, case),
         _ => break_literal_row(random, case),
     }
 }

@@ -6,7 +6,7 @@ use super::{tables, Facts};
 use crate::case::Case;
 use crate::random::Random;
 use crate::rules::names::NAME_ROW;
-use crate::rules::tables::ROW;
+use crate::rules::tables::{check_items, check_literals, ROW};
 use crate::rules::tokens::LITERAL;
 use crate::rules::values::literals_ordered;
 
@@ -95,7 +95,7 @@ fn add_fitting(random: &mut Random, theme: &Theme, case: &mut Case, item: u32) {
 
 /// Breaks the table's length, or a row in one way.
 pub fn damage(random: &mut Random, case: &mut Case) {
-    if random.chance(200) {
+    if random.chance(150) {
         return break_length(random, &mut case.names);
     }
     if case.names.len() < NAME_ROW {
@@ -103,6 +103,9 @@ pub fn damage(random: &mut Random, case: &mut Case) {
         case.names[1] = random.below(3);
     }
     let start = NAME_ROW * random.index(case.names.len() / NAME_ROW);
+    if random.chance(500) {
+        return break_pair(random, case, start);
+    }
     let (items, literals) = (case.items.len() / ROW, case.literals.len() / ROW);
     let row = &mut case.names[start..start + NAME_ROW];
     let used = 2 * row[1].min(8) as usize;
@@ -124,6 +127,44 @@ pub fn damage(random: &mut Random, case: &mut Case) {
             .for_each(|pair| pair.swap(0, 1)),
         _ => row[random.index(NAME_ROW)] ^= 1 << random.below(32),
     }
+}
+
+/// Puts two ends of which just one thing is wrong for a pair: the low or the high
+/// one may not be compared with the item, one only is numeric, or their order. Not
+/// where the other tables are damaged already.
+fn break_pair(random: &mut Random, case: &mut Case, start: usize) {
+    let [item, count] = [case.names[start], case.names[start + 1]];
+    let tables = case.tables();
+    let sound = check_items(tables.items).and_then(|()| check_literals(&tables));
+    let there = (item as usize) < case.items.len() / ROW && (1..=8).contains(&count);
+    if sound.is_err() || !there {
+        return;
+    }
+    let theme = Theme::choose(random);
+    for _ in 0..3 {
+        if case.literals.len() < 64 * ROW {
+            tables::add_literal(random, &theme, case);
+        }
+    }
+    let literals = (case.literals.len() / ROW) as u32;
+    let faulty = |pair: &[u32; 2]| faults(case, item, *pair) == 1;
+    let pairs = (0..20).map(|_| [random.below(literals), random.below(literals)]);
+    if let Some(pair) = pairs.into_iter().find(faulty) {
+        let place = start + 2 + 2 * random.index(count as usize);
+        case.names[place..place + 2].copy_from_slice(&pair);
+    }
+}
+
+/// How many things are wrong for a pair.
+fn faults(case: &Case, item: u32, pair: [u32; 2]) -> usize {
+    let item = Facts::of(case, item);
+    let [low, high] = pair.map(|row| Facts::of(case, LITERAL + row));
+    let wrong = [
+        !item.fits(&low),
+        !item.fits(&high),
+        low.numeric() != high.numeric() || !literals_ordered(&case.tables(), pair),
+    ];
+    wrong.into_iter().filter(|&wrong| wrong).count()
 }
 
 /// A length that is no multiple of 18, or 65 rows.

@@ -18,6 +18,14 @@ pub fn plan(random: &mut Random, case: &Case) -> Vec<u32> {
     plan
 }
 
+/// One that keeps the rules.
+pub fn sound_plan(random: &mut Random, case: &Case) -> Vec<u32> {
+    match random.chance(500) {
+        true => planned(random, case),
+        false => random_plan(random, case),
+    }
+}
+
 /// The plan of the case's condition, or of another one where that has none.
 fn planned(random: &mut Random, case: &Case) -> Vec<u32> {
     let mut output = [0; ENOUGH];

@@ -134,7 +134,7 @@ pub fn fill_literals(random: &mut Random, theme: &Theme, case: &mut Case) {
     }
 }
 
-fn add_literal(random: &mut Random, theme: &Theme, case: &mut Case) {
+pub fn add_literal(random: &mut Random, theme: &Theme, case: &mut Case) {
     let kind = random.pick(&[2, 2, 3, 3, 5]);
     let measures = measures(random, kind);
     add_literal_of(random, theme, kind, measures, case);

@@ -1,7 +1,7 @@
 //! Judging a condition from left to right, and following a plan.
 
 use super::grammar::DEEPEST;
-use super::parts::{parts, Part};
+use super::parts::{parts, Part, Simple};
 use super::plan::{plan_row, VERDICT_FALSE, VERDICT_TRUE};
 use super::tables::Tables;
 use super::values::test;
@@ -47,8 +47,15 @@ impl Level {
 /// "Judging goes from left to right; each level stops as soon as its value is
 /// fixed. A simple condition that is not reached is not read." "A stop ends
 /// all judging and is the answer, with its refusal number and place."
-/// The count "is that of the rules' own left-to-right judging" (02, i).
-pub fn answer_of_tree(tables: &Tables, tokens: &[u32], record: &[u8], switches: u8) -> Judged {
+/// The count "is that of the rules' own left-to-right judging" (02, i). Tells each
+/// simple condition that is reached, before it is tested.
+pub fn answer_of_tree(
+    tables: &Tables,
+    tokens: &[u32],
+    record: &[u8],
+    switches: u8,
+    mut reached: impl FnMut(&Simple),
+) -> Judged {
     let mut outer = [Level::begin(true, false); DEEPEST];
     let mut open = 0;
     let mut level = Level::begin(true, false);
@@ -59,6 +66,7 @@ pub fn answer_of_tree(tables: &Tables, tokens: &[u32], record: &[u8], switches: 
             Part::Simple { simple, not } => {
                 if level.goes_on() {
                     count += 1;
+                    reached(&simple);
                     match test(tables, &simple, record, switches) {
                         Ok(value) => level.chain = value != not,
                         Err(stop) => {
@@ -92,12 +100,19 @@ pub fn answer_of_tree(tables: &Tables, tokens: &[u32], record: &[u8], switches: 
 
 /// "A run starts at row 0 and follows targets." The count "is the rows it
 /// reaches" (02, i).
-pub fn answer_of_plan(tables: &Tables, plan: &[u32], record: &[u8], switches: u8) -> Judged {
+pub fn answer_of_plan(
+    tables: &Tables,
+    plan: &[u32],
+    record: &[u8],
+    switches: u8,
+    mut reached: impl FnMut(&Simple),
+) -> Judged {
     let mut row = 0;
     let mut count = 0;
     let answer = loop {
         count += 1;
         let (simple, on_true, on_false) = plan_row(&plan[5 * row..5 * row + 5]);
+        reached(&simple);
         let target = match test(tables, &simple, record, switches) {
             Ok(true) => on_true,
             Ok(false) => on_false,

@@ -2,7 +2,7 @@
 
 use super::content::valid_content;
 use super::names::check_names;
-use super::{refuse, Refusal};
+use super::{refuse, Edition, Refusal};
 use std::ops::Range;
 
 /// The tables and the literal bytes, lent to every call: "a lent table of up to 64
@@ -13,6 +13,8 @@ pub struct Tables<'a> {
     pub literals: &'a [u32],
     pub bytes: &'a [u8],
     pub names: &'a [u32],
+    /// Not lent: the rules by which the call goes.
+    pub edition: Edition,
 }
 
 /// "A row is four numbers: kind, offset, size in bytes, scale (digits after

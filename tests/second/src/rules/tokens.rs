@@ -2,7 +2,7 @@
 
 use super::names::NAME_ROW;
 use super::tables::{Row, Tables, ROW};
-use super::{refuse, Refusal};
+use super::{refuse, Edition, Refusal};
 
 /// "A token is kind × 65,536 + v".
 pub const LITERAL: u32 = 65_536;
@@ -54,11 +54,12 @@ pub fn check_each_token(tokens: &[u32], exists: impl Fn(u32) -> bool) -> Result<
 }
 
 /// The table of token kinds: items, literals, switches "(v 0 to 7)", words 0 to 16,
-/// condition-names (02, h).
+/// condition-names (02, h); "token kind 3 is retired" (02, l).
 pub fn exists(tables: &Tables, token: u32) -> bool {
     match kind_of(token) {
         0 | 1 => operand_exists(tables, token),
-        2 | 3 => v_of(token) <= 7,
+        2 => v_of(token) <= 7,
+        3 => v_of(token) <= 7 && tables.edition == Edition::WithOffSwitches,
         4 => v_of(token) <= 16,
         5 => (v_of(token) as usize) < tables.names.len() / NAME_ROW,
         _ => false,

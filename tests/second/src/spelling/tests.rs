@@ -1,7 +1,6 @@
 //! The reading of document 02, e), examples of documents 000 and 003, and what
 //! random texts hold.
 
-mod conditions;
 mod random;
 
 use super::*;
@@ -144,8 +143,6 @@ fn words_of_no_sort() {
         "FILLER",
         "PIC",
         "COMP-3",
-        "VALUE",
-        "THRU",
         "SEPARATE",
         "\"A",
         "\"",
@@ -168,6 +165,8 @@ fn words_of_no_sort() {
     }
     for name in [
         "UPSI-8",
+        "VALUE",
+        "THRU",
         "Z",
         "N23456789012345678901234567890",
         "5A",

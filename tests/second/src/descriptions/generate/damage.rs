@@ -5,7 +5,7 @@ use super::writer::WORDS;
 use crate::random::Random;
 
 /// Bytes that stand in texts, and some that do not.
-const NEAR: &[u8] = b"  \n..()-+0123456789AXSV9PICSGNLEADTRFZOM3HU\t,x\"\"\"\0\x80";
+const NEAR: &[u8] = b"  \n..()-0123456789AXSV9PICSGNLEADTRFZOM3\t,x\"\0\x80";
 
 fn any_byte(random: &mut Random) -> u8 {
     if random.chance(50) {
@@ -14,11 +14,6 @@ fn any_byte(random: &mut Random) -> u8 {
         random.pick(NEAR)
     }
 }
-
-/// Words that are nearly literals, and quotes that stay open.
-const NO_LITERALS: &[&str] = &[
-    "\"A", "\"", "\"A\"\"", "\"A\"B", "5-", "+", ".", "1,5", "1.2.3", "ZERO", "5\"A\"", "THROUGH",
-];
 
 pub fn damage(random: &mut Random, text: &mut Vec<u8>) {
     if text.is_empty() {
@@ -50,11 +45,10 @@ fn exchange_word(random: &mut Random, text: &mut Vec<u8>, place: usize) {
         .iter()
         .position(blank)
         .map_or(text.len(), |at| start + at);
-    let word = match random.below(6) {
+    let word = match random.below(5) {
         0 => Vec::new(),
         1 => [&text[start..end], b" ", &text[start..end]].concat(),
         2 => format!("{:02}", random.below(100)).into_bytes(),
-        3 => random.pick(NO_LITERALS).as_bytes().to_vec(),
         _ => random.pick(WORDS).as_bytes().to_vec(),
     };
     text.splice(start..end, word);

@@ -27,6 +27,7 @@ fn with_names(names: &[u32]) -> Tables<'_> {
         literals: &LITERALS,
         bytes: BYTES,
         names,
+        ..Tables::default()
     }
 }
 

@@ -1,37 +1,7 @@
-//! Literals as printed (02, e), in condition texts and in level 88 entries: "each
-//! literal met adds a row".
-
-/// Whether a word is a numeric or nonnumeric literal, its limits aside.
-pub fn is_literal(word: &[u8]) -> bool {
-    is_quoted(word) || is_numeric(word)
-}
-
-/// "Nonnumeric ones stand in \", any bytes, a \" inside doubled": parted at its
-/// quotes, every second part is what stands between two that double each other.
-fn is_quoted(word: &[u8]) -> bool {
-    let [b'"', inside @ .., b'"'] = word else {
-        return false;
-    };
-    let parts: Vec<&[u8]> = inside.split(|&byte| byte == b'"').collect();
-    let mut between = parts.iter().skip(1).step_by(2);
-    parts.len() % 2 == 1 && between.all(|part| part.is_empty())
-}
-
-/// "Numeric literals may be signed and hold one point, not last".
-fn is_numeric(word: &[u8]) -> bool {
-    let unsigned = match word {
-        [b'+' | b'-', rest @ ..] => rest,
-        _ => word,
-    };
-    let points = unsigned.iter().filter(|&&byte| byte == b'.').count();
-    let digits = unsigned.iter().filter(|byte| byte.is_ascii_digit()).count();
-    points <= 1
-        && points + digits == unsigned.len()
-        && unsigned.last().is_some_and(u8::is_ascii_digit)
-}
+//! Literals as they are met: "each literal met adds a row".
 
 /// Literal rows and bytes, "laid in turn".
-#[derive(Clone, Debug, Default, PartialEq, Eq)]
+#[derive(Default)]
 pub struct Literals {
     pub rows: Vec<u32>,
     pub bytes: Vec<u8>,

@@ -1,0 +1,4 @@
+pub mod OneItem
+pub mod Rows
+pub mod Accepted
+pub mod Exchanging
