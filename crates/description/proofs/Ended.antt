@@ -118,7 +118,7 @@ pub byte-after : (text : List ℕ) (p m : ℕ) → getD (drop m (drop p text)) 0
 byte-after text p m = let z : m + 0 ≡ m = omega arith in getD-drop m (drop p text) 0 0 ∙ rw z (getD-drop p text m 0)
 
 -- a word and its period
-with-period : (bs : List ℕ) (m : ℕ) → eqb (getD (drop m bs) 0 0) 0x2e ≡ true → take (suc m) bs ≡ ended (take m bs)
+pub with-period : (bs : List ℕ) (m : ℕ) → eqb (getD (drop m bs) 0 0) 0x2e ≡ true → take (suc m) bs ≡ ended (take m bs)
 with-period [] zero e = apart e refl
 with-period [] (suc m) e = apart e refl
 with-period (b ∷ bs) zero e = rw (eqb-true b 0x2e e)

@@ -127,12 +127,12 @@ sided-leads : (text : List ℕ) (h : Started) (n i j c : ℕ) (x : Reached) →
 sided-leads text h n i j c (Reached.Word k) = refl
 sided-leads text h n i j c (Reached.Fault k) = refl
 
-or-nothing : (o : Option State) → orElse o none ≡ o
+pub or-nothing : (o : Option State) → orElse o none ≡ o
 or-nothing none = refl
 or-nothing (some r) = refl
 
 -- the byte at which a word begins
-first : (text : List ℕ) (e : ℕ) → getD (drop (inked text e) text) 0 0 ≡ getD text (inked text e) 0
+pub first : (text : List ℕ) (e : ℕ) → getD (drop (inked text e) text) 0 0 ≡ getD text (inked text e) 0
 first text e = let z : inked text e + 0 ≡ inked text e = omega arith in getD-drop (inked text e) text 0 0 ∙ rw z
 
 module _ (h : Started) (n i j p : ℕ) where
