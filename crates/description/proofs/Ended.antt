@@ -26,7 +26,7 @@ use Rattle.description.proofs.Fit.{drawn-some}
 use Rattle.description.proofs.Pictures as P
 use Rattle.description.proofs.Stages.{Middle, no-word, word-leads, wordReach, leads, reached}
 
-unended-snoc : (u : List ℕ) (b : ℕ) → unended (u ++ b ∷ []) ≡ given (eqb b 0x2e) u
+pub unended-snoc : (u : List ℕ) (b : ℕ) → unended (u ++ b ∷ []) ≡ given (eqb b 0x2e) u
 unfolding unended
 unended-snoc [] b = refl
 unended-snoc (a ∷ []) b = by (eqb b 0x2e)
@@ -40,7 +40,7 @@ unended-snoc (a ∷ c ∷ u) b = rw (unended-snoc (c ∷ u) b) (by (eqb b 0x2e))
     by true = refl
     by false = refl
 
-ended-snoc : (test : List ℕ → Bool) (u : List ℕ) (b : ℕ) → endedBy test (u ++ b ∷ []) ≡ eqb b 0x2e && test u
+pub ended-snoc : (test : List ℕ → Bool) (u : List ℕ) (b : ℕ) → endedBy test (u ++ b ∷ []) ≡ eqb b 0x2e && test u
 ended-snoc test u b = rw (unended-snoc u b) (by (eqb b 0x2e) (test u))
   where
     by : (t s : Bool) → isSome (bind (given t u) (λ v. given (test v) v)) ≡ t && test u

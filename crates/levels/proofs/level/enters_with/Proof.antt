@@ -3,7 +3,7 @@ use denote.Ref.{now}
 use mathlib.Core.Path.{sym, _∙_}
 use borrow.Author.Tests.{not-true, not-false}
 use Rattle.levels.specs.Stack.{groupsOf}
-use Rattle.levels.proofs.Stack.{enters-none, enters-no-second, enters-yes, enters-no}
+use Rattle.levels.proofs.Stack.{enters-none, enters-no-second, enters-none-88, enters-yes, enters-no}
 use borrow.Author.Needs.{needs}
 use Rattle.levels.proofs.level.enters_with.Statement.{statement}
 use Rattle.levels.proofs.level.enters_with.Tie as tie
@@ -39,24 +39,18 @@ enum-told-2 : tie.Need-enum-told-2
 enum-told-2 c = search needs
 
 returns-3 : tie.Need-returns-3
-returns-3 c = enters-yes (now (c .before .before .before .before .before .before .before .before .before .args .stack))
-    (c .before .before .before .before .before .before .before .before .before .args .depth)
-    (c .before .before .before .before .before .before .before .before .before .args .waiting)
-    (c .before .before .before .before .before .before .before .before .before .args .a)
-    (c .before .before .before .before .before .before .before .before .before .args .b) (c .before .before .before .two-digits .result)
-    (sym (c .before .before .before .before .before .before .before .is-digit .ensures) ∙ not-false _ (c .before .before .before .before .before .before .if1 .left))
-    (sym (c .before .before .before .before .before .is-digit2 .ensures) ∙ not-false _ (c .before .before .before .before .if2 .left))
-    (c .before .before .before .two-digits .ensures) (c .before .before .enter .ensures) (c .enum-told .given .1)
+returns-3 c = enters-none-88 (groupsOf (now (c .before .before .before .before .before .before .before .args .stack)) (c .before .before .before .before .before .before .before .args .depth) (c .before .before .before .before .before .before .before .args .waiting)) (c .before .before .before .before .before .before .before .args .a) (c .before .before .before .before .before .before .before .args .b) (c .before .two-digits .result)
+    (sym (c .before .before .before .before .before .is-digit .ensures) ∙ not-false _ (c .before .before .before .before .if1 .left)) (sym (c .before .before .before .is-digit2 .ensures) ∙ not-false _ (c .before .before .if2 .left)) (c .before .two-digits .ensures) (c .if3 .taken)
 
 returns-4 : tie.Need-returns-4
-returns-4 c = enters-no (now (c .before .before .before .before .before .before .before .before .before .args .stack))
-    (c .before .before .before .before .before .before .before .before .before .args .depth)
-    (c .before .before .before .before .before .before .before .before .before .args .waiting)
-    (c .before .before .before .before .before .before .before .before .before .args .a)
-    (c .before .before .before .before .before .before .before .before .before .args .b) (c .before .before .before .two-digits .result)
-    (sym (c .before .before .before .before .before .before .before .is-digit .ensures) ∙ not-false _ (c .before .before .before .before .before .before .if1 .left))
-    (sym (c .before .before .before .before .before .is-digit2 .ensures) ∙ not-false _ (c .before .before .before .before .if2 .left))
-    (c .before .before .before .two-digits .ensures) (c .before .before .enter .ensures) (c .enum-told2 .given .1)
+returns-4 c = enters-yes (now (c .before .before .before .before .before .before .before .before .before .before .args .stack)) (c .before .before .before .before .before .before .before .before .before .before .args .depth) (c .before .before .before .before .before .before .before .before .before .before .args .waiting) (c .before .before .before .before .before .before .before .before .before .before .args .a) (c .before .before .before .before .before .before .before .before .before .before .args .b) (c .before .before .before .before .two-digits .result)
+    (sym (c .before .before .before .before .before .before .before .before .is-digit .ensures) ∙ not-false _ (c .before .before .before .before .before .before .before .if1 .left)) (sym (c .before .before .before .before .before .before .is-digit2 .ensures) ∙ not-false _ (c .before .before .before .before .before .if2 .left)) (c .before .before .before .before .two-digits .ensures)
+    (c .before .before .before .if3 .left) (c .before .before .enter .ensures) (c .enum-told .given .1)
+
+returns-5 : tie.Need-returns-5
+returns-5 c = enters-no (now (c .before .before .before .before .before .before .before .before .before .before .args .stack)) (c .before .before .before .before .before .before .before .before .before .before .args .depth) (c .before .before .before .before .before .before .before .before .before .before .args .waiting) (c .before .before .before .before .before .before .before .before .before .before .args .a) (c .before .before .before .before .before .before .before .before .before .before .args .b) (c .before .before .before .before .two-digits .result)
+    (sym (c .before .before .before .before .before .before .before .before .is-digit .ensures) ∙ not-false _ (c .before .before .before .before .before .before .before .if1 .left)) (sym (c .before .before .before .before .before .before .is-digit2 .ensures) ∙ not-false _ (c .before .before .before .before .before .if2 .left)) (c .before .before .before .before .two-digits .ensures)
+    (c .before .before .before .if3 .left) (c .before .before .enter .ensures) (c .enum-told2 .given .1)
 
 pub enters-with-spec : {M : Type 1} → statement M
 enters-with-spec =
@@ -67,8 +61,9 @@ enters-with-spec =
     is-digit-requires-2
     returns-2
     two-digits-requires
+    returns-3
     enter-requires
     enum-told
     enum-told-2
-    returns-3
-    returns-4)
+    returns-4
+    returns-5)
