@@ -8,8 +8,9 @@ use lib.Dec.{eqb, leb}
 use lib.ListN.{length, getD, take, drop}
 use Rattle.description.specs.Machine.{run, after, result}
 use Rattle.description.specs.Words.{mid, machine}
-use Rattle.description.specs.Grammar.{bytes, isBlank, ended, Shape, characters, number, packedKind, Literal, literal}
+use Rattle.description.specs.Grammar.{bytes, isBlank, ended, Shape, characters, number, packedKind, Content, group, item, Entry, Row, row, Literal, literal}
 use Rattle.description.specs.Reader.{isSome, Groups, enters, beginsLevel, beginsName, isName, isCalled, nothing, pictures, unspelt, spelling, readLiteral, endedBy, State, descriptions, partsOf, Reading, read, faulty, reading}
+use Rattle.description.specs.Limits.{Mark, smaller}
 use Rattle.description.specs.declared.Reached.{Reached}
 use Rattle.description.specs.declared.Reached.the-variants as Reached
 use Rattle.description.specs.declared.Called.{Called}
@@ -211,3 +212,21 @@ parted (b ∷ bs) = isBlank b
 -- The same after a word that ends at e: a blank or the end follows it.
 abbrev pub joined : List ℕ → ℕ → State → Reading
 joined text e q = cond (parted (drop e text)) (onward text e q) (faulty (partsOf q) e)
+
+-- The place of the first entry over a limit; and the smaller of two.
+unfoldable pub firstOver : List Mark → Option ℕ
+firstOver [] = none
+firstOver (m ∷ ms) = cond (m .over) (some (m .place)) (firstOver ms)
+
+abbrev pub sooner : Option ℕ → Option ℕ → Option ℕ
+sooner none o = o
+sooner (some p) o = some (smaller p o)
+
+-- What an item's own entry tells of its row: all that its values are compared by.
+abbrev pub ownRow : Content → Row
+ownRow group = row 0 0 0 0 0
+ownRow (item k n s t) = row k 0 n s t
+
+unfoldable pub ownRows : List Entry → List Row
+ownRows [] = []
+ownRows (e ∷ es) = ownRow (e .content) ∷ ownRows es
