@@ -29,14 +29,14 @@ may-compare-requires : tie.Need-may-compare-requires
 may-compare-requires c κs = search needs
 
 returns : tie.Need-returns
-returns c = value-barred (now (c .before .before .before .before .before .before .before .before .args .text)) (c .before .before .before .before .before .before .before .before .args .item) (c .before .before .before .before .before .before .before .before .args .found) (alone-apart _ _ (sym (c .before .before .before .before .before .literal-row .ensures) ∙ c .before .before .before .low .given .1) (c .before .before .before .before .before .before .before .before .args .item) (sym (c .before .may-compare .ensures) ∙ not-true _ (c .if1 .taken)))
+returns c = value-barred (now (c .before .before .before .before .before .before .before .before .args .text)) (c .before .before .before .before .before .before .before .before .args .item) (c .before .before .before .before .before .before .before .before .args .found) (alone-apart (literalIn (now (c .before .before .before .before .before .before .before .before .args .text)) (c .before .before .before .before .before .before .before .before .args .found .low) (c .before .before .before .before .before .before .before .before .args .found .mid)) _ (sym (c .before .before .before .before .before .literal-row .ensures) ∙ c .before .before .before .low .given .1) (c .before .before .before .before .before .before .before .before .args .item) (sym (c .before .may-compare .ensures) ∙ not-true _ (c .if1 .taken)))
 
 weigh-high-requires : tie.Need-weigh-high-requires
 weigh-high-requires c κs = (
       (c .before .before .before .before .before .before .before .before .before .pre, c .if2 .taken),
       (
         written-is _ _ (c .before .before .before .before .before .before .before .before .before .pre .low) (sym (c .before .before .before .before .before .before .literal-row .ensures) ∙ c .before .before .before .before .low .given .1),
-        alone-fine _ _ (sym (c .before .before .before .before .before .before .literal-row .ensures) ∙ c .before .before .before .before .low .given .1) (c .before .before .before .before .before .before .before .before .before .args .item) (sym (c .before .before .may-compare .ensures) ∙ not-false _ (c .before .if1 .left)),
+        alone-fine (literalIn (now (c .before .before .before .before .before .before .before .before .before .args .text)) (c .before .before .before .before .before .before .before .before .before .args .found .low) (c .before .before .before .before .before .before .before .before .before .args .found .mid)) _ (sym (c .before .before .before .before .before .before .literal-row .ensures) ∙ c .before .before .before .before .low .given .1) (c .before .before .before .before .before .before .before .before .before .args .item) (sym (c .before .before .may-compare .ensures) ∙ not-false _ (c .before .if1 .left)),
       ),
     )
 
@@ -47,7 +47,7 @@ enum-told : tie.Need-enum-told
 enum-told c = search needs
 
 returns-3 : tie.Need-returns-3
-returns-3 c = value-single (now (c .before .before .before .before .before .before .before .before .before .args .text)) (c .before .before .before .before .before .before .before .before .before .args .item) (c .before .before .before .before .before .before .before .before .before .args .found) (c .if2 .left) (alone-fine _ _ (sym (c .before .before .before .before .before .before .literal-row .ensures) ∙ c .before .before .before .before .low .given .1) (c .before .before .before .before .before .before .before .before .before .args .item) (sym (c .before .before .may-compare .ensures) ∙ not-false _ (c .before .if1 .left))) _ (sym (c .before .before .before .before .before .before .literal-row .ensures) ∙ c .before .before .before .before .low .given .1)
+returns-3 c = value-single (now (c .before .before .before .before .before .before .before .before .before .args .text)) (c .before .before .before .before .before .before .before .before .before .args .item) (c .before .before .before .before .before .before .before .before .before .args .found) (c .if2 .left) (alone-fine (literalIn (now (c .before .before .before .before .before .before .before .before .before .args .text)) (c .before .before .before .before .before .before .before .before .before .args .found .low) (c .before .before .before .before .before .before .before .before .before .args .found .mid)) _ (sym (c .before .before .before .before .before .before .literal-row .ensures) ∙ c .before .before .before .before .low .given .1) (c .before .before .before .before .before .before .before .before .before .args .item) (sym (c .before .before .may-compare .ensures) ∙ not-false _ (c .before .if1 .left))) _ (sym (c .before .before .before .before .before .before .literal-row .ensures) ∙ c .before .before .before .before .low .given .1)
 
 returns-4 : tie.Need-returns-4
 returns-4 c = value-barred (now (c .before .before .before .before .before .args .text)) (c .before .before .before .before .before .args .item) (c .before .before .before .before .before .args .found) (alone-unfit (literalIn (now (c .before .before .before .before .before .args .text)) (c .before .before .before .before .before .args .found .low) (c .before .before .before .before .before .args .found .mid)) (c .before .before .before .before .before .args .item) (sym (c .before .before .literal-row .ensures) ∙ c .enum-told .given .1))
