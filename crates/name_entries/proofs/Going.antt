@@ -1,22 +1,24 @@
 -- The values of an entry, one after another.
 use mathlib.Core.Path.{_≡_, refl, sym, ap, subst, _∙_}
-use mathlib.Core.Bool.{Bool, true, false, _||_}
+use mathlib.Core.Bool.{Bool, true, false, cond, _||_}
 use mathlib.Core.Option.{none}
 use mathlib.Core.List.{List, [], _∷_, _++_, append-nil}
 use Prim.Native.Nat.{ℕ, _+_, _*_, _-_, _≤_, _<_}
 use native.Mathlib.Omega.{arith}
 use borrow.Author.Tests.{le-ltb}
-use lib.Dec.{ltb}
-use lib.ListN.{length, replicate}
+use lib.Dec.{eqb, ltb}
+use lib.ListN.{length, take, drop, replicate, length-drop}
 use Rattle.tables.specs.declared.Row as Rules
 use Rattle.description.specs.Grammar.{bytes, Value, pairs, literals}
 use Rattle.description.specs.Limits.{anyBarred}
-use Rattle.description.specs.Reader.{Naming, label, value, values, labelled, faulty}
-use Rattle.description.specs.Stages.{inked, joined, literalAt, labelAt}
+use Rattle.description.specs.Reader.{isName, beginsName, Naming, label, value, values, labelled, faulty}
+use Rattle.description.specs.Stages.{inked, reach, joined, literalAt, nameReach, labelAt}
 use Rattle.description.specs.declared.Reached.{Reached}
 use Rattle.description.specs.declared.Reached.the-variants as Reached
 use Rattle.description.proofs.Bytes.{apart}
+use Rattle.description.proofs.Stages.{reach-le}
 use Rattle.description.proofs.Phases.{onReached}
+use Rattle.words.proofs.Laws.{inked-le}
 use Rattle.description.proofs.Valued.{label-leads, value-leads}
 use Rattle.condition_names.specs.Values.{valueAt, valueOf, Stands, shown, weighed}
 use Rattle.condition_names.specs.declared.Found.{Found}
@@ -24,7 +26,7 @@ use Rattle.condition_names.specs.declared.ValueRead.{ValueRead}
 use Rattle.condition_names.specs.declared.ValueRead.the-variants as ValueRead
 use Rattle.condition_names.proofs.Leads.{onRead, value-leads-on, Goes, value-goes}
 use Rattle.name_entries.specs.Taking.{Rooms, Takes}
-use Rattle.name_entries.specs.Named.{Span, literalsIn, pairNumbers, overValues, Noted, Left, Begun, Held, ReadAs, HeldBy, ValuesBy, LabelledAs, NamedBy}
+use Rattle.name_entries.specs.Named.{Span, literalsIn, pairNumbers, overValues, Noted, Left, Begun, Ready, Held, ReadAs, HeldBy, ValuesBy, LabelledAs, NamedBy}
 use Rattle.name_entries.specs.declared.Tally.{Tally}
 use Rattle.name_entries.specs.declared.NameRead.{NameRead}
 use Rattle.name_entries.specs.declared.NameRead.the-variants.{Whole, Fault}
@@ -128,3 +130,52 @@ module _ {text : List ℕ} {n : ℕ} {item : Rules.Row} {start : Tally} {notes-b
         reads = λ h p. g .reads h p ∙ value-leads-on text h p (g .taken) at ∙ ap (onRead text h p (g .taken)) (sym q);
         held = tt;
       }
+
+pub begun : {text : List ℕ} {t : Tally} {row notes : List ℕ} → Ready text t notes → row ≡ replicate 18 0 → Begun text t row notes
+begun r z = record { short = r .short; values = r .values; zeros = z; long = r .long; spans = r .spans; noted = r .noted }
+
+-- The name and VALUE before the values.
+to-value : (text : List ℕ) (n k : ℕ) → Reached.Word k ≡ labelAt text n → (h : Naming) →
+    joined text n (label h) ≡ onReached text (value h (inked text n)) (values h (inked text n) [] none) (literalAt (bytes "VALUE") text k)
+to-value text n k q h = label-leads text n h ∙ ap (onReached text (label h) (value h (inked text n))) (sym q) ∙ value-leads text k h (inked text n)
+
+module _ (text : List ℕ) (n : ℕ) {item : Rules.Row} {start : Tally} {notes : List ℕ} where
+  pub label-fault : {e : ℕ} {row-after notes-after : List ℕ} → Reached.Fault e ≡ labelAt text n → NamedBy text n item start notes (Fault e) row-after notes-after
+  label-fault {e} q =
+      record { values = []; reads = λ h. label-leads text n h ∙ ap (onReached text (label h) (value h (inked text n))) (sym q); held = tt }
+
+  module _ (k : ℕ) (q : Reached.Word k ≡ labelAt text n) where
+    pub value-fault : {e : ℕ} {row-after notes-after : List ℕ} → Reached.Fault e ≡ literalAt (bytes "VALUE") text k → NamedBy text n item start notes (Fault e) row-after notes-after
+    value-fault s =
+        record { values = []; reads = λ h. to-value text n k q h ∙ ap (onReached text (value h (inked text n)) (values h (inked text n) [] none)) (sym s); held = tt }
+
+    pub valued : {m : ℕ} (r : NameRead) {row-after notes-after : List ℕ} → n ≤ m → Reached.Word m ≡ literalAt (bytes "VALUE") text k →
+        ValuesBy text m item start notes r row-after notes-after → NamedBy text n item start notes r row-after notes-after
+    valued (Whole t e) l s v =
+        let h = v .held in
+        record {
+          values = v .values;
+          reads = λ h. to-value text n k q h ∙ ap (onReached text (value h (inked text n)) (values h (inked text n) [] none)) (sym s) ∙ v .reads h (inked text n);
+          held = (h .0, omega (arith, h .1), h .2);
+        }
+    valued (Fault e) l s v =
+        record {
+          values = v .values;
+          reads = λ h. to-value text n k q h ∙ ap (onReached text (value h (inked text n)) (values h (inked text n) [] none)) (sym s) ∙ v .reads h (inked text n);
+          held = tt;
+        }
+
+pub label-within : (text : List ℕ) (n k : ℕ) → n ≤ length text → Reached.Word k ≡ labelAt text n → (n ≤ k) × (k ≤ length text)
+label-within text n k l q = by (eqb (inked text n) n) (isName (take (nameReach text (inked text n)) (drop (inked text n) text))) (sym q)
+  where
+    by : (a b : Bool) →
+        cond a (Reached.Fault n) (cond b (Reached.Word (inked text n + nameReach text (inked text n))) (Reached.Fault (inked text n + nameReach text (inked text n)))) ≡ Reached.Word k →
+        (n ≤ k) × (k ≤ length text)
+    by true b e = let z : _≡_ {A = ℕ} 0 1 = cc in absurd (omega arith)
+    by false true e =
+        let z : inked text n + nameReach text (inked text n) ≡ k = cc in
+        (
+          omega (arith, z),
+          omega (arith, inked-le text n l, reach-le beginsName [] (drop (inked text n) text), length-drop (inked text n) text, z),
+        )
+    by false false e = let z : _≡_ {A = ℕ} 0 1 = cc in absurd (omega arith)

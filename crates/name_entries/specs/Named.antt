@@ -67,6 +67,14 @@ pub record Begun (text : List ℕ) (t : Tally) (row notes : List ℕ) : Type 0 w
   pub spans : List Span
   pub noted : t .over ≡ false → Noted text notes t spans
 
+-- the same before the row is cleared
+pub record Ready (text : List ℕ) (t : Tally) (notes : List ℕ) : Type 0 where
+  pub short : length text ≤ 4096
+  pub values : t .values ≡ 0
+  pub long : 448 ≤ length notes
+  pub spans : List Span
+  pub noted : t .over ≡ false → Noted text notes t spans
+
 -- whether a limit is passed, and if not what is stored
 pub record Held (text : List ℕ) (item : Rules.Row) (start : Bool) (ss : List Span) (vs : List Value) (t : Tally) (row notes : List ℕ) : Type 0 where
   pub over : t .over ≡ start || overValues (length ss) (shown item) vs

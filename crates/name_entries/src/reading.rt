@@ -2,7 +2,7 @@
 ghost use mathlib.Core.Path.{_≡_};
 ghost use Prim.Native.Nat.{_+_, _≤_};
 ghost use lib.ListN.{length, replicate};
-ghost use Rattle.name_entries.specs.Named.{Begun, ValuesBy, NamedBy};
+ghost use Rattle.name_entries.specs.Named.{Begun, Ready, ValuesBy, NamedBy};
 use crate::NameRead;
 use crate::Tally;
 use crate::notes::clear;
@@ -43,5 +43,27 @@ fn read_values(
                 return NameRead::Fault(k);
             }
         }
+    }
+}
+
+// The entry whose level number ends at n: its name, VALUE and its values. `row` is for their pairs.
+pub fn read_name(
+    text: &[u8],
+    n: usize,
+    item: Row,
+    start: Tally,
+    row: &mut [u32],
+    notes: &mut [u32],
+) -> NameRead
+    requires { ⌜ (n ≤ length (now text)) × (Ready (now text) start (now notes) × (length (now row) ≡ 18)) ⌝ }
+    ensures { λ r. ⌜ NamedBy (now (text .entry)) n item start (now (notes .entry)) r (now (row .exit)) (now (notes .exit)) ⌝ }
+{
+    clear(row);
+    match label_at(text, n) {
+        Reached::Word(k) => match literal(b"VALUE", text, k) {
+            Reached::Word(m) => read_values(text, m, item, start, row, notes),
+            Reached::Fault(e) => NameRead::Fault(e),
+        },
+        Reached::Fault(e) => NameRead::Fault(e),
     }
 }
