@@ -1,2 +1,3 @@
 pub mod Flat
-pub mod Going
+pub mod Rows
+pub mod Labels
