@@ -1,3 +1,4 @@
 pub mod Flat
 pub mod Rows
 pub mod Labels
+pub mod Steps

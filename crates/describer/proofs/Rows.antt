@@ -30,3 +30,8 @@ module _ {before row : List ℕ} {at : ℕ} (l : at + 17 < length before) (w : l
       let z : k ≡ length row = omega (arith, c .within) in
       let t : take k row ≡ row = take-all k row (omega arith) in
       c .is ∙ rw (t, z) (sym (sets-eq row before at (omega arith)))
+
+pub two-first : (row : List ℕ) (a b : ℕ) → length row ≡ 18 → set (set row 0 a) 1 b ≡ a ∷ b ∷ drop 2 row
+two-first [] a b e = absurd (omega arith)
+two-first (x ∷ []) a b e = absurd (omega arith)
+two-first (x ∷ y ∷ row) a b e = refl

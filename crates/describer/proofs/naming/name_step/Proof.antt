@@ -1,106 +1,84 @@
+-- `name_step` meets its contract: from the laws of proofs/ and what its callees ensure. Assumes nothing.
+use denote.Ref.{now}
+use native.Mathlib.Omega.{arith}
+use lib.ListN.{length, length-set}
+use Prim.Native.Nat.{_*_, _+_, _-_}
+use mathlib.Core.Path.{refl, sym, ap, _∙_}
+use Rattle.words.proofs.Laws.{inked-le}
+use Rattle.description.proofs.Bytes.{apart}
+use Rattle.describer.proofs.Steps.{ready, below, named-step, named-fault}
 use borrow.Author.Needs.{needs}
 use Rattle.describer.proofs.naming.name_step.Statement.{statement}
 use Rattle.describer.proofs.naming.name_step.Tie as tie
-use Rattle.describer.proofs.naming.name_step.Reads as reads
-use Rattle.describer.proofs.naming.name_step.Lts as lts
-use Rattle.describer.proofs.naming.item_row.Reads as item-row-reads
-use Rattle.describer.proofs.naming.passed_by.Reads as passed-by-reads
-use Rattle.describer.proofs.naming.start_of.Reads as start-of-reads
-use Rattle.describer.proofs.naming.store_name.Reads as store-name-reads
-use Rattle.name_entries.proofs.reading.read_name.Reads as read-name-reads
-use Rattle.words.proofs.blanks.next_ink.Reads as next-ink-reads
 
--- src/naming.rt:107:16
 sub-last : tie.Need-sub-last
 sub-last c = search needs
 
--- src/naming.rt:108:9
 item-row-requires : tie.Need-item-row-requires
 item-row-requires c κs = search needs
 
--- src/naming.rt:109:27
 add-read-name : tie.Need-add-read-name
 add-read-name c = search needs
 
--- src/naming.rt:109:40
 start-of-requires : tie.Need-start-of-requires
 start-of-requires c κs = search needs
 
--- src/naming.rt:109:11
 read-name-requires : tie.Need-read-name-requires
-read-name-requires c κs = ?
+read-name-requires c κs = (c .before .before .before .before .before .before .before .before .before .before .pre .inside, (ready (c .before .before .before .before .before .before .before .before .before .before .pre) (c .before .before .start-of .ensures), c .before .before .before .before .before .before .before .before .before .before .pre .wide .3))
 
--- src/naming.rt:110:25
 enum-known-t : tie.Need-enum-known-t
 enum-known-t c = search needs
 
--- src/naming.rt:112:39
 passed-by-requires : tie.Need-passed-by-requires
 passed-by-requires c κs = search needs
 
--- src/naming.rt:112:17
 same-length : tie.Need-same-length
 same-length c = search needs
 
--- src/naming.rt:112:17
 same-length-2 : tie.Need-same-length-2
 same-length-2 c = search needs
 
--- src/naming.rt:112:17
 returns : tie.Need-returns
-returns c = ?
+returns c = named-step (c .before .before .before .before .before .before .before .before .before .before .before .before .before .before .before .before .before .before .before .before .pre) (c .before .before .before .before .before .before .before .before .before .before .before .before .before .item-row .ensures) (c .before .before .before .before .before .before .before .before .before .before .before .before .start-of .ensures) (c .before .before .before .before .before .before .before .before .before .read-name .ensures) (c .before .before .before .t .given .1) (c .passed-by .ensures ∙ sym (rw (c .before .if1 .taken))) (λ o. apart (c .before .if1 .taken) o)
 
--- src/naming.rt:114:40
 add-next-ink : tie.Need-add-next-ink
 add-next-ink c = search needs
 
--- src/naming.rt:114:17
 next-ink-requires : tie.Need-next-ink-requires
 next-ink-requires c κs = search needs
 
--- src/naming.rt:115:13
 store-name-requires : tie.Need-store-name-requires
-store-name-requires c κs = ?
+store-name-requires c κs = let b = below (c .before .before .before .before .before .before .before .before .before .before .before .before .before .before .before .before .before .before .before .before .before .before .before .pre) (c .before .before .before .before .before .before .before .before .before .before .before .before .before .before .before .before .item-row .ensures) (c .before .before .before .before .before .before .before .before .before .before .before .before .before .before .before .start-of .ensures) (c .before .before .before .before .before .before .before .before .before .before .before .before .read-name .ensures) (c .before .before .before .before .before .before .t .given .1) (c .before .before .before .before .if1 .left) in ((omega (arith, b .0, c .before .before .before .before .before .before .before .before .before .before .before .before .before .before .before .before .before .before .before .before .before .before .before .pre .wide .0), (omega (arith, b .0, c .before .before .before .before .before .before .before .before .before .before .before .before .before .before .before .before .before .before .before .before .before .before .before .pre .wide .1), c .before .before .before .before .before .before .before .before .before .before .before .before .read-name .kept .1 .1 .1 .1 .0 ∙ c .before .before .before .before .before .before .before .before .before .before .before .before .before .before .before .before .before .before .before .before .before .before .before .pre .wide .3)), (omega (arith, c .before .before .before .before .before .before .before .before .before .before .before .before .before .before .before .before .before .before .before .before .before .before .before .pre .few), (omega (arith, b .1), omega (arith, c .before .before .before .before .before .before .before .before .before .before .before .before .before .before .before .before .before .before .before .before .before .before .before .pre .short, c .before .before .before .before .before .before .before .before .before .before .before .before .before .before .before .before .before .before .before .before .before .before .before .pre .inside, inked-le (now (c .before .before .before .before .before .before .before .before .before .before .before .before .before .before .before .before .before .before .before .before .before .before .before .args .text)) (c .before .before .before .before .before .before .before .before .before .before .before .before .before .before .before .before .before .before .before .before .before .before .before .args .p + 2) (c .before .before .before .before .before .before .before .before .before .before .before .before .before .before .before .before .before .before .before .before .before .before .before .pre .inside), c .before .before .before .next-ink .ensures))))
 
--- src/naming.rt:119:24
 add-t27 : tie.Need-add-t27
-add-t27 c = ?
+add-t27 c = omega (arith, below (c .before .before .before .before .before .before .before .before .before .before .before .before .before .before .before .before .before .before .before .before .before .before .before .before .before .before .before .before .before .before .before .pre) (c .before .before .before .before .before .before .before .before .before .before .before .before .before .before .before .before .before .before .before .before .before .before .before .before .item-row .ensures) (c .before .before .before .before .before .before .before .before .before .before .before .before .before .before .before .before .before .before .before .before .before .before .before .start-of .ensures) (c .before .before .before .before .before .before .before .before .before .before .before .before .before .before .before .before .before .before .before .before .read-name .ensures) (c .before .before .before .before .before .before .before .before .before .before .before .before .before .before .t .given .1) (c .before .before .before .before .before .before .before .before .before .before .before .before .if1 .left))
 
--- src/naming.rt:125:25
 enum-known-k : tie.Need-enum-known-k
 enum-known-k c = search needs
 
--- src/naming.rt:93:1
 same-length-3 : tie.Need-same-length-3
 same-length-3 c = search needs
 
--- src/naming.rt:93:1
 same-length-4 : tie.Need-same-length-4
 same-length-4 c = search needs
 
--- src/naming.rt:93:1
 same-length-5 : tie.Need-same-length-5
 same-length-5 c = search needs
 
--- src/naming.rt:93:1
 same-length-6 : tie.Need-same-length-6
 same-length-6 c = search needs
 
--- src/naming.rt:93:1
 returns-2 : tie.Need-returns-2
-returns-2 c = ?
+returns-2 c = named-step (c .before .before .before .before .before .before .before .before .before .before .before .before .before .before .before .before .before .before .before .before .before .before .before .before .before .before .before .before .before .before .before .pre) (c .before .before .before .before .before .before .before .before .before .before .before .before .before .before .before .before .before .before .before .before .before .before .before .before .item-row .ensures) (c .before .before .before .before .before .before .before .before .before .before .before .before .before .before .before .before .before .before .before .before .before .before .before .start-of .ensures) (c .before .before .before .before .before .before .before .before .before .before .before .before .before .before .before .before .before .before .before .before .read-name .ensures) (c .before .before .before .before .before .before .before .before .before .before .before .before .before .before .t .given .1) (sym (rw (c .before .before .before .before .before .before .before .before .before .before .before .before .if1 .left))) (λ o. rw (c .before .before .before .before .before .before .before .before .before .before .before .next-ink .ensures) at (c .before .before .before .before .before .before .before .store-name .ensures))
 
--- src/naming.rt:93:1
 same-length-7 : tie.Need-same-length-7
 same-length-7 c = search needs
 
--- src/naming.rt:93:1
 same-length-8 : tie.Need-same-length-8
 same-length-8 c = search needs
 
--- src/naming.rt:93:1
 returns-3 : tie.Need-returns-3
-returns-3 c = ?
+returns-3 c = named-fault (c .before .before .before .before .before .before .before .before .before .before .before .before .before .before .before .before .before .before .pre) (c .before .before .before .before .before .before .before .before .before .before .before .item-row .ensures) (c .before .before .before .before .before .before .before .before .before .before .start-of .ensures) (c .before .before .before .before .before .before .before .read-name .ensures) (c .before .k .given .1)
 
 pub name-step-spec : {M : Type 1} → statement M
 name-step-spec =

@@ -1,57 +1,51 @@
+-- `store_name` meets its contract: from the laws of proofs/ and what its callees ensure. Assumes nothing.
+use lib.Seq.{sets}
+use Rattle.describer.proofs.Rows.{two-first}
+-- `store_name` meets its contract: from the laws of proofs/ and what its callees ensure. Assumes nothing.
+use denote.Ref.{now}
+use native.Mathlib.Omega.{arith}
+use lib.ListN.{length, length-set}
+use Prim.Native.Nat.{_*_, _+_, _-_}
+use mathlib.Core.Path.{refl, sym, ap, _∙_}
 use borrow.Author.Needs.{needs}
 use Rattle.describer.proofs.naming.store_name.Statement.{statement}
 use Rattle.describer.proofs.naming.store_name.Tie as tie
-use Rattle.describer.proofs.naming.store_name.Reads as reads
-use Rattle.describer.proofs.naming.store_name.Lts as lts
-use Rattle.describer.proofs.naming.put_row.Reads as put-row-reads
 
--- src/naming.rt:86:14
 cast-row : tie.Need-cast-row
 cast-row c = search needs
 
--- src/naming.rt:86:5
 slice-write-row : tie.Need-slice-write-row
 slice-write-row c = search needs
 
--- src/naming.rt:87:14
 cast-row-2 : tie.Need-cast-row-2
 cast-row-2 c = search needs
 
--- src/naming.rt:87:5
 slice-write-row-2 : tie.Need-slice-write-row-2
 slice-write-row-2 c = search needs
 
--- src/naming.rt:88:5
 put-row-requires : tie.Need-put-row-requires
 put-row-requires c κs = search needs
 
--- src/naming.rt:89:17
 cast-places : tie.Need-cast-places
 cast-places c = search needs
 
--- src/naming.rt:89:5
 mul-places : tie.Need-mul-places
 mul-places c = search needs
 
--- src/naming.rt:89:5
 slice-write-places : tie.Need-slice-write-places
 slice-write-places c = search needs
 
--- src/naming.rt:73:1
 same-length : tie.Need-same-length
 same-length c = search needs
 
--- src/naming.rt:73:1
 same-length-2 : tie.Need-same-length-2
 same-length-2 c = search needs
 
--- src/naming.rt:73:1
 same-length-3 : tie.Need-same-length-3
 same-length-3 c = search needs
 
--- src/naming.rt:73:1
 returns : tie.Need-returns
-returns c = ?
+returns c = record { stored = c .before .before .put-row .ensures ∙ ap (sets (now (c .before .before .before .before .before .before .before .before .args .names)) (c .before .before .before .before .before .before .before .before .args .i * 18)) (two-first (now (c .before .before .before .before .before .before .before .before .args .row)) (c .before .before .before .before .before .before .before .before .args .item) (c .before .before .before .before .before .before .before .before .args .values) (c .before .before .before .before .before .before .before .before .pre .0 .1 .1)); placed = refl }
 
 pub store-name-spec : {M : Type 1} → statement M
 store-name-spec =
