@@ -20,7 +20,7 @@ use Rattle.condition_names.specs.Values.{shown}
 use Rattle.entries.specs.declared.Noted.{Noted}
 use Rattle.entries.specs.Entries.{cap, capNoted, contentOf, entryOf}
 use Rattle.name_entries.specs.Taking.{tally}
-use Rattle.name_entries.specs.Named.{Span, literalsIn, pairNumbers, overValues, Left, Held, Noted as NotesHold}
+use Rattle.name_entries.specs.Named.{Span, literalsIn, notesOf, pairNumbers, overValues, Left, Held, Noted as NotesHold}
 use Rattle.name_entries.specs.declared.Tally.{Tally}
 use Rattle.name_entries.proofs.Holding.{in-append, in-length, numbers-length, taken-next}
 use Rattle.describer.specs.Stored.{notedAt}
@@ -278,3 +278,21 @@ module _ {text : List ℕ} {es : List Entry} {cs : List Condition} {s : Names} {
 
   pub kept-more : Kept text es (cs ++ c ∷ []) r rows-after places-after notes-after
   kept-more = record { limit = limit-more; stores = stores-more; items = items-append (length es) cs c (k .items) (omega arith) }
+
+pub none-kept : (text rows places notes : List ℕ) → Kept text [] [] (names false 0 0 0 0) rows places notes
+unfolding firstOver nameMarks nameNumbers nameRows literalsIn literalsOf notesOf literalBytes
+none-kept text rows places notes =
+    record {
+      limit = refl;
+      stores = λ e.
+          record {
+            spans = [];
+            noted = record { laid = refl; counted = refl; sized = refl; few = omega arith; small = omega arith };
+            valued = refl;
+            counted = refl;
+            few = omega arith;
+            named = refl;
+            placed = refl;
+          };
+      items = tt;
+    }

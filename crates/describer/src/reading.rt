@@ -76,6 +76,9 @@ pub fn read_entries(
             EntryRead::Name => {
                 match name_step(text, p, entries, count, kept, names, places, notes, row) {
                     NameStep::Read(next, end) => {
+                        if !parted_at(text, end) {
+                            return found(count, false, end, next);
+                        }
                         kept = next;
                         at = end;
                     }
@@ -91,10 +94,10 @@ pub fn read_entries(
                 depth = d;
                 waiting = waiting_after(x);
                 at = end;
+                if !parted_at(text, end) {
+                    return found(count, false, end, kept);
+                }
             }
-        }
-        if !parted_at(text, at) {
-            return found(count, false, at, kept);
         }
     }
 }
