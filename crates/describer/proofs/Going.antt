@@ -37,6 +37,7 @@ use Rattle.describer.specs.Stored.{numbersOf, notedAt, notedFrom, pushed
 use Rattle.describer.specs.Naming.{names, Kept, NameReady, Stepped, NameBy}
 use Rattle.describer.specs.Reads.{readingOf, ReadBy}
 use Rattle.describer.specs.declared.Names.{Names}
+use Rattle.describer.specs.declared.NameStep.{NameStep}
 use Rattle.describer.specs.declared.NameStep.the-variants.{Read, Fault as Faulty}
 use Rattle.describer.proofs.Labels.{none-kept, kept-item, kept-more}
 use Rattle.describer.specs.declared.Found.{Found}
@@ -439,3 +440,7 @@ module _ (text flat stack rows places notes : List ℕ) (depth waiting count at 
 
       pub further : (at < k) × (k ≤ length text)
       further = (omega (arith, X .ends .0, e), X .ends .1)
+
+pub step-as : {text : List ℕ} {p : ℕ} {flat : List ℕ} {count : ℕ} {s : Names} {rows places notes rows-after places-after notes-after : List ℕ} {r z : NameStep} →
+    NameBy text p flat count s rows places notes r rows-after places-after notes-after → r ≡ z → NameBy text p flat count s rows places notes z rows-after places-after notes-after
+step-as N q = rw (← q) N
