@@ -10,14 +10,13 @@ use lib.Seq.{take-append-seam}
 use borrow.Author.Tests.{le-leb}
 use Rattle.description.specs.Grammar.{Entry, Row, Table}
 use Rattle.description.specs.Limits.{Outcome, table, refusal, describe}
-use Rattle.description.proofs.Groups.{lays-records}
-use Rattle.description.proofs.Verdict.{Verdict, verdict}
+use Rattle.description.proofs.Keeping.{within}
 use Rattle.layouts.specs.Layouts.{rowNumbers}
 use Rattle.descriptions.specs.declared.Described.{Described}
 use Rattle.descriptions.specs.declared.Described.the-variants.{Counts, Faulty, Room}
 use Rattle.descriptions.specs.Calls.{rowsOf, placesOf, placeOfName, room, answer, placesIn, written, DescribedBy}
 use Rattle.spelling.specs.Names.{leading, namesAt, namesOf}
-use Rattle.spelling.proofs.Describing.{length-map, layout-length, few-entries}
+use Rattle.spelling.proofs.Describing.{length-map, few-entries}
 use Rattle.texts.specs.declared.Named.the-variants.{Places, Faulty as Unnamed}
 use Rattle.texts.specs.Calls.{NamesFound, NamedBy}
 
@@ -28,12 +27,7 @@ row-numbers (r ∷ rs) = omega (arith, row-numbers rs)
 
 -- a valid description is not too long, and has as many rows as entries
 valid : (text : List ℕ) (t : Table) → describe text ≡ table t → (length text ≤ 4096) × (length (t .rows) ≡ length (t .entries))
-valid text t e = by (describe text) e (verdict text)
-  where
-    by : (o : Outcome) → o ≡ table t → Verdict text o → (length text ≤ 4096) × (length (t .rows) ≡ length (t .entries))
-    by (table u) q (Verdict.fine l v w) = let p : u ≡ t = cc in
-        let n : length (u .rows) ≡ length (u .entries) = ap length (lays-records (v .nested)) ∙ layout-length 0 (u .entries) in (l, rw p at n)
-    by (refusal n) q v = let z : _≡_ {A = ℕ} 0 1 = cc in absurd (omega arith)
+valid text t e = let w = within text t e in (w .short, w .as-many)
 
 module _ {text rows places : List ℕ} (r : Described) {rows-after places-after : List ℕ} (D : DescribedBy text rows places r rows-after places-after)
     (rows-room : length rows ≡ 320) (places-room : 64 ≤ length places) where
