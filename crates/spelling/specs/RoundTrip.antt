@@ -1,14 +1,20 @@
--- Document 02, e): what holds of every reading.
+-- Document 02, e) and h): what holds of every reading.
 use mathlib.Core.Path.{_≡_}
+use mathlib.Core.Bool.{true, _||_}
 use mathlib.Core.List.{List, []}
 use Prim.Native.Nat.{ℕ, _≤_}
-use lib.ListN.{length}
+use lib.ListN.{length, getD}
+use Rattle.tables.specs.declared.Check.{Check}
 use Rattle.tables.specs.declared.Check.the-variants.{Sound}
+use Rattle.tables.specs.declared.Refusal.the-variants.{Token}
+use Rattle.tables.specs.Tokens.{exists}
 use Rattle.tables.specs.Rows.{rowCount}
 use Rattle.tables.specs.Operands.{lend}
-use Rattle.tables.specs.Tables.{literalTableCheck, literalRowCheck, tokenCountCheck, tokenCheck}
+use Rattle.tables.specs.Refusals.{firstFailing}
+use Rattle.tables.specs.Tables.{literalTableCheck, literalRowCheck, tokenCountCheck}
 use Rattle.description.specs.Grammar.{Table}
 use Rattle.description.specs.Limits.{table, describe}
+use Rattle.spelling.specs.Names.{nameThere}
 use Rattle.spelling.specs.Reading.{Reading, read, readCondition}
 use Rattle.spelling.specs.Printing.{Print, printCondition, text as printedText}
 
@@ -25,15 +31,21 @@ RoundTrip =
     (description text tokens rows bytes : List ℕ) → readCondition description text ≡ read tokens rows bytes
     → PrintedAgain description tokens rows bytes
 
--- "Only words are judged here; their order stays with 7": with an item table of the description's rows, refusals 3 to 6 are ruled out.
-pub record TakenOn (items tokens rows bytes : List ℕ) : Type 0 where
+-- 6 with condition-names, of which there are so many
+abbrev pub tokensThere : List ℕ → List ℕ → ℕ → List ℕ → Check
+tokensThere items rows names tokens =
+    firstFailing (λ i. exists true (rowCount items) (rowCount rows) (getD tokens i 0) || nameThere names (getD tokens i 0)) Token 0 (length tokens)
+
+-- "Only words are judged here; their order stays with 7": with an item table and a name table of the description's rows, refusals 3 to 6
+-- are ruled out.
+pub record TakenOn (items tokens rows bytes : List ℕ) (names : ℕ) : Type 0 where
   pub table-sound : literalTableCheck (lend items rows bytes) ≡ Sound
   pub rows-sound : literalRowCheck (lend items rows bytes) ≡ Sound
   pub count-sound : tokenCountCheck tokens ≡ Sound
-  pub tokens-sound : tokenCheck (lend items rows bytes) tokens ≡ Sound
+  pub tokens-sound : tokensThere items rows names tokens ≡ Sound
 
 abbrev pub TakenBy : Type 0
 TakenBy =
     (description text tokens rows bytes items : List ℕ) (t : Table) → readCondition description text ≡ read tokens rows bytes
     → describe description ≡ table t → rowCount items ≡ length (t .entries)
-    → TakenOn items tokens rows bytes
+    → TakenOn items tokens rows bytes (length (t .names))
