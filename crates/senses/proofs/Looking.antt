@@ -99,10 +99,10 @@ module _ (known : Known) (w : List ℕ) where
         by false u q = cc
 
     -- a row that there is
-    pub condition-small : {v k : ℕ} (r : Called) → r ≡ calledBy w known → r ≡ Condition v → length all-names ≤ k → v ≤ k
-    condition-small {v} {k} r f g h = by (eqb (count w all-names) 1) (ltb p n) (sym g ∙ f)
+    pub condition-small : {v : ℕ} (r : Called) → r ≡ calledBy w known → r ≡ Condition v → length all-names ≤ 128 → v ≤ 128
+    condition-small {v} r f g h = by (eqb (count w all-names) 1) (ltb p n) (sym g ∙ f)
       where
-        by : (t u : Bool) → Condition v ≡ cond t (cond u (Named p) (Condition (p - n))) Unnamed → v ≤ k
+        by : (t u : Bool) → Condition v ≡ cond t (cond u (Named p) (Condition (p - n))) Unnamed → v ≤ 128
         by true true q = let z : _≡_ {A = ℕ} 0 1 = cc in absurd (omega arith)
         by true false q = let z : v ≡ p - n = cc in omega (arith, position-within w all-names)
         by false u q = let z : _≡_ {A = ℕ} 0 1 = cc in absurd (omega arith)
