@@ -14,7 +14,7 @@ enum-known-met : tie.Need-enum-known-met
 enum-known-met c = search needs
 
 add-token-requires : tie.Need-add-token-requires
-add-token-requires c κs = omega (arith, c .before .before .before .before .before .before .before .before .before .before .pre .0 .gathers .few-tokens, c .before .before .before .before .before .before .before .before .before .before .pre .0 .soon, c .before .before .before .before .before .before .before .before .before .before .pre .0 .rooms .tokens-room)
+add-token-requires c κs = omega (arith, c .before .before .before .before .before .before .before .before .before .before .pre .0 .bounds .few-tokens, c .before .before .before .before .before .before .before .before .before .before .pre .0 .soon, c .before .before .before .before .before .before .before .before .before .before .pre .0 .rooms .tokens-room)
 
 enum-known-met-2 : tie.Need-enum-known-met-2
 enum-known-met-2 c = search needs
