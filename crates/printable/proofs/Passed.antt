@@ -48,7 +48,7 @@ leading-bytes (b ∷ rest) = by (isNameByte b) refl (leading-bytes rest)
     by true e h = rw (e, h)
     by false e h = refl
 
-module _ (names : List (List ℕ)) (name : List ℕ) where
+module _ (known : Known) (name : List ℕ) where
   pub filler : same name (bytes "FILLER") ≡ true → false ≡ uniquely names name
   filler e = rw e
 

@@ -19,7 +19,7 @@ abbrev pub mayPrint : ℕ → ℕ → ℕ → Bool
 mayPrint items literals t = exists true items literals t && not (isOff t)
 
 -- a name that is no FILLER and stands once
-abbrev pub uniquely : List (List ℕ) → List ℕ → Bool
+abbrev pub uniquely : Known → List ℕ → Bool
 uniquely names name = not (same name (bytes "FILLER")) && eqb (count name names) 1
 
 -- every item token has a row

@@ -6,7 +6,8 @@ use lib.ListN.{length, getD, drop}
 use denote.Ref.{now}
 use borrow.Author.Needs.{needs}
 use borrow.Author.Tests.{not-true, not-false}
-use Rattle.spelling.specs.Names.{leading, namesAt}
+use Rattle.naming.specs.Named.{knownAt}
+use Rattle.spelling.specs.Names.{leading}
 use Rattle.printable.specs.Passing.{uniquely}
 use Rattle.printable.proofs.Passed.{no-item, an-item}
 use borrow.Author.Needs.{needs}

@@ -7,7 +7,8 @@ use denote.Ref.{now}
 use borrow.Author.Needs.{needs}
 use borrow.Author.Tests.{not-true, not-false}
 use Rattle.description.specs.Grammar.{bytes, same, all, isNameByte}
-use Rattle.spelling.specs.Names.{leading, namesAt}
+use Rattle.naming.specs.Named.{knownAt}
+use Rattle.spelling.specs.Names.{leading}
 use Rattle.printable.proofs.Passed.{leading-bytes, filler, once, not-once}
 use Rattle.naming.specs.Named.{calledBy}
 use borrow.Author.Needs.{needs}
@@ -24,7 +25,7 @@ same-bytes-requires : tie.Need-same-bytes-requires
 same-bytes-requires c κs = search needs
 
 returns : tie.Need-returns
-returns c = filler (namesAt (now (c .before .before .before .before .before .before .args .description)) (now (c .before .before .before .before .before .before .args .places))) (leading (drop (c .before .before .before .before .before .before .args .place) (now (c .before .before .before .before .before .before .args .description)))) (sym (ap (λ v. same v (bytes "FILLER")) (c .before .before .before .name-part .ensures)) ∙ sym (c .before .same-bytes .ensures) ∙ c .if1 .taken)
+returns c = filler (knownAt (now (c .before .before .before .before .before .before .args .description)) (c .before .before .before .before .before .before .args .items) (now (c .before .before .before .before .before .before .args .places))) (leading (drop (c .before .before .before .before .before .before .args .place) (now (c .before .before .before .before .before .before .args .description)))) (sym (ap (λ v. same v (bytes "FILLER")) (c .before .before .before .name-part .ensures)) ∙ sym (c .before .same-bytes .ensures) ∙ c .if1 .taken)
 
 row-named-requires : tie.Need-row-named-requires
 row-named-requires c κs = (ap (all isNameByte) (c .before .before .before .name-part .ensures) ∙ leading-bytes (drop (c .before .before .before .before .before .before .args .place) (now (c .before .before .before .before .before .before .args .description))), c .before .before .before .before .before .before .pre)
@@ -36,10 +37,10 @@ enum-told : tie.Need-enum-told
 enum-told c = search needs
 
 returns-2 : tie.Need-returns-2
-returns-2 c = once (namesAt (now (c .before .before .before .before .before .before .before .before .before .before .args .description)) (now (c .before .before .before .before .before .before .before .before .before .before .args .places))) (leading (drop (c .before .before .before .before .before .before .before .before .before .before .args .place) (now (c .before .before .before .before .before .before .before .before .before .before .args .description)))) (sym (ap (λ v. same v (bytes "FILLER")) (c .before .before .before .before .before .before .before .name-part .ensures)) ∙ sym (c .before .before .before .before .before .same-bytes .ensures) ∙ c .before .before .before .before .if1 .left) (c .before .before .before .row-named .result) (c .before .before .before .row-named .ensures ∙ ap (λ v. calledBy v (namesAt (now (c .before .before .before .before .before .before .before .before .before .before .args .description)) (now (c .before .before .before .before .before .before .before .before .before .before .args .places)))) (c .before .before .before .before .before .before .before .name-part .ensures)) (c .before .called .given .1)
+returns-2 c = once (knownAt (now (c .before .before .before .before .before .before .before .before .before .before .args .description)) (c .before .before .before .before .before .before .before .before .before .before .args .items) (now (c .before .before .before .before .before .before .before .before .before .before .args .places))) (leading (drop (c .before .before .before .before .before .before .before .before .before .before .args .place) (now (c .before .before .before .before .before .before .before .before .before .before .args .description)))) (sym (ap (λ v. same v (bytes "FILLER")) (c .before .before .before .before .before .before .before .name-part .ensures)) ∙ sym (c .before .before .before .before .before .same-bytes .ensures) ∙ c .before .before .before .before .if1 .left) (c .before .before .before .row-named .result) (c .before .before .before .row-named .ensures ∙ ap (λ v. calledBy v (knownAt (now (c .before .before .before .before .before .before .before .before .before .before .args .description)) (c .before .before .before .before .before .before .before .before .before .before .args .items) (now (c .before .before .before .before .before .before .before .before .before .before .args .places)))) (c .before .before .before .before .before .before .before .name-part .ensures)) (c .before .called .given .1)
 
 returns-3 : tie.Need-returns-3
-returns-3 c = not-once (namesAt (now (c .before .before .before .before .before .before .before .before .before .args .description)) (now (c .before .before .before .before .before .before .before .before .before .args .places))) (leading (drop (c .before .before .before .before .before .before .before .before .before .args .place) (now (c .before .before .before .before .before .before .before .before .before .args .description)))) (sym (ap (λ v. same v (bytes "FILLER")) (c .before .before .before .before .before .before .name-part .ensures)) ∙ sym (c .before .before .before .before .same-bytes .ensures) ∙ c .before .before .before .if1 .left) (c .before .before .row-named .result) (c .before .before .row-named .ensures ∙ ap (λ v. calledBy v (namesAt (now (c .before .before .before .before .before .before .before .before .before .args .description)) (now (c .before .before .before .before .before .before .before .before .before .args .places)))) (c .before .before .before .before .before .before .name-part .ensures)) (c .enum-told .given .1)
+returns-3 c = not-once (knownAt (now (c .before .before .before .before .before .before .before .before .before .args .description)) (c .before .before .before .before .before .before .before .before .before .args .items) (now (c .before .before .before .before .before .before .before .before .before .args .places))) (leading (drop (c .before .before .before .before .before .before .before .before .before .args .place) (now (c .before .before .before .before .before .before .before .before .before .args .description)))) (sym (ap (λ v. same v (bytes "FILLER")) (c .before .before .before .before .before .before .name-part .ensures)) ∙ sym (c .before .before .before .before .same-bytes .ensures) ∙ c .before .before .before .if1 .left) (c .before .before .row-named .result) (c .before .before .row-named .ensures ∙ ap (λ v. calledBy v (knownAt (now (c .before .before .before .before .before .before .before .before .before .args .description)) (c .before .before .before .before .before .before .before .before .before .args .items) (now (c .before .before .before .before .before .before .before .before .before .args .places)))) (c .before .before .before .before .before .before .name-part .ensures)) (c .enum-told .given .1)
 
 pub named-once-spec : {M : Type 1} → statement M
 named-once-spec =

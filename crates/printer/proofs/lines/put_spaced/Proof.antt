@@ -8,17 +8,17 @@ use denote.Ref.{now}
 use borrow.Author.Needs.{needs}
 use Rattle.literal_words.specs.Found.{writtenOver}
 use mathlib.Core.List.{map}
-use Rattle.spelling.specs.Names.{namesAt}
+use Rattle.naming.specs.Named.{knownAt}
 use Rattle.spelling.specs.Printing.{wordOf, spaced, printed}
 use Rattle.printer.proofs.Lining.{Spaced, spaced-none, lined-length, lined-all, next-room, two-length, word-room, lined-more}
 use Rattle.printer.proofs.lines.put_spaced.Statement.{statement}
 use Rattle.printer.proofs.lines.put_spaced.Tie as tie
 
 abbrev Inv-loop : tie.InvT-loop
-Inv-loop description places literals bytes tokens out₀ n₀ i₀ out n i = Spaced (wordOf (namesAt description places) literals bytes) tokens out₀ n i out
+Inv-loop description places items literals bytes tokens out₀ n₀ i₀ out n i = Spaced (wordOf (knownAt description items places) literals bytes) tokens out₀ n i out
 
 abbrev μ-loop : tie.MeasureT-loop
-μ-loop description places literals bytes tokens out₀ n₀ i₀ out n i = length tokens - i
+μ-loop description places items literals bytes tokens out₀ n₀ i₀ out n i = length tokens - i
 
 loop-holds : tie.Need-loop-holds Inv-loop μ-loop
 loop-holds c = spaced-none _ _ _
