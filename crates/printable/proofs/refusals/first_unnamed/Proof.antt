@@ -14,10 +14,10 @@ use Rattle.printable.proofs.refusals.first_unnamed.Statement.{statement
 use Rattle.printable.proofs.refusals.first_unnamed.Tie as tie
 
 abbrev Inv-loop : tie.InvT-loop
-Inv-loop description places tokens i₀ i = (i ≤ length tokens) × (passing (hasName (namesAt description places)) tokens ≡ i + passing (hasName (namesAt description places)) (drop i tokens))
+Inv-loop description places items tokens i₀ i = (i ≤ length tokens) × (passing (hasName (knownAt description items places)) tokens ≡ i + passing (hasName (knownAt description items places)) (drop i tokens))
 
 abbrev μ-loop : tie.MeasureT-loop
-μ-loop description places tokens i₀ i = length tokens - i
+μ-loop description places items tokens i₀ i = length tokens - i
 
 loop-holds : tie.Need-loop-holds Inv-loop μ-loop
 loop-holds c = (omega arith, omega arith)
