@@ -96,7 +96,7 @@ module _ (description : List ℕ) (items : ℕ) (places rows content : List ℕ)
 
   -- an item
   module _ (k : t / 65536 ≡ 0) where
-    item-row : v < items
+    pub item-row : v < items
     item-row =
         let e = only-first a b c d (rw k) (rw k) (rw k) (there (rw k)) in
         omega (arith, ltb-true v (length (known .items)) (both (isItem t) (ltb v (length (known .items))) e .1), items-length description items places (P .listed))

@@ -11,7 +11,7 @@ use literal_words::copies::copy_bytes;
 // The numbers of a row.
 const WIDTH: usize = 5;
 
-fn copy_numbers(from: &[u32], to: &mut [u32])
+pub fn copy_numbers(from: &[u32], to: &mut [u32])
     requires { ⌜ length (now from) ≤ length (now to) ⌝ }
     ensures { λ _. ⌜ now (to .exit) ≡ writtenOver (now (from .entry)) (now (to .entry)) ⌝ }
 {
