@@ -23,7 +23,7 @@ itemPlaces t = map (λ (e : Entry). e .named) (t .entries)
 abbrev conditionPlaces : Table → List ℕ
 conditionPlaces t = map (λ (c : Condition). c .named) (t .conditions)
 
-numbers-length : (rs : List Row) → length (numbers rs) ≡ length rs * 5
+pub numbers-length : (rs : List Row) → length (numbers rs) ≡ length rs * 5
 unfolding numbers
 numbers-length [] = refl
 numbers-length (r ∷ rs) = omega (arith, numbers-length rs)
@@ -35,7 +35,7 @@ rows-length o [] = refl
 rows-length o (x ∷ xs) = ap suc (rows-length (o + length (x .bytes)) xs)
 
 -- a front that was written
-front : (out rest : List ℕ) (n : ℕ) → n ≡ length out → take n (out ++ rest) ≡ out
+pub front : (out rest : List ℕ) (n : ℕ) → n ≡ length out → take n (out ++ rest) ≡ out
 front out rest n e = rw e (take-append-seam out rest)
 
 module _ (text : List ℕ) (t : Table) (e : describe text ≡ table t) where
