@@ -108,12 +108,12 @@ module _ {known : Known} {text : List ℕ} {g : Gathered} {tokens rows bytes : L
       record {
         gives = (
           λ w G.
-          record {
-            tokens-are = stored (w .tokens) t (tokensFrom (g .literals) ps) (G .tokens-are ∙ ap (λ (v : List ℕ). take (g .tokens) tokens ++ v) (ap (tokensFrom (g .literals)) n ∙ tokens-next (g .literals) t ps));
-            rows-are = G .rows-are ∙ ap (λ (v : List ℕ). take (g .literals * 5) rows ++ v) (ap (rowsFrom (g .bytes)) n ∙ rows-next (g .bytes) t ps);
-            bytes-are = G .bytes-are ∙ ap (λ (v : List ℕ). take (g .bytes) bytes ++ v) (ap bytesOf n ∙ bytes-next t ps);
-            fault-is = faults w G (token t) e;
-          },
+              record {
+                tokens-are = stored (w .tokens) t (tokensFrom (g .literals) ps) (G .tokens-are ∙ ap (λ (v : List ℕ). take (g .tokens) tokens ++ v) (ap (tokensFrom (g .literals)) n ∙ tokens-next (g .literals) t ps));
+                rows-are = G .rows-are ∙ ap (λ (v : List ℕ). take (g .literals * 5) rows ++ v) (ap (rowsFrom (g .bytes)) n ∙ rows-next (g .bytes) t ps);
+                bytes-are = G .bytes-are ∙ ap (λ (v : List ℕ). take (g .bytes) bytes ++ v) (ap bytesOf n ∙ bytes-next t ps);
+                fault-is = faults w G (token t) e;
+              },
           record {
             within = M .within;
             few-tokens = omega (arith, B .few-tokens, inside .1);
@@ -186,22 +186,22 @@ module _ {known : Known} {text : List ℕ} {g : Gathered} {tokens rows bytes : L
       record {
         gives = (
           λ u G.
-          record {
-            tokens-are =
-                stored (u .tokens) (65536 + v) (tokensFrom (v + 1) ps)
-                (G .tokens-are ∙ ap (λ (x : List ℕ). take (g .tokens) tokens ++ x) (ap (tokensFrom v) n ∙ tokens-literal v l ps ∙ ap (λ (k : ℕ). (65536 + v) ∷ tokensFrom k ps) (sym one)));
-            rows-are =
-                joined _ (take (v * 5) rows) (laid (rowOfLiteral o l)) (rowsFrom (o + row .size) ps)
-                (G .rows-are ∙ ap (λ (x : List ℕ). take (v * 5) rows ++ x) (ap (rowsFrom o) n ∙ rows-literal o l ps ∙ ap (λ (k : ℕ). laid (rowOfLiteral o l) ++ rowsFrom (o + k) ps) size))
-                ∙ ap (λ (x : List ℕ). x ++ rowsFrom (o + row .size) ps)
-                (sym (ap (λ (k : ℕ). take k (overAt (v * 5) (laid (rowOfLiteral o l)) rows)) (sym four) ∙ over-front (v * 5) (laid (rowOfLiteral o l)) rows rows-wide));
-            bytes-are =
-                joined _ (take o bytes) (l .bytes) (bytesOf ps)
-                (G .bytes-are ∙ ap (λ (x : List ℕ). take o bytes ++ x) (ap bytesOf n ∙ bytes-literal l ps))
-                ∙ ap (λ (x : List ℕ). x ++ bytesOf ps)
-                (sym (ap (λ (k : ℕ). take (o + k) (overAt o (l .bytes) bytes)) (sym size) ∙ over-front o (l .bytes) bytes bytes-wide));
-            fault-is = faults u G (literal l) (L .is) ∙ rw (lt-ltb v 64 h, one);
-          },
+              record {
+                tokens-are =
+                    stored (u .tokens) (65536 + v) (tokensFrom (v + 1) ps)
+                    (G .tokens-are ∙ ap (λ (x : List ℕ). take (g .tokens) tokens ++ x) (ap (tokensFrom v) n ∙ tokens-literal v l ps ∙ ap (λ (k : ℕ). (65536 + v) ∷ tokensFrom k ps) (sym one)));
+                rows-are =
+                    joined _ (take (v * 5) rows) (laid (rowOfLiteral o l)) (rowsFrom (o + row .size) ps)
+                    (G .rows-are ∙ ap (λ (x : List ℕ). take (v * 5) rows ++ x) (ap (rowsFrom o) n ∙ rows-literal o l ps ∙ ap (λ (k : ℕ). laid (rowOfLiteral o l) ++ rowsFrom (o + k) ps) size))
+                    ∙ ap (λ (x : List ℕ). x ++ rowsFrom (o + row .size) ps)
+                    (sym (ap (λ (k : ℕ). take k (overAt (v * 5) (laid (rowOfLiteral o l)) rows)) (sym four) ∙ over-front (v * 5) (laid (rowOfLiteral o l)) rows rows-wide));
+                bytes-are =
+                    joined _ (take o bytes) (l .bytes) (bytesOf ps)
+                    (G .bytes-are ∙ ap (λ (x : List ℕ). take o bytes ++ x) (ap bytesOf n ∙ bytes-literal l ps))
+                    ∙ ap (λ (x : List ℕ). x ++ bytesOf ps)
+                    (sym (ap (λ (k : ℕ). take (o + k) (overAt o (l .bytes) bytes)) (sym size) ∙ over-front o (l .bytes) bytes bytes-wide));
+                fault-is = faults u G (literal l) (L .is) ∙ rw (lt-ltb v 64 h, one);
+              },
           record {
             within = M .within;
             few-tokens = omega (arith, B .few-tokens, inside .1);

@@ -65,7 +65,15 @@ fn put_spaced(
         let token = tokens[i];
         out[n] = 0x20;
         n += 1;
-        put_token(description, places, items, literals, bytes, token, &mut out[n..]);
+        put_token(
+            description,
+            places,
+            items,
+            literals,
+            bytes,
+            token,
+            &mut out[n..],
+        );
         n += token_size(description, places, items, literals, bytes, token);
         i += 1;
     }

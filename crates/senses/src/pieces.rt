@@ -71,7 +71,14 @@ fn equal_at(text: &[u8], end: usize) -> Piece
 }
 
 // The word from `at` to `end`, with those that join it.
-pub fn piece_at(description: &[u8], places: &[u32], items: usize, text: &[u8], at: usize, end: usize) -> Piece
+pub fn piece_at(
+    description: &[u8],
+    places: &[u32],
+    items: usize,
+    text: &[u8],
+    at: usize,
+    end: usize,
+) -> Piece
     requires { ⌜ (Listed items (now places)) × (at < end) × (end ≤ length (now text)) ⌝ }
     ensures { λ r. ⌜ PieceBy (meaning (knownAt (now (description .entry)) items (now (places .entry))) (between (now (text .entry)) at end)) (now (text .entry)) end r ⌝ }
 {

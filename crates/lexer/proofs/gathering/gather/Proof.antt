@@ -23,10 +23,14 @@ abbrev μ-loop : tie.MeasureT-loop
 μ-loop description places items text literals content tokens₀ rows₀ bytes₀ held₀ tokens rows bytes held = 2048 - held .past
 
 loop-holds : tie.Need-loop-holds Inv-loop μ-loop
-loop-holds c =
-    (nothing (knownAt (now (c .before .before .before .before .before .before .args .description)) (c .before .before .before .before .before .before .args .items) (now (c .before .before .before .before .before .before .args .places)))
-    (now (c .before .before .before .before .before .before .args .text)) (c .before .before .before .before .before .before .args .literals) (c .before .before .before .before .before .before .args .content) _ _ _ (c .before .before .before .before .before .before .pre .2) (c .before .before .before .before .before .before .pre .3) (c .before .before .before .before .before .before .pre .1),
-    few-yet (now (c .before .before .before .before .before .before .args .text)) (c .before .before .before .before .before .before .args .literals) (c .before .before .before .before .before .before .args .content) (c .before .before .before .before .before .before .pre .2) (c .before .before .before .before .before .before .pre .3), refl, refl, refl)
+loop-holds c = (
+  nothing (knownAt (now (c .before .before .before .before .before .before .args .description)) (c .before .before .before .before .before .before .args .items) (now (c .before .before .before .before .before .before .args .places)))
+      (now (c .before .before .before .before .before .before .args .text)) (c .before .before .before .before .before .before .args .literals) (c .before .before .before .before .before .before .args .content) _ _ _ (c .before .before .before .before .before .before .pre .2) (c .before .before .before .before .before .before .pre .3) (c .before .before .before .before .before .before .pre .1),
+  few-yet (now (c .before .before .before .before .before .before .args .text)) (c .before .before .before .before .before .before .args .literals) (c .before .before .before .before .before .before .args .content) (c .before .before .before .before .before .before .pre .2) (c .before .before .before .before .before .before .pre .3),
+  refl,
+  refl,
+  refl,
+)
 
 step-requires : tie.Need-step-requires Inv-loop μ-loop
 step-requires c κs =

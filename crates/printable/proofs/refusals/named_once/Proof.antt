@@ -28,9 +28,12 @@ returns c = filler (knownAt (now (c .before .before .before .before .before .bef
     (c .before .same-bytes .ensures) ∙ c .if1 .taken)
 
 row-named-requires : tie.Need-row-named-requires
-row-named-requires c κs = (ap (all isNameByte) (c .before .before .before .name-part .ensures) ∙ leading-bytes (drop
-    (c .before .before .before .before .before .before .args .place) (now
-    (c .before .before .before .before .before .before .args .description))), c .before .before .before .before .before .before .pre)
+row-named-requires c κs = (
+  ap (all isNameByte) (c .before .before .before .name-part .ensures) ∙ leading-bytes (drop
+      (c .before .before .before .before .before .before .args .place) (now
+      (c .before .before .before .before .before .before .args .description))),
+  c .before .before .before .before .before .before .pre,
+)
 
 enum-known-called : tie.Need-enum-known-called
 enum-known-called c = search needs

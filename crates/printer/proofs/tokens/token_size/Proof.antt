@@ -19,10 +19,14 @@ mul-name-size : tie.Need-mul-name-size
 mul-name-size c = search needs
 
 shared-slice-read-name-size : tie.Need-shared-slice-read-name-size
-shared-slice-read-name-size c = omega (arith, c .before .before .wide .ensures, item-there (now (c .before .before .before .before .before .before .before .args .description))
-    (c .before .before .before .before .before .before .before .args .items) (now (c .before .before .before .before .before .before .before .args .places)) (now
-    (c .before .before .before .before .before .before .before .args .literals)) (now (c .before .before .before .before .before .before .before .args .bytes))
-    (c .before .before .before .before .before .before .before .args .token) (c .before .before .before .before .before .before .before .pre) (c .before .if1 .taken))
+shared-slice-read-name-size c = omega (
+  arith,
+  c .before .before .wide .ensures,
+  item-there (now (c .before .before .before .before .before .before .before .args .description))
+      (c .before .before .before .before .before .before .before .args .items) (now (c .before .before .before .before .before .before .before .args .places)) (now
+      (c .before .before .before .before .before .before .before .args .literals)) (now (c .before .before .before .before .before .before .before .args .bytes))
+      (c .before .before .before .before .before .before .before .args .token) (c .before .before .before .before .before .before .before .pre) (c .before .if1 .taken),
+)
 
 name-size-requires : tie.Need-name-size-requires
 name-size-requires c κs = search needs
@@ -36,10 +40,14 @@ returns c = c .name-size .ensures ∙ ap (λ (n : ℕ). length (leading (drop (g
     (c .before .before .before .before .before .before .before .before .pre) (c .before .before .if1 .taken)))
 
 row-at-requires : tie.Need-row-at-requires
-row-at-requires c κs = omega (arith, c .before .before .wide .ensures, literal-there (now (c .before .before .before .before .before .before .before .args .description))
-    (c .before .before .before .before .before .before .before .args .items) (now (c .before .before .before .before .before .before .before .args .places)) (now
-    (c .before .before .before .before .before .before .before .args .literals)) (now (c .before .before .before .before .before .before .before .args .bytes))
-    (c .before .before .before .before .before .before .before .args .token) (c .before .before .before .before .before .before .before .pre) (c .if2 .taken))
+row-at-requires c κs = omega (
+  arith,
+  c .before .before .wide .ensures,
+  literal-there (now (c .before .before .before .before .before .before .before .args .description))
+      (c .before .before .before .before .before .before .before .args .items) (now (c .before .before .before .before .before .before .before .args .places)) (now
+      (c .before .before .before .before .before .before .before .args .literals)) (now (c .before .before .before .before .before .before .before .args .bytes))
+      (c .before .before .before .before .before .before .before .args .token) (c .before .before .before .before .before .before .before .pre) (c .if2 .taken),
+)
 
 literal-size-requires : tie.Need-literal-size-requires
 literal-size-requires c κs = rw (c .row-at .ensures, c .before .before .before .wide .ensures) (literal-sound (now
@@ -59,17 +67,25 @@ returns-2 c = c .literal-size .ensures ∙ rw (c .before .row-at .ensures, c .be
     (c .before .before .if2 .taken))))
 
 add-word-size : tie.Need-add-word-size
-add-word-size c = omega (arith, c .before .before .before .wide .ensures, switch-there (now (c .before .before .before .before .before .before .before .before .args .description))
-    (c .before .before .before .before .before .before .before .before .args .items) (now (c .before .before .before .before .before .before .before .before .args .places)) (now
-    (c .before .before .before .before .before .before .before .before .args .literals)) (now (c .before .before .before .before .before .before .before .before .args .bytes))
-    (c .before .before .before .before .before .before .before .before .args .token) (c .before .before .before .before .before .before .before .before .pre) (c .if3 .taken))
+add-word-size c = omega (
+  arith,
+  c .before .before .before .wide .ensures,
+  switch-there (now (c .before .before .before .before .before .before .before .before .args .description))
+      (c .before .before .before .before .before .before .before .before .args .items) (now (c .before .before .before .before .before .before .before .before .args .places)) (now
+      (c .before .before .before .before .before .before .before .before .args .literals)) (now (c .before .before .before .before .before .before .before .before .args .bytes))
+      (c .before .before .before .before .before .before .before .before .args .token) (c .before .before .before .before .before .before .before .before .pre) (c .if3 .taken),
+)
 
 word-size-requires : tie.Need-word-size-requires
-word-size-requires c κs = omega (arith, c .before .before .before .wide .ensures, switch-there (now
-    (c .before .before .before .before .before .before .before .before .args .description)) (c .before .before .before .before .before .before .before .before .args .items) (now
-    (c .before .before .before .before .before .before .before .before .args .places)) (now (c .before .before .before .before .before .before .before .before .args .literals))
-    (now (c .before .before .before .before .before .before .before .before .args .bytes)) (c .before .before .before .before .before .before .before .before .args .token)
-    (c .before .before .before .before .before .before .before .before .pre) (c .if3 .taken))
+word-size-requires c κs = omega (
+  arith,
+  c .before .before .before .wide .ensures,
+  switch-there (now
+      (c .before .before .before .before .before .before .before .before .args .description)) (c .before .before .before .before .before .before .before .before .args .items) (now
+      (c .before .before .before .before .before .before .before .before .args .places)) (now (c .before .before .before .before .before .before .before .before .args .literals))
+      (now (c .before .before .before .before .before .before .before .before .args .bytes)) (c .before .before .before .before .before .before .before .before .args .token)
+      (c .before .before .before .before .before .before .before .before .pre) (c .if3 .taken),
+)
 
 returns-3 : tie.Need-returns-3
 returns-3 c = c .word-size .ensures ∙ ap (λ (n : ℕ). length (getD spelt (17 + n) [])) (c .before .before .before .before .wide .ensures) ∙ sym (ap length (switch-word (now
@@ -82,27 +98,35 @@ returns-3 c = c .word-size .ensures ∙ ap (λ (n : ℕ). length (getD spelt (17
     (c .before .if3 .taken)))
 
 add-name-size : tie.Need-add-name-size
-add-name-size c = omega (arith, c .before .before .before .before .wide .ensures, condition-there (now
-    (c .before .before .before .before .before .before .before .before .before .args .description))
-    (c .before .before .before .before .before .before .before .before .before .args .items) (now
-    (c .before .before .before .before .before .before .before .before .before .args .places)) (now
-    (c .before .before .before .before .before .before .before .before .before .args .literals)) (now
-    (c .before .before .before .before .before .before .before .before .before .args .bytes))
-    (c .before .before .before .before .before .before .before .before .before .args .token) (c .before .before .before .before .before .before .before .before .before .pre)
-    (c .if4 .taken))
+add-name-size c = omega (
+  arith,
+  c .before .before .before .before .wide .ensures,
+  condition-there (now
+      (c .before .before .before .before .before .before .before .before .before .args .description))
+      (c .before .before .before .before .before .before .before .before .before .args .items) (now
+      (c .before .before .before .before .before .before .before .before .before .args .places)) (now
+      (c .before .before .before .before .before .before .before .before .before .args .literals)) (now
+      (c .before .before .before .before .before .before .before .before .before .args .bytes))
+      (c .before .before .before .before .before .before .before .before .before .args .token) (c .before .before .before .before .before .before .before .before .before .pre)
+      (c .if4 .taken),
+)
 
 mul-name-size-2 : tie.Need-mul-name-size-2
 mul-name-size-2 c = search needs
 
 shared-slice-read-name-size-2 : tie.Need-shared-slice-read-name-size-2
-shared-slice-read-name-size-2 c = omega (arith, c .before .before .before .before .before .wide .ensures, condition-there (now
-    (c .before .before .before .before .before .before .before .before .before .before .args .description))
-    (c .before .before .before .before .before .before .before .before .before .before .args .items) (now
-    (c .before .before .before .before .before .before .before .before .before .before .args .places)) (now
-    (c .before .before .before .before .before .before .before .before .before .before .args .literals)) (now
-    (c .before .before .before .before .before .before .before .before .before .before .args .bytes))
-    (c .before .before .before .before .before .before .before .before .before .before .args .token)
-    (c .before .before .before .before .before .before .before .before .before .before .pre) (c .before .if4 .taken))
+shared-slice-read-name-size-2 c = omega (
+  arith,
+  c .before .before .before .before .before .wide .ensures,
+  condition-there (now
+      (c .before .before .before .before .before .before .before .before .before .before .args .description))
+      (c .before .before .before .before .before .before .before .before .before .before .args .items) (now
+      (c .before .before .before .before .before .before .before .before .before .before .args .places)) (now
+      (c .before .before .before .before .before .before .before .before .before .before .args .literals)) (now
+      (c .before .before .before .before .before .before .before .before .before .before .args .bytes))
+      (c .before .before .before .before .before .before .before .before .before .before .args .token)
+      (c .before .before .before .before .before .before .before .before .before .before .pre) (c .before .if4 .taken),
+)
 
 name-size-requires-2 : tie.Need-name-size-requires-2
 name-size-requires-2 c κs = search needs
@@ -122,14 +146,18 @@ returns-4 c = c .name-size2 .ensures ∙ ap (λ (n : ℕ). length (leading (drop
     (c .before .before .before .before .before .before .before .before .before .before .before .pre) (c .before .before .if4 .taken)))
 
 word-size-requires-2 : tie.Need-word-size-requires-2
-word-size-requires-2 c κs = omega (arith, c .before .before .before .before .wide .ensures, word-there (now
-    (c .before .before .before .before .before .before .before .before .before .args .description))
-    (c .before .before .before .before .before .before .before .before .before .args .items) (now
-    (c .before .before .before .before .before .before .before .before .before .args .places)) (now
-    (c .before .before .before .before .before .before .before .before .before .args .literals)) (now
-    (c .before .before .before .before .before .before .before .before .before .args .bytes))
-    (c .before .before .before .before .before .before .before .before .before .args .token) (c .before .before .before .before .before .before .before .before .before .pre)
-    (c .before .before .before .if1 .left) (c .before .before .if2 .left) (c .before .if3 .left) (c .if4 .left))
+word-size-requires-2 c κs = omega (
+  arith,
+  c .before .before .before .before .wide .ensures,
+  word-there (now
+      (c .before .before .before .before .before .before .before .before .before .args .description))
+      (c .before .before .before .before .before .before .before .before .before .args .items) (now
+      (c .before .before .before .before .before .before .before .before .before .args .places)) (now
+      (c .before .before .before .before .before .before .before .before .before .args .literals)) (now
+      (c .before .before .before .before .before .before .before .before .before .args .bytes))
+      (c .before .before .before .before .before .before .before .before .before .args .token) (c .before .before .before .before .before .before .before .before .before .pre)
+      (c .before .before .before .if1 .left) (c .before .before .if2 .left) (c .before .if3 .left) (c .if4 .left),
+)
 
 returns-5 : tie.Need-returns-5
 returns-5 c = c .word-size2 .ensures ∙ ap (λ (n : ℕ). length (getD spelt n [])) (c .before .before .before .before .before .wide .ensures) ∙ sym (ap length (word-word (now

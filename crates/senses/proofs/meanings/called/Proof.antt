@@ -12,8 +12,11 @@ use Rattle.senses.proofs.meanings.called.Statement.{statement}
 use Rattle.senses.proofs.meanings.called.Tie as tie
 
 row-named-requires : tie.Need-row-named-requires
-row-named-requires c κs = (name-bytes (knownAt (now (c .before .before .before .args .description)) (c .before .before .before .args .items) (now
-    (c .before .before .before .args .places))) (now (c .before .before .before .args .word)) (c .before .before .before .pre .0), c .before .before .before .pre .1)
+row-named-requires c κs = (
+  name-bytes (knownAt (now (c .before .before .before .args .description)) (c .before .before .before .args .items) (now
+      (c .before .before .before .args .places))) (now (c .before .before .before .args .word)) (c .before .before .before .pre .0),
+  c .before .before .before .pre .1,
+)
 
 enum-known-called : tie.Need-enum-known-called
 enum-known-called c = search needs
@@ -22,13 +25,19 @@ enum-known-called-2 : tie.Need-enum-known-called-2
 enum-known-called-2 c = search needs
 
 add-t9 : tie.Need-add-t9
-add-t9 c = omega (arith, condition-small (knownAt (now (c .before .before .before .before .before .before .before .args .description))
-    (c .before .before .before .before .before .before .before .args .items) (now (c .before .before .before .before .before .before .before .args .places))) (now
-    (c .before .before .before .before .before .before .before .args .word)) (c .before .before .before .before .before .before .before .pre .0)
-    (c .before .before .before .row-named .result) (c .before .before .before .row-named .ensures) (c .before .called2 .given .1) (rw (every-name (now
-    (c .before .before .before .before .before .before .before .args .description)) (c .before .before .before .before .before .before .before .args .items) (now
-    (c .before .before .before .before .before .before .before .args .places)), names-length (now (c .before .before .before .before .before .before .before .args .description))
-    (now (c .before .before .before .before .before .before .before .args .places))) (c .before .before .before .before .before .before .before .pre .1 .few)))
+add-t9 c = omega (
+  arith,
+  condition-small (knownAt (now (c .before .before .before .before .before .before .before .args .description))
+      (c .before .before .before .before .before .before .before .args .items) (now (c .before .before .before .before .before .before .before .args .places))) (now
+      (c .before .before .before .before .before .before .before .args .word)) (c .before .before .before .before .before .before .before .pre .0)
+      (c .before .before .before .row-named .result) (c .before .before .before .row-named .ensures) (c .before .called2 .given .1) (rw (
+        every-name (now
+            (c .before .before .before .before .before .before .before .args .description)) (c .before .before .before .before .before .before .before .args .items) (now
+            (c .before .before .before .before .before .before .before .args .places)),
+        names-length (now (c .before .before .before .before .before .before .before .args .description))
+            (now (c .before .before .before .before .before .before .before .args .places)),
+      ) (c .before .before .before .before .before .before .before .pre .1 .few)),
+)
 
 enum-told : tie.Need-enum-told
 enum-told c = search needs

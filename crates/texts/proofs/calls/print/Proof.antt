@@ -35,10 +35,13 @@ slice-aggregate-print-named c = sym (length-take-le _ _ (book-found (c .before .
     (c .before .before .before .before .before .before .before .book-of .ensures) (c .before .before .named .given .1) .there))
 
 print-named-requires : tie.Need-print-named-requires
-print-named-requires c κs = (book-found (c .before .before .before .before .before .before .before .before .book-of .result)
-    (c .before .before .before .before .before .before .before .before .book-of .ensures) (c .before .before .before .named .given .1) .short, places-listed
-    (c .before .before .before .before .before .before .before .before .book-of .result) (c .before .before .before .before .before .before .before .before .book-of .ensures)
-    (c .before .before .before .named .given .1))
+print-named-requires c κs = (
+  book-found (c .before .before .before .before .before .before .before .before .book-of .result)
+      (c .before .before .before .before .before .before .before .before .book-of .ensures) (c .before .before .before .named .given .1) .short,
+  places-listed
+      (c .before .before .before .before .before .before .before .before .book-of .result) (c .before .before .before .before .before .before .before .before .book-of .ensures)
+      (c .before .before .before .named .given .1),
+)
 
 enum-known-named-2 : tie.Need-enum-known-named-2
 enum-known-named-2 c = search needs

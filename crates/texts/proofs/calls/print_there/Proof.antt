@@ -23,22 +23,33 @@ returns c = refused-print (token-refuses (knownAt (now (c .before .before .befor
     (c .before .before .before .before .before .before .before .before .args .literals)) (now (c .before .before .before .before .before .before .before .before .args .bytes)) (now
     (c .before .before .before .before .before .before .before .before .args .tokens)) (c .before .before .before .before .before .before .before .before .pre .table-sound)
     (c .before .before .before .before .before .before .before .before .pre .rows-sound) (c .before .before .before .before .before .before .before .before .pre .count-sound)
-    (omega (arith, (c .before .first-missing .ensures ∙ missing-same (now (c .before .before .before .before .before .before .before .before .args .description))
-    (c .before .before .before .before .before .before .before .before .args .items) (now (c .before .before .before .before .before .before .before .before .args .places)) (now
-    (c .before .before .before .before .before .before .before .before .args .literals)) (now (c .before .before .before .before .before .before .before .before .args .tokens))
-    (c .before .before .before .before .before .before .before .before .pre .listed .within)), c .if1 .taken))) (ap (λ n. unprintedAs 6 n)
+    (omega (
+      arith,
+      (c .before .first-missing .ensures ∙ missing-same (now (c .before .before .before .before .before .before .before .before .args .description))
+          (c .before .before .before .before .before .before .before .before .args .items) (now (c .before .before .before .before .before .before .before .before .args .places)) (now
+          (c .before .before .before .before .before .before .before .before .args .literals)) (now (c .before .before .before .before .before .before .before .before .args .tokens))
+          (c .before .before .before .before .before .before .before .before .pre .listed .within)),
+      c .if1 .taken,
+    ))) (ap (λ n. unprintedAs 6 n)
     (c .before .first-missing .ensures ∙ missing-same (now (c .before .before .before .before .before .before .before .before .args .description))
     (c .before .before .before .before .before .before .before .before .args .items) (now (c .before .before .before .before .before .before .before .before .args .places)) (now
     (c .before .before .before .before .before .before .before .before .args .literals)) (now (c .before .before .before .before .before .before .before .before .args .tokens))
     (c .before .before .before .before .before .before .before .before .pre .listed .within)))
 
 first-unnamed-requires : tie.Need-first-unnamed-requires
-first-unnamed-requires c κs = (c .before .before .before .before .before .before .before .before .pre .listed, names-there
-    (c .before .before .before .before .before .before .before .before .pre) (omega (arith, (c .before .first-missing .ensures ∙ missing-same (now
-    (c .before .before .before .before .before .before .before .before .args .description)) (c .before .before .before .before .before .before .before .before .args .items) (now
-    (c .before .before .before .before .before .before .before .before .args .places)) (now (c .before .before .before .before .before .before .before .before .args .literals))
-    (now (c .before .before .before .before .before .before .before .before .args .tokens))
-    (c .before .before .before .before .before .before .before .before .pre .listed .within)), c .if1 .left)))
+first-unnamed-requires c κs = (
+  c .before .before .before .before .before .before .before .before .pre .listed,
+  names-there
+      (c .before .before .before .before .before .before .before .before .pre) (omega (
+        arith,
+        (c .before .first-missing .ensures ∙ missing-same (now
+            (c .before .before .before .before .before .before .before .before .args .description)) (c .before .before .before .before .before .before .before .before .args .items) (now
+            (c .before .before .before .before .before .before .before .before .args .places)) (now (c .before .before .before .before .before .before .before .before .args .literals))
+            (now (c .before .before .before .before .before .before .before .before .args .tokens))
+            (c .before .before .before .before .before .before .before .before .pre .listed .within)),
+        c .if1 .left,
+      )),
+)
 
 returns-2 : tie.Need-returns-2
 returns-2 c = refused-print (name-refuses (knownAt (now (c .before .before .before .before .before .before .before .before .before .before .args .description))
@@ -49,25 +60,35 @@ returns-2 c = refused-print (name-refuses (knownAt (now (c .before .before .befo
     (c .before .before .before .before .before .before .before .before .before .before .args .tokens))
     (c .before .before .before .before .before .before .before .before .before .before .pre .table-sound)
     (c .before .before .before .before .before .before .before .before .before .before .pre .rows-sound)
-    (c .before .before .before .before .before .before .before .before .before .before .pre .count-sound) (omega (arith,
-    (c .before .before .before .first-missing .ensures ∙ missing-same (now (c .before .before .before .before .before .before .before .before .before .before .args .description))
-    (c .before .before .before .before .before .before .before .before .before .before .args .items) (now
-    (c .before .before .before .before .before .before .before .before .before .before .args .places)) (now
-    (c .before .before .before .before .before .before .before .before .before .before .args .literals)) (now
-    (c .before .before .before .before .before .before .before .before .before .before .args .tokens))
-    (c .before .before .before .before .before .before .before .before .before .before .pre .listed .within)), c .before .before .if1 .left)) (omega
+    (c .before .before .before .before .before .before .before .before .before .before .pre .count-sound) (omega (
+      arith,
+      (c .before .before .before .first-missing .ensures ∙ missing-same (now (c .before .before .before .before .before .before .before .before .before .before .args .description))
+          (c .before .before .before .before .before .before .before .before .before .before .args .items) (now
+          (c .before .before .before .before .before .before .before .before .before .before .args .places)) (now
+          (c .before .before .before .before .before .before .before .before .before .before .args .literals)) (now
+          (c .before .before .before .before .before .before .before .before .before .before .args .tokens))
+          (c .before .before .before .before .before .before .before .before .before .before .pre .listed .within)),
+      c .before .before .if1 .left,
+    )) (omega
     (arith, c .before .first-unnamed .ensures, c .if2 .taken))) (ap (λ n. unprintedAs 16 n) (c .before .first-unnamed .ensures))
 
 put-requires : tie.Need-put-requires
-put-requires c κs = record { sized = c .before .before .before .before .before .before .before .before .before .before .before .pre; all-there = omega (arith,
+put-requires c κs = record {
+  sized = c .before .before .before .before .before .before .before .before .before .before .before .pre;
+  all-there = omega (
+    arith,
     (c .before .before .before .before .first-missing .ensures ∙ missing-same (now
-    (c .before .before .before .before .before .before .before .before .before .before .before .args .description))
-    (c .before .before .before .before .before .before .before .before .before .before .before .args .items) (now
-    (c .before .before .before .before .before .before .before .before .before .before .before .args .places)) (now
-    (c .before .before .before .before .before .before .before .before .before .before .before .args .literals)) (now
-    (c .before .before .before .before .before .before .before .before .before .before .before .args .tokens))
-    (c .before .before .before .before .before .before .before .before .before .before .before .pre .listed .within)), c .before .before .before .if1 .left); all-named = omega
-    (arith, c .before .before .first-unnamed .ensures, c .before .if2 .left) }
+        (c .before .before .before .before .before .before .before .before .before .before .before .args .description))
+        (c .before .before .before .before .before .before .before .before .before .before .before .args .items) (now
+        (c .before .before .before .before .before .before .before .before .before .before .before .args .places)) (now
+        (c .before .before .before .before .before .before .before .before .before .before .before .args .literals)) (now
+        (c .before .before .before .before .before .before .before .before .before .before .before .args .tokens))
+        (c .before .before .before .before .before .before .before .before .before .before .before .pre .listed .within)),
+    c .before .before .before .if1 .left,
+  );
+  all-named = omega
+      (arith, c .before .before .first-unnamed .ensures, c .before .if2 .left);
+}
 
 same-length : tie.Need-same-length
 same-length c = search needs

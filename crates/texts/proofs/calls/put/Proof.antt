@@ -11,9 +11,12 @@ use Rattle.texts.proofs.calls.put.Statement.{statement}
 use Rattle.texts.proofs.calls.put.Tie as tie
 
 line-size-requires : tie.Need-line-size-requires
-line-size-requires c κs = (some-tokens (c .before .before .before .before .before .before .pre .sized)
-    (c .before .before .before .before .before .before .pre .all-there) .0, all-printable (c .before .before .before .before .before .before .pre .sized)
-    (c .before .before .before .before .before .before .pre .all-there))
+line-size-requires c κs = (
+  some-tokens (c .before .before .before .before .before .before .pre .sized)
+      (c .before .before .before .before .before .before .pre .all-there) .0,
+  all-printable (c .before .before .before .before .before .before .pre .sized)
+      (c .before .before .before .before .before .before .pre .all-there),
+)
 
 returns : tie.Need-returns
 returns c = no-room (prints (knownAt (now (c .before .before .before .before .before .before .before .before .args .description))
@@ -25,10 +28,16 @@ returns c = no-room (prints (knownAt (now (c .before .before .before .before .be
     (c .before .before .before .before .before .before .before .before .pre .all-named)) (c .before .line-size .ensures) (c .if1 .taken)
 
 put-line-requires : tie.Need-put-line-requires
-put-line-requires c κs = ((some-tokens (c .before .before .before .before .before .before .before .before .before .pre .sized)
-    (c .before .before .before .before .before .before .before .before .before .pre .all-there) .0, all-printable
-    (c .before .before .before .before .before .before .before .before .before .pre .sized)
-    (c .before .before .before .before .before .before .before .before .before .pre .all-there)), omega (arith, c .before .before .line-size .ensures, c .before .if1 .left))
+put-line-requires c κs = (
+  (
+    some-tokens (c .before .before .before .before .before .before .before .before .before .pre .sized)
+        (c .before .before .before .before .before .before .before .before .before .pre .all-there) .0,
+    all-printable
+        (c .before .before .before .before .before .before .before .before .before .pre .sized)
+        (c .before .before .before .before .before .before .before .before .before .pre .all-there),
+  ),
+  omega (arith, c .before .before .line-size .ensures, c .before .if1 .left),
+)
 
 same-length : tie.Need-same-length
 same-length c = search needs

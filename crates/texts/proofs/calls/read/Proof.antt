@@ -42,10 +42,16 @@ slice-aggregate-read-named-3 c = search needs
 read-named-requires : tie.Need-read-named-requires
 read-named-requires c κs = let f = book-found (c .before .before .before .before .before .before .before .before .before .before .before .before .book-of .result)
     (c .before .before .before .before .before .before .before .before .before .before .before .before .book-of .ensures)
-    (c .before .before .before .before .before .before .before .named .given .1) in (places-listed
-    (c .before .before .before .before .before .before .before .before .before .before .before .before .book-of .result)
-    (c .before .before .before .before .before .before .before .before .before .before .before .before .book-of .ensures)
-    (c .before .before .before .before .before .before .before .named .given .1), omega arith, omega arith, f .few-literals, f .few-bytes)
+    (c .before .before .before .before .before .before .before .named .given .1) in (
+      places-listed
+          (c .before .before .before .before .before .before .before .before .before .before .before .before .book-of .result)
+          (c .before .before .before .before .before .before .before .before .before .before .before .before .book-of .ensures)
+          (c .before .before .before .before .before .before .before .named .given .1),
+      omega arith,
+      omega arith,
+      f .few-literals,
+      f .few-bytes,
+    )
 
 enum-known-named-2 : tie.Need-enum-known-named-2
 enum-known-named-2 c = search needs
