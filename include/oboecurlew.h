@@ -52,7 +52,7 @@ enum oboecurlew_refusal {
     OBOECURLEW_DATA = 13,         /* invalid numeric data reached: its simple condition; for run, its row; with the byte */
     OBOECURLEW_TEXT = 14,         /* no valid description: the first faulty byte, or the entry that passes a limit */
     OBOECURLEW_SPELLING = 15,     /* a faulty word of a condition text: its first byte */
-    OBOECURLEW_NAME = 16,         /* read: an unknown or doubled name, its first byte; print: an item without a name of its own, its token */
+    OBOECURLEW_NAME = 16,         /* read: an unknown or doubled name, its first byte; print: a token without a name of its own */
     OBOECURLEW_LETTERS = 17,      /* invalid alphabetic data reached: as 13 */
     OBOECURLEW_OVERLAP = 19       /* two elementary items share a byte: the first row that overlaps an earlier one */
 };
@@ -142,8 +142,8 @@ uint32_t oboecurlew_mend(const uint32_t *items, size_t item_numbers, uint8_t *re
 uint32_t oboecurlew_describe(const uint8_t *text, size_t text_size, uint32_t *rows, size_t row_numbers, uint32_t *places,
                              size_t place_count, oboecurlew_answer *answer);
 
-/* A condition as printed, with the names of a description: its tokens, literal rows and literal bytes. 256 tokens, 320 numbers and 2,304
- * bytes hold what any text gives. */
+/* A condition as printed, with the names of a description: its tokens, literal rows and literal bytes. Rows and bytes begin with the
+ * description's own, those of its level 88 entries. 256 tokens, 320 numbers and 6,144 bytes hold what any text gives. */
 uint32_t oboecurlew_read(const uint8_t *description, size_t description_size, const uint8_t *text, size_t text_size,
                          uint32_t *tokens, size_t token_numbers, uint32_t *literals, size_t literal_numbers, uint8_t *bytes,
                          size_t byte_count, oboecurlew_answer *answer);

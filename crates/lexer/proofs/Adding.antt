@@ -109,7 +109,8 @@ module _ {known : Known} {text : List ℕ} {g : Gathered} {tokens rows bytes : L
         gives = (
           λ w G.
               record {
-                tokens-are = stored (w .tokens) t (tokensFrom (g .literals) ps) (G .tokens-are ∙ ap (λ (v : List ℕ). take (g .tokens) tokens ++ v) (ap (tokensFrom (g .literals)) n ∙ tokens-next (g .literals) t ps));
+                tokens-are = stored (w .tokens) t (tokensFrom (g .literals) ps) (G .tokens-are ∙ ap (λ (v : List ℕ). take (g .tokens) tokens ++ v) (ap (tokensFrom (g .literals)) n
+                    ∙ tokens-next (g .literals) t ps));
                 rows-are = G .rows-are ∙ ap (λ (v : List ℕ). take (g .literals * 5) rows ++ v) (ap (rowsFrom (g .bytes)) n ∙ rows-next (g .bytes) t ps);
                 bytes-are = G .bytes-are ∙ ap (λ (v : List ℕ). take (g .bytes) bytes ++ v) (ap bytesOf n ∙ bytes-next t ps);
                 fault-is = faults w G (token t) e;

@@ -109,10 +109,12 @@ module _ (known : Known) (rows content tokens : List ℕ) where
     where
       by : (b : Bool) → lengthSound rows ≡ b → (c : Check) → literalRowCheck (lend [] rows content) ≡ c
           → firstOf (unless b LiteralTable ∷ c ∷ []) ≡ Fails r
-          → (printResult (before (found (unless (lengthSound rows) LiteralTable)) (before (found (literalRowCheck (lend [] rows content))) (before (found (tokenCountCheck tokens)) later))) (printed known rows content tokens)
+          → (printResult (before (found (unless (lengthSound rows) LiteralTable)) (before (found (literalRowCheck (lend [] rows content))) (before (found
+          (tokenCountCheck tokens)) later))) (printed known rows content tokens)
           ≡ refused (number r) (place r)) × (Refused r ≡ unprintedAs (number r) (place r))
       by false l c q e = let z : LiteralTable ≡ r = cc in subst (λ (x : Refusal).
-          (printResult (before (found (unless (lengthSound rows) LiteralTable)) (before (found (literalRowCheck (lend [] rows content))) (before (found (tokenCountCheck tokens)) later))) (printed known rows content tokens)
+          (printResult (before (found (unless (lengthSound rows) LiteralTable)) (before (found (literalRowCheck (lend [] rows content))) (before (found
+          (tokenCountCheck tokens)) later))) (printed known rows content tokens)
           ≡ refused (number x) (place x)) × (Refused x ≡ unprintedAs (number x) (place x))) z (rw l, refl)
       by true l Sound q e = let z : _≡_ {A = ℕ} 0 1 = cc in absurd (omega arith)
       by true l (Fails x) q e =
@@ -203,7 +205,8 @@ missing-same description items places rows tokens h =
 pub refused-print : {P : Print} {n p : ℕ} {answer : Printed} {before : List ℕ} → P ≡ refused n p → answer ≡ unprintedAs n p → PrintedAs P before answer before
 refused-print {P} {n} {p} {answer} {before} e f = rw (e, f) record { answered = refl; written = kept (eqb n 14) (eqb n 16) }
   where
-    kept : (a b : Bool) → before ≡ lineOut (cond a (Description p) (cond b (Name p) (Refused (cond (eqb n 3) LiteralTable (cond (eqb n 4) (LiteralRow p) (cond (eqb n 5) WrongCount (Token p))))))) [] before
+    kept : (a b : Bool) → before ≡ lineOut (cond a (Description p) (cond b (Name p) (Refused (cond (eqb n 3) LiteralTable (cond (eqb n 4) (LiteralRow p) (cond (eqb n 5) WrongCount
+        (Token p))))))) [] before
     kept true b = refl
     kept false true = refl
     kept false false = refl

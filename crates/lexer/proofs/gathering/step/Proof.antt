@@ -20,11 +20,24 @@ enum-known-next : tie.Need-enum-known-next
 enum-known-next c = search needs
 
 piece-at-requires : tie.Need-piece-at-requires
-piece-at-requires c κs = let f = (found-next (c .before .before .before .next-word .result) (c .before .next .given .0 .0) (c .before .next .given .0 .1 .0) (c .before .before .before .next-word .ensures) (c .before .next .given .1)) in (c .before .before .before .before .before .before .before .before .before .before .pre .0, f .1, f .2)
+piece-at-requires c κs = let f = (found-next (c .before .before .before .next-word .result) (c .before .next .given .0 .0) (c .before .next .given .0 .1 .0)
+    (c .before .before .before .next-word .ensures) (c .before .next .given .1)) in
+    (c .before .before .before .before .before .before .before .before .before .before .pre .0, f .1, f .2)
 
 add-requires : tie.Need-add-requires
-add-requires c κs = let f = (found-next (c .before .before .before .before .before .before .before .next-word .result) (c .before .before .before .before .before .next .given .0 .0) (c .before .before .before .before .before .next .given .0 .1 .0) (c .before .before .before .before .before .before .before .next-word .ensures) (c .before .before .before .before .before .next .given .1)) in
-    (c .before .before .before .before .before .before .before .before .before .before .before .before .before .before .pre .1, meets (knownAt (now (c .before .before .before .before .before .before .before .before .before .before .before .before .before .before .args .description)) (c .before .before .before .before .before .before .before .before .before .before .before .before .before .before .args .items) (now (c .before .before .before .before .before .before .before .before .before .before .before .before .before .before .args .places))) (now (c .before .before .before .before .before .before .before .before .before .before .before .before .before .before .args .text)) (c .before .before .before .before .before .before .before .before .before .before .before .before .before .before .args .held .past) (c .before .before .before .before .before .next .given .0 .0) (c .before .before .before .before .before .next .given .0 .1 .0) (c .before .before .before .piece-at .result) (f .0) (f .1) (f .3) (c .before .before .before .piece-at .ensures))
+add-requires c κs = let f = (found-next (c .before .before .before .before .before .before .before .next-word .result)
+    (c .before .before .before .before .before .next .given .0 .0) (c .before .before .before .before .before .next .given .0 .1 .0)
+    (c .before .before .before .before .before .before .before .next-word .ensures) (c .before .before .before .before .before .next .given .1)) in (
+      c .before .before .before .before .before .before .before .before .before .before .before .before .before .before .pre .1,
+      meets (knownAt (now
+          (c .before .before .before .before .before .before .before .before .before .before .before .before .before .before .args .description))
+          (c .before .before .before .before .before .before .before .before .before .before .before .before .before .before .args .items) (now
+          (c .before .before .before .before .before .before .before .before .before .before .before .before .before .before .args .places))) (now
+          (c .before .before .before .before .before .before .before .before .before .before .before .before .before .before .args .text))
+          (c .before .before .before .before .before .before .before .before .before .before .before .before .before .before .args .held .past)
+          (c .before .before .before .before .before .next .given .0 .0) (c .before .before .before .before .before .next .given .0 .1 .0)
+          (c .before .before .before .piece-at .result) (f .0) (f .1) (f .3) (c .before .before .before .piece-at .ensures),
+    )
 
 enum-told : tie.Need-enum-told
 enum-told c = search needs

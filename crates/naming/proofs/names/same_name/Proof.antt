@@ -32,7 +32,10 @@ shared-slice-read-if2-2 : tie.Need-shared-slice-read-if2-2 Inv-loop μ-loop
 shared-slice-read-if2-2 c = search needs
 
 returns-2 : tie.Need-returns-2 Inv-loop μ-loop
-returns-2 c = sym (c .before .before .before .before .loop .inv .2 ∙ name-differs (now (c .before .before .before .before .before .before .before .before .args .word)) (now (c .before .before .before .before .before .before .before .before .args .rest)) (c .before .before .before .before .loop .k) (c .before .before .before .before .before .before .before .before .pre) (c .before .before .before .loop-test .taken) (omega (arith, c .before .before .before .before .loop .inv .1)) (c .if2 .taken))
+returns-2 c = sym (c .before .before .before .before .loop .inv .2 ∙ name-differs (now (c .before .before .before .before .before .before .before .before .args .word)) (now
+    (c .before .before .before .before .before .before .before .before .args .rest)) (c .before .before .before .before .loop .k)
+    (c .before .before .before .before .before .before .before .before .pre) (c .before .before .before .loop-test .taken) (omega
+    (arith, c .before .before .before .before .loop .inv .1)) (c .if2 .taken))
 
 add-k : tie.Need-add-k Inv-loop μ-loop
 add-k c = search needs
@@ -41,7 +44,14 @@ loop-less : tie.Need-loop-less Inv-loop μ-loop
 loop-less c = search needs
 
 loop-again : tie.Need-loop-again Inv-loop μ-loop
-loop-again c = (omega arith, c .before .before .before .before .loop .inv .1, c .before .before .before .before .loop .inv .2 ∙ name-goes-on (now (c .before .before .before .before .before .before .before .before .args .word)) (now (c .before .before .before .before .before .before .before .before .args .rest)) (c .before .before .before .before .loop .k) (c .before .before .before .before .before .before .before .before .pre) (c .before .before .before .loop-test .taken) (omega (arith, c .before .before .before .before .loop .inv .1)) (c .if2 .left))
+loop-again c = (
+  omega arith,
+  c .before .before .before .before .loop .inv .1,
+  c .before .before .before .before .loop .inv .2 ∙ name-goes-on (now
+      (c .before .before .before .before .before .before .before .before .args .word)) (now (c .before .before .before .before .before .before .before .before .args .rest))
+      (c .before .before .before .before .loop .k) (c .before .before .before .before .before .before .before .before .pre) (c .before .before .before .loop-test .taken) (omega
+      (arith, c .before .before .before .before .loop .inv .1)) (c .if2 .left),
+)
 
 byte-at-requires : tie.Need-byte-at-requires Inv-loop μ-loop
 byte-at-requires c κs = search needs
@@ -50,7 +60,9 @@ is-name-byte-requires : tie.Need-is-name-byte-requires Inv-loop μ-loop
 is-name-byte-requires c κs = search needs
 
 returns-3 : tie.Need-returns-3 Inv-loop μ-loop
-returns-3 c = name-ends (now (c .before .before .before .before .before .before .before .args .word)) (now (c .before .before .before .before .before .before .before .args .rest)) (c .before .before .before .loop .k) (c .before .byte-at .result) (c .is-name-byte .result) (c .before .before .loop-test .left) (c .before .byte-at .ensures) (c .is-name-byte .ensures) ∙ sym (c .before .before .before .loop .inv .2)
+returns-3 c = name-ends (now (c .before .before .before .before .before .before .before .args .word)) (now (c .before .before .before .before .before .before .before .args .rest))
+    (c .before .before .before .loop .k) (c .before .byte-at .result) (c .is-name-byte .result) (c .before .before .loop-test .left) (c .before .byte-at .ensures)
+    (c .is-name-byte .ensures) ∙ sym (c .before .before .before .loop .inv .2)
 
 pub same-name-spec : {M : Type 1} → statement M
 same-name-spec =

@@ -19,13 +19,17 @@ called-requires : tie.Need-called-requires
 called-requires c κs = (sym (c .before .is-name .ensures) ∙ c .if1 .taken, c .before .before .before .before .before .pre)
 
 returns : tie.Need-returns
-returns c = c .called .ensures ∙ name-sense (knownAt (now (c .before .before .before .before .before .before .args .description)) (c .before .before .before .before .before .before .args .items) (now (c .before .before .before .before .before .before .args .places))) (now (c .before .before .before .before .before .before .args .word)) (sym (c .before .before .is-name .ensures) ∙ c .before .if1 .taken)
+returns c = c .called .ensures ∙ name-sense (knownAt (now (c .before .before .before .before .before .before .args .description))
+    (c .before .before .before .before .before .before .args .items) (now (c .before .before .before .before .before .before .args .places))) (now
+    (c .before .before .before .before .before .before .args .word)) (sym (c .before .before .is-name .ensures) ∙ c .before .if1 .taken)
 
 vocable-requires : tie.Need-vocable-requires
 vocable-requires c κs = search needs
 
 returns-2 : tie.Need-returns-2
-returns-2 c = c .vocable .ensures ∙ word-sense (knownAt (now (c .before .before .before .before .before .before .args .description)) (c .before .before .before .before .before .before .args .items) (now (c .before .before .before .before .before .before .args .places))) (now (c .before .before .before .before .before .before .args .word)) (sym (c .before .before .is-name .ensures) ∙ c .before .if1 .left)
+returns-2 c = c .vocable .ensures ∙ word-sense (knownAt (now (c .before .before .before .before .before .before .args .description))
+    (c .before .before .before .before .before .before .args .items) (now (c .before .before .before .before .before .before .args .places))) (now
+    (c .before .before .before .before .before .before .args .word)) (sym (c .before .before .is-name .ensures) ∙ c .before .if1 .left)
 
 pub plain-spec : {M : Type 1} → statement M
 plain-spec = tie.close (tie.spec is-name-requires called-requires returns vocable-requires returns-2)
