@@ -29,18 +29,3 @@ pub enum Weighed {
     Single(Row),
     Range(Row, Row),
 }
-
-// What has been taken of an entry's values: whether a limit is passed; if not, how many values, how many
-// literals with those of entries before it, and how many bytes these have.
-pub struct Tally {
-    pub over: bool,
-    pub values: usize,
-    pub literals: usize,
-    pub bytes: usize,
-}
-
-// The values of an entry, and where its period ends; or the first faulty byte.
-pub enum ValuesRead {
-    Whole(Tally, usize),
-    Fault(usize),
-}

@@ -9,21 +9,28 @@ use native.Mathlib.Numerals.{add-one}
 use lib.Dec.{leb}
 use lib.ListN.{length, getD, take, drop, set, length-take, length-append}
 use lib.Seq.{drop-cons, set-at, take-suc, append-snoc, length-take-le}
-use Rattle.description.specs.Grammar.{Entry, Table}
-use Rattle.description.specs.Reader.{layout, Reading, read, faulty, readText}
-use Rattle.description.specs.Limits.{firstOver, cut, readWithin, Outcome, table, refusal, unless, judged}
+use Rattle.description.specs.Grammar.{Entry, Condition, Table}
+use Rattle.description.specs.Reader.{layout, Parts, parts, tableOf, Reading, read, faulty, readText}
+use Rattle.description.specs.Limits.{itemMarks, nameMarks, marks, least, cut, readWithin, Outcome, table, refusal, unless, judged}
+use Rattle.description.specs.Stages.{sooner, ownRows}
+use Rattle.description.specs.Stages as F
+use Rattle.description.proofs.Past.{Rise, entries-before, entries-rising}
+use Rattle.description.proofs.Firsts.{least-of}
 use Rattle.description.specs.Limits as Limits
-use Rattle.description.proofs.Bytes.{leb-so, leb-no}
+use Rattle.description.proofs.Bytes.{apart, leb-so, leb-no}
 use Rattle.entries.specs.declared.Noted.{Noted}
 use Rattle.entries.specs.Entries.{capNoted, entryOf}
 use Rattle.describer.specs.declared.Found.{Found}
-use Rattle.describer.specs.Stored.{notedAt, notedFrom, readingOf, Reads}
+use Rattle.describer.specs.declared.Names.{Names}
+use Rattle.describer.specs.Stored.{notedAt, notedFrom}
+use Rattle.describer.specs.Naming.{limitOf, Stores}
+use Rattle.describer.specs.Reads.{readingOf, ReadBy}
 use Rattle.describer.proofs.Flat.{noted-snoc}
 use Rattle.layouts.specs.declared.Laid.{Laid}
 use Rattle.layouts.specs.declared.Laid.the-variants.{Over, Fine}
-use Rattle.layouts.specs.Layouts.{entriesIn, rowNumbers, overPlace, LaidOut}
-use Rattle.layouts.proofs.Capping.{first-caps, rows-same}
-use Rattle.descriptions.specs.Calls.{rowsOf, placeOfName, placesOf, room, answer, rowsIn, placesIn, written, DescribedBy, ReadsWithin, namedOf, Given}
+use Rattle.layouts.specs.Layouts.{firstOver, entriesIn, rowNumbers, overPlace, LaidOut}
+use Rattle.layouts.proofs.Capping.{first-caps, rows-same, first-marks}
+use Rattle.descriptions.specs.Calls.{rowsOf, placeOfName, placesOf, room, answer, rowsIn, placesIn, written, DescribedBy, ReadsWithin, SoonerBy, namedOf, Given}
 use Rattle.descriptions.specs.declared.Described.{Described}
 use Rattle.descriptions.specs.declared.Described.the-variants.{Counts, Faulty, Room}
 
@@ -67,30 +74,78 @@ named-more flat before i l e =
     rw (e, k) (put (map namedOf (notedFrom flat 0 i)) before i (getD flat (i * 7 + 2) 0) (named-length flat i) l)
 
 -- Byte 4,096.
-pub within-short : (text flat : List ℕ) (r : Found) → length text ≤ 4096 → Reads text flat r → ReadsWithin text flat r
-within-short text flat r l R =
-    record { exact = R .exact; held = R .held; scaled = R .scaled; reading = rw (leb-so l) (R .reading); few = R .few }
+rises : (text : List ℕ) (w : Bool) (d : Parts) (p : ℕ) → readText text ≡ readingOf w d p → (n : ℕ) × Rise d n
+rises text true d p e = (length text, entries-rising text (tableOf d) e)
+rises text false d p e = (p, entries-before text d p e)
 
-pub within-long : (text flat : List ℕ) (r : Found) → 4096 < length text → Reads (take 4096 text) flat r → r .whole ≡ false → ReadsWithin text flat r
-within-long text flat r l R w =
-    record {
-      exact = R .exact;
-      held = R .held;
-      scaled = R .scaled;
-      reading = rw (leb-no (length text) 4096 l, R .reading, w);
-      few = R .few;
-    }
+smallest-of : (text : List ℕ) (w : Bool) (es : List Entry) (cs : List Condition) (p : ℕ) (s : Names) → readText text ≡ readingOf w (parts es cs) p →
+    F.firstOver (nameMarks 0 0 (ownRows es) cs) ≡ limitOf s → least (marks (parts es cs)) ≡ sooner (F.firstOver (itemMarks 0 es (layout 0 es))) (limitOf s)
+smallest-of text w es cs p s e f =
+    let r = rises text w (parts es cs) p e in
+    least-of (parts es cs) (r .0) (r .1) ∙ ap (sooner (F.firstOver (itemMarks 0 es (layout 0 es)))) f
 
-pub within-cut : (text flat : List ℕ) (r : Found) → 4096 < length text → Reads (take 4096 text) flat r → r .whole ≡ true →
-    ReadsWithin text flat (record { count = r .count; whole = false; place = 4096 })
-within-cut text flat r l R w =
-    record {
-      exact = R .exact;
-      held = R .held;
-      scaled = R .scaled;
-      reading = rw (leb-no (length text) 4096 l, R .reading, w);
-      few = R .few;
-    }
+module _ (text flat named spots notes : List ℕ) (r : Found) where
+  pub within-short : length text ≤ 4096 → ReadBy text text (readText text) flat named spots notes r → ReadsWithin text flat named spots notes r
+  within-short l R =
+      record {
+        exact = R .exact;
+        conditions = R .conditions;
+        held = R .held;
+        scaled = R .scaled;
+        reading = rw (leb-so l) (R .reading);
+        few = R .few;
+        smallest = smallest-of text (r .whole) (map entryOf (R .exact)) (R .conditions) (r .place) (r .names) (R .reading) (R .limit);
+        stores = R .stores;
+      }
+
+  module _ (l : 4096 < length text) (R : ReadBy (take 4096 text) (take 4096 text) (readText (take 4096 text)) flat named spots notes r) where
+    abbrev least-there : least (marks (parts (map entryOf (R .exact)) (R .conditions)))
+        ≡ sooner (F.firstOver (itemMarks 0 (map entryOf (R .exact)) (layout 0 (map entryOf (R .exact))))) (limitOf (r .names))
+    least-there = smallest-of (take 4096 text) (r .whole) (map entryOf (R .exact)) (R .conditions) (r .place) (r .names) (R .reading) (R .limit)
+
+    pub within-long : r .whole ≡ false → ReadsWithin text flat named spots notes r
+    within-long w =
+        record {
+          exact = R .exact;
+          conditions = R .conditions;
+          held = R .held;
+          scaled = R .scaled;
+          reading = rw (leb-no (length text) 4096 l, R .reading, w);
+          few = R .few;
+          smallest = least-there;
+          stores = λ e o. apart e w;
+        }
+
+    pub within-cut : r .whole ≡ true → ReadsWithin text flat named spots notes (record { count = r .count; whole = false; place = 4096; names = r .names })
+    within-cut w =
+        record {
+          exact = R .exact;
+          conditions = R .conditions;
+          held = R .held;
+          scaled = R .scaled;
+          reading = rw (leb-no (length text) 4096 l, R .reading, w);
+          few = R .few;
+          smallest = least-there;
+          stores = λ e o. apart e refl;
+        }
+
+-- The smaller of two places.
+pub sooner-none : (x : Laid) (s : Names) → s .over ≡ false → SoonerBy x s x
+sooner-none x s e = record { is = by x; fine = λ q. q }
+  where
+    by : (x : Laid) → overPlace x ≡ sooner (overPlace x) (limitOf s)
+    by (Over p) = rw e
+    by Fine = rw e
+
+module _ (s : Names) (e : s .over ≡ true) where
+  pub sooner-item : {x : Laid} {p : ℕ} → x ≡ Over p → p ≤ s .place → SoonerBy x s (Over p)
+  sooner-item q l = record { is = rw (q, e, leb-so l); fine = λ i. let z : _≡_ {A = ℕ} 0 1 = cc in absurd (omega arith) }
+
+  pub sooner-name : {x : Laid} {p : ℕ} → x ≡ Over p → s .place < p → SoonerBy x s (Over (s .place))
+  sooner-name {p = p} q l = record { is = rw (q, e, leb-no p (s .place) l); fine = λ i. let z : _≡_ {A = ℕ} 0 1 = cc in absurd (omega arith) }
+
+  pub sooner-only : {x : Laid} → x ≡ Fine → SoonerBy x s (Over (s .place))
+  sooner-only q = record { is = rw (q, e); fine = λ i. let z : _≡_ {A = ℕ} 0 1 = cc in absurd (omega arith) }
 
 -- Room.
 module _ (laid flat : List ℕ) (n : ℕ) (rows places : List ℕ) where
@@ -109,17 +164,20 @@ module _ (laid flat : List ℕ) (n : ℕ) (rows places : List ℕ) where
         places-written = rw (named-length flat n) f;
       }
 
--- A text that is whole and passes no limit.
-judged-whole : (w : Bool) (es : List Entry) (p : ℕ) → w ≡ true → firstOver 0 es (layout 0 es) ≡ none → judged (readingOf w es p) ≡ table (record { rows = layout 0 es; entries = es })
-judged-whole w es p h k = rw (h, k)
+judged-whole : (w : Bool) (d : Parts) (p : ℕ) → w ≡ true → least (marks d) ≡ none → judged (readingOf w d p) ≡ table (tableOf d)
+judged-whole w d p h k = rw (h, k)
 
-judged-faulty : (w : Bool) (es : List Entry) (p : ℕ) → w ≡ false → firstOver 0 es (layout 0 es) ≡ none → judged (readingOf w es p) ≡ refusal p
-judged-faulty w es p h k = rw (h, k)
+judged-faulty : (w : Bool) (d : Parts) (p : ℕ) → w ≡ false → least (marks d) ≡ none → judged (readingOf w d p) ≡ refusal p
+judged-faulty w d p h k = rw (h, k)
 
 -- The answer.
-module _ (text flat laid rows places : List ℕ) (r : Found) (R : ReadsWithin text flat r) {x : Laid} (L : LaidOut flat (r .count) x laid) where
+module _ (text flat named spots notes laid rows places : List ℕ) (r : Found) (R : ReadsWithin text flat named spots notes r) {x z : Laid} (L : LaidOut flat (r .count) x laid)
+    (B : SoonerBy x (r .names) z) where
   abbrev ys : List Noted
   ys = R .exact
+
+  abbrev d : Parts
+  d = parts (map entryOf ys) (R .conditions)
 
   entries-are : entriesIn flat 0 (r .count) ≡ map entryOf (map capNoted ys)
   entries-are = let z : r .count - 0 ≡ r .count = omega arith in rw (z, R .held)
@@ -127,38 +185,44 @@ module _ (text flat laid rows places : List ℕ) (r : Found) (R : ReadsWithin te
   limit-is : firstOver 0 (map entryOf ys) (layout 0 (map entryOf ys)) ≡ overPlace x
   limit-is = first-caps 0 0 0 ys refl ∙ rw entries-are at (L .limit)
 
+  least-is : least (marks d) ≡ overPlace z
+  least-is = R .smallest ∙ rw (first-marks 0 (map entryOf ys) (layout 0 (map entryOf ys)), limit-is) (sym (B .is))
+
   faulty-answer : {p : ℕ} → Limits.describe text ≡ refusal p → DescribedBy text rows places (Faulty p) rows places
   faulty-answer e = record { answered = rw e; rows-written = refl; places-written = refl }
 
-  pub answers-over : {p : ℕ} → x ≡ Over p → DescribedBy text rows places (Faulty p) rows places
+  pub answers-over : {p : ℕ} → z ≡ Over p → DescribedBy text rows places (Faulty p) rows places
   answers-over {p} e = faulty-answer (ap judged (R .reading) ∙ by (r .whole))
     where
-      i : firstOver 0 (map entryOf ys) (layout 0 (map entryOf ys)) ≡ some p
-      i = limit-is ∙ ap overPlace e
+      i : least (marks d) ≡ some p
+      i = least-is ∙ ap overPlace e
 
-      by : (w : Bool) → judged (readingOf w (map entryOf ys) (r .place)) ≡ refusal p
+      by : (w : Bool) → judged (readingOf w d (r .place)) ≡ refusal p
       by true = rw i
       by false = rw i
 
-  pub answers-faulty : x ≡ Fine → r .whole ≡ false → DescribedBy text rows places (Faulty (r .place)) rows places
+  pub answers-faulty : z ≡ Fine → r .whole ≡ false → DescribedBy text rows places (Faulty (r .place)) rows places
   answers-faulty e w =
-      let i : firstOver 0 (map entryOf ys) (layout 0 (map entryOf ys)) ≡ none = limit-is ∙ ap overPlace e in
-      faulty-answer (ap judged (R .reading) ∙ judged-faulty (r .whole) (map entryOf ys) (r .place) w i)
+      let i : least (marks d) ≡ none = least-is ∙ ap overPlace e in
+      faulty-answer (ap judged (R .reading) ∙ judged-faulty (r .whole) d (r .place) w i)
 
-  module _ (e : x ≡ Fine) (w : r .whole ≡ true) {d : Described} {a b : List ℕ} (g : Given laid flat (r .count) rows places d a b) (room-laid : r .count * 5 ≤ length laid) where
+  module _ (e : z ≡ Fine) (w : r .whole ≡ true) {q : Described} {a b : List ℕ} (g : Given laid flat (r .count) rows places q a b) (room-laid : r .count * 5 ≤ length laid) where
+    item-fine : x ≡ Fine
+    item-fine = B .fine e
+
     none-over : firstOver 0 (map entryOf ys) (layout 0 (map entryOf ys)) ≡ none
-    none-over = limit-is ∙ ap overPlace e
+    none-over = limit-is ∙ ap overPlace item-fine
 
     abbrev t : Table
-    t = record { rows = layout 0 (map entryOf ys); entries = map entryOf ys }
+    t = tableOf d
 
     described : Limits.describe text ≡ table t
-    described = ap judged (R .reading) ∙ judged-whole (r .whole) (map entryOf ys) (r .place) w none-over
+    described = let i : least (marks d) ≡ none = least-is ∙ ap overPlace e in ap judged (R .reading) ∙ judged-whole (r .whole) d (r .place) w i
 
     rows-are : rowsOf t ≡ take (r .count * 5) laid
     rows-are =
         let f : layout 0 (map entryOf ys) ≡ layout 0 (entriesIn flat 0 (r .count)) = rows-same 0 0 ys (R .scaled) none-over ∙ ap (layout 0) (sym entries-are) in
-        ap rowNumbers f ∙ sym (L .laid e)
+        ap rowNumbers f ∙ sym (L .laid item-fine)
 
     places-are : placesOf t ≡ map namedOf (notedFrom flat 0 (r .count))
     places-are = by ys ∙ ap (map namedOf) (sym (R .held))
@@ -167,7 +231,7 @@ module _ (text flat laid rows places : List ℕ) (r : Found) (R : ReadsWithin te
         by [] = refl
         by (y ∷ ys) = ap (λ (l : List ℕ). y .named ∷ l) (by ys)
 
-    pub answers-given : DescribedBy text rows places d a b
+    pub answers-given : DescribedBy text rows places q a b
     answers-given =
         record {
           answered = rw (described, rows-are, places-are, length-take-le (r .count * 5) laid room-laid, named-length flat (r .count)) (g .answered);

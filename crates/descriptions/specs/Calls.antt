@@ -1,18 +1,25 @@
 -- Document 02, request a): the call's whole answer and both outputs.
 use mathlib.Core.Path.{_≡_}
-use mathlib.Core.Bool.{cond}
+use mathlib.Core.Bool.{cond, true, false}
 use mathlib.Core.List.{List, [], _∷_, _++_, map}
 use Prim.Native.Nat.{ℕ, _*_, _≤_}
 use lib.Dec.{leb}
 use lib.ListN.{length, take, drop}
-use Rattle.description.specs.Grammar.{Entry, Table}
-use Rattle.description.specs.Limits.{Outcome, table, refusal, readWithin}
+use Rattle.description.specs.Grammar.{Entry, Condition, Table}
+use Rattle.description.specs.Reader.{layout, parts}
+use Rattle.description.specs.Stages.{firstOver, sooner}
+use Rattle.description.specs.Limits.{Outcome, table, refusal, readWithin, itemMarks, marks, least}
 use Rattle.description.specs.Limits as Limits
 use Rattle.entries.specs.declared.Noted.{Noted}
 use Rattle.entries.specs.Entries.{capNoted, entryOf}
 use Rattle.describer.specs.declared.Found.{Found}
-use Rattle.describer.specs.Stored.{notedFrom, Scaled, readingOf}
-use Rattle.layouts.specs.Layouts.{rowNumbers}
+use Rattle.describer.specs.declared.Names.{Names}
+use Rattle.describer.specs.Stored.{notedFrom, Scaled}
+use Rattle.describer.specs.Naming.{limitOf, Stores}
+use Rattle.describer.specs.Reads.{readingOf}
+use Rattle.layouts.specs.declared.Laid.{Laid}
+use Rattle.layouts.specs.declared.Laid.the-variants.{Fine}
+use Rattle.layouts.specs.Layouts.{rowNumbers, overPlace}
 use Rattle.descriptions.specs.declared.Described.{Described}
 use Rattle.descriptions.specs.declared.Described.the-variants.{Counts, Faulty, Room}
 
@@ -66,13 +73,23 @@ pub record DescribedBy (text rows places : List ℕ) (r : Described) (rows-after
   pub rows-written : rows-after ≡ written r (rowsIn (Limits.describe text)) rows
   pub places-written : places-after ≡ written r (placesIn (Limits.describe text)) places
 
--- What private functions promise: the buffer holds the complete entries of the text, byte 4,096 being faulty.
-pub record ReadsWithin (text flat : List ℕ) (r : Found) : Type 0 where
+-- What private functions promise: the buffers hold the complete entries of the text, byte 4,096 being faulty; and which place over a limit
+-- is the smallest.
+pub record ReadsWithin (text flat named spots notes : List ℕ) (r : Found) : Type 0 where
   pub exact : List Noted
+  pub conditions : List Condition
   pub held : notedFrom flat 0 (r .count) ≡ map capNoted exact
   pub scaled : Scaled exact
-  pub reading : readWithin text ≡ readingOf (r .whole) (map entryOf exact) (r .place)
+  pub reading : readWithin text ≡ readingOf (r .whole) (parts (map entryOf exact) conditions) (r .place)
   pub few : 5 * r .count ≤ 4096
+  pub smallest : least (marks (parts (map entryOf exact) conditions))
+      ≡ sooner (firstOver (itemMarks 0 (map entryOf exact) (layout 0 (map entryOf exact)))) (limitOf (r .names))
+  pub stores : r .whole ≡ true → r .names .over ≡ false → Stores text conditions (r .names) named spots notes
+
+-- The smaller of two places over a limit.
+pub record SoonerBy (laid : Laid) (s : Names) (r : Laid) : Type 0 where
+  pub is : overPlace r ≡ sooner (overPlace laid) (limitOf s)
+  pub fine : r ≡ Fine → laid ≡ Fine
 
 abbrev pub namedOf : Noted → ℕ
 namedOf x = x .named
