@@ -5,21 +5,23 @@ use mathlib.Core.List.{List, [], _∷_, _++_, map}
 use Prim.Native.Nat.{ℕ, suc, _+_, _-_, _*_, _/_, _≤_, _<_}
 use native.Mathlib.Omega.{arith}
 use lib.Dec.{leb}
-use lib.ListN.{length, take, drop, length-append, length-drop}
+use lib.ListN.{length, getD, take, drop, replicate, length-append, length-drop, length-replicate}
 use lib.Seq.{length-take-le}
 use borrow.Author.Tests.{le-leb}
 use borrow.Rule.Slice.PartMut.{putMid}
-use Rattle.description.specs.Grammar.{Condition, Row, NameRow, Table, nameRows, literals}
+use Rattle.description.specs.Grammar.{Value, single, range, Condition, Row, Pair, NameRow, nameRow, Table, pairs, nameRows, literals}
 use Rattle.description.specs.Limits.{Outcome, table, refusal, describe}
 use Rattle.description.proofs.Keeping.{within}
 use Rattle.spelling.specs.Names.{numbers}
 use Rattle.spelling.proofs.Describing.{length-map, few-bytes}
 use Rattle.lexer.proofs.Writing.{bytes-over, rest-length}
 use Rattle.literal_words.specs.Found.{writtenOver}
+use Rattle.name_entries.specs.Named.{pairNumbers}
+use Rattle.describer.specs.Naming.{rowNumbers as nameRowNumbers, nameNumbers}
 use Rattle.layouts.specs.Layouts.{rowNumbers}
 use Rattle.descriptions.specs.declared.Described.{Described}
 use Rattle.descriptions.specs.declared.Described.the-variants.{Counts, Faulty, Room}
-use Rattle.descriptions.specs.Calls.{rowsOf, placesOf, nameNumbers, namesOf, namePlacesOf, literalsOf, DescribedBy}
+use Rattle.descriptions.specs.Calls.{rowsOf, placesOf, namesOf, namePlacesOf, literalsOf, DescribedBy}
 use Rattle.texts.specs.declared.Named.the-variants.{Given, Faulty as Unnamed}
 use Rattle.texts.specs.Calls.{NamesFound, NamedBy}
 use Rattle.texts.proofs.Describing.{numbers-length, front, few-items, few-conditions, few-rows, book-given}
@@ -30,14 +32,36 @@ unfolding rowNumbers numbers
 same-numbers [] = refl
 same-numbers (r ∷ rs) = ap (λ (v : List ℕ). r .kind ∷ r .offset ∷ r .size ∷ r .scale ∷ r .digits ∷ v) (same-numbers rs)
 
-names-numbers : (rs : List NameRow) → length (nameNumbers rs) ≡ length rs * 18
-names-numbers [] = refl
-names-numbers (r ∷ rs) = omega (arith, names-numbers rs)
+-- 18 numbers a name
+pairs-length : (k : ℕ) (vs : List Value) → length (pairs k vs) ≡ length vs
+unfolding pairs
+pairs-length k [] = refl
+pairs-length k (single x ∷ vs) = ap suc (pairs-length (k + 1) vs)
+pairs-length k (range x y ∷ vs) = ap suc (pairs-length (k + 2) vs)
 
-names-length : (k : ℕ) (cs : List Condition) → length (nameRows k cs) ≡ length cs
-unfolding nameRows
-names-length k [] = refl
-names-length k (c ∷ cs) = ap suc (names-length (k + length (literals (c .values))) cs)
+pair-numbers : (ps : List Pair) → length (pairNumbers ps) ≡ length ps * 2
+unfolding pairNumbers
+pair-numbers [] = refl
+pair-numbers (p ∷ ps) = omega (arith, pair-numbers ps)
+
+names-numbers : (k : ℕ) (cs : List Condition) → ((j : ℕ) (d : Condition) → j < length cs → length (getD cs j d .values) ≤ 8)
+    → length (nameNumbers (nameRows k cs)) ≡ length cs * 18
+unfolding nameNumbers nameRows
+names-numbers k [] f = refl
+names-numbers k (c ∷ cs) f =
+    let ps : List Pair = pairs k (c .values) in
+    let zeros : List ℕ = replicate (16 - length ps * 2) 0 in
+    let rest : List NameRow = nameRows (k + length (literals (c .values))) cs in
+    omega (
+      arith,
+      f 0 c (omega arith),
+      pairs-length k (c .values),
+      pair-numbers ps,
+      length-replicate {A = ℕ} (16 - length ps * 2) 0,
+      length-append (pairNumbers ps) zeros,
+      length-append (nameRowNumbers (nameRow (c .item) ps)) (nameNumbers rest),
+      names-numbers (k + length (literals (c .values))) cs (λ j d l. f (suc j) d (omega arith)),
+    )
 
 module _ {text rows places names others literal-rows bytes : List ℕ} (r : Described) {rows-after places-after names-after others-after literals-after bytes-after : List ℕ}
     (D : DescribedBy text rows places names others literal-rows bytes r rows-after places-after names-after others-after literals-after bytes-after)
@@ -50,7 +74,7 @@ module _ {text rows places names others literal-rows bytes : List ℕ} (r : Desc
       let w = within text t e in
       let n1 = le-leb (length (rowsOf t)) (length rows) (omega (arith, ap length (same-numbers (t .rows)), numbers-length (t .rows), w .as-many, w .items)) in
       let n2 = le-leb (length (placesOf t)) (length places) (omega (arith, few-items text t e)) in
-      let n3 = le-leb (length (namesOf t)) (length names) (omega (arith, names-numbers (t .names), ap length (w .valid .named) ∙ names-length 0 (t .conditions), w .names)) in
+      let n3 = le-leb (length (namesOf t)) (length names) (omega (arith, ap (λ (ns : List NameRow). length (nameNumbers ns)) (w .valid .named), names-numbers 0 (t .conditions) (λ j d l. w .name-kept j d l .few), w .names)) in
       let n4 = le-leb (length (namePlacesOf t)) (length others) (omega (arith, few-conditions text t e)) in
       let n5 = le-leb (length (literalsOf t)) (length literal-rows) (omega (arith, ap length (same-numbers (t .literals)), few-rows text t e)) in
       let n6 = le-leb (length (t .bytes)) (length bytes) (omega (arith, few-bytes text t e)) in
