@@ -72,8 +72,7 @@ word-within word text n m l e = by (eqb (inked text n) n) (eqb (common word (dro
         (n ≤ m) × (m ≤ length text)
     by true b e = let z : _≡_ {A = ℕ} 0 1 = cc in absurd (omega arith)
     by false true e =
-        let z : inked text n + common word (drop (inked text n) text) ≡ m = cc in
-        (
+        let z : inked text n + common word (drop (inked text n) text) ≡ m = cc in (
           omega (arith, inked-from text n, z),
           omega (arith, inked-le text n l, common-le word (drop (inked text n) text), length-drop (inked text n) text, z),
         )
@@ -126,8 +125,7 @@ module _ (text : List ℕ) (n : ℕ) (l : n ≤ length text) where
       ) in
       let z : at + far - 1 - at ≡ length v = omega (arith, i) in
       let t : take (at + far - 1 - at) (drop (inked text n) text) ≡ v =
-      rw z (sym (take-take (length v) far (drop (inked text n) text) (omega (arith, i))) ∙ ap (take (length v)) w ∙ take-append-seam v (0x2e ∷ [])) in
-      (
+      rw z (sym (take-take (length v) far (drop (inked text n) text) (omega (arith, i))) ∙ ap (take (length v)) w ∙ take-append-seam v (0x2e ∷ [])) in (
         record { past = omega (arith, inked-from text n); starts = omega (arith, i); ends = omega (arith, inside); whole = rw t (g .0) },
         omega (arith, inside, i),
       )

@@ -149,8 +149,14 @@ named-more i idx values row rows rows-after cs c k e f g few h j q l =
     let y : 0 + length (literalsOf cs) ≡ k = omega (arith, e) in
     let n : idx ∷ values ∷ drop 2 row ≡ rowNumbers (nameRow (c .item) (pairs k (c .values))) = rw (d, h, j, pairs-length k (c .values)) in
     let m : length (idx ∷ values ∷ drop 2 row) ≡ 18 =
-    omega (arith, ap length d, length-append (pairNumbers (pairs k (c .values))) (replicate {A = ℕ} (16 - length (c .values) * 2) 0), numbers-length k (c .values),
-      length-replicate {A = ℕ} (16 - length (c .values) * 2) 0, few) in
+    omega (
+      arith,
+      ap length d,
+      length-append (pairNumbers (pairs k (c .values))) (replicate {A = ℕ} (16 - length (c .values) * 2) 0),
+      numbers-length k (c .values),
+      length-replicate {A = ℕ} (16 - length (c .values) * 2) 0,
+      few,
+    ) in
     let z : (i + 1) * 18 ≡ i * 18 + length (idx ∷ values ∷ drop 2 row) = omega (arith, m) in
     let u : take ((i + 1) * 18) rows-after ≡ take (i * 18) rows ++ (idx ∷ values ∷ drop 2 row) =
     rw (z, q) (taken-next rows (idx ∷ values ∷ drop 2 row) (i * 18) (omega (arith, m))) in

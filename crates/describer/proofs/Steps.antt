@@ -62,13 +62,12 @@ module _ {text : List ℕ} {p : ℕ} {flat : List ℕ} {count : ℕ} {s : Names}
         let w = whole u in
         record {
           values = w .values;
-          by =
-              (
-                w .reads,
-                w .held .0,
-                w .held .1,
-                record { tallied = t; row = row-after; held = w .held .2; is = m; stored = f },
-              );
+          by = (
+            w .reads,
+            w .held .0,
+            w .held .1,
+            record { tallied = t; row = row-after; held = w .held .2; is = m; stored = f },
+          );
         }
 
     pub named-fault : {k : ℕ} → r ≡ Fault k → {rows-after places-after : List ℕ} → NameBy text p flat count s rows places notes (Faulty k) rows-after places-after notes-after

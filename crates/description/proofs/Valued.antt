@@ -140,9 +140,9 @@ module _ (text : List ℕ) (e : ℕ) (q : State) (M : Middle q) (goes stops : Li
           word-leads text e q M (eqb-false (inked text e) e h)
           ∙ rw reaches
           (ap (λ (o : Option State).
-            leads text o q
-            (inked text e + cond (isPeriod text (inked text e + literalReach text (inked text e)) && isLiteral (take (literalReach text (inked text e)) rest))
-            (suc (literalReach text (inked text e))) (literalReach text (inked text e))))
+          leads text o q
+          (inked text e + cond (isPeriod text (inked text e + literalReach text (inked text e)) && isLiteral (take (literalReach text (inked text e)) rest))
+          (suc (literalReach text (inked text e))) (literalReach text (inked text e))))
           (g (cond (isPeriod text (inked text e + literalReach text (inked text e)) && isLiteral (take (literalReach text (inked text e)) rest))
           (suc (literalReach text (inked text e))) (literalReach text (inked text e))))
           ∙ decided (inked text e) (literalReach text (inked text e)) (reach-le spells [] rest) (readLiteral (take (literalReach text (inked text e)) rest)) refl)

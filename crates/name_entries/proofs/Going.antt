@@ -115,12 +115,11 @@ module _ {text : List ℕ} {n : ℕ} {item : Rules.Row} {start : Tally} {notes-b
         record {
           values = g .taken ++ valueOf text f ∷ [];
           reads = λ h p. g .reads h p ∙ value-leads-on text h p (g .taken) at ∙ ap (onRead text h p (g .taken)) (sym q);
-          held =
-              (
-                s .2,
-                omega (arith, g .past, s .1),
-                λ ss i. held-more text item (start .over) ss (g .taken) t row notes f (s .0) (g .held ss i) m r row-after notes-after k,
-              );
+          held = (
+            s .2,
+            omega (arith, g .past, s .1),
+            λ ss i. held-more text item (start .over) ss (g .taken) t row notes f (s .0) (g .held ss i) m r row-after notes-after k,
+          );
         }
 
   pub going-fault : {k : ℕ} {row-after notes-after : List ℕ} → (ValueRead.Fault k ≡ valueAt text at) → ValuesBy text n item start notes-before (Fault k) row-after notes-after
@@ -173,8 +172,7 @@ label-within text n k l q = by (eqb (inked text n) n) (isName (take (nameReach t
         (n ≤ k) × (k ≤ length text)
     by true b e = let z : _≡_ {A = ℕ} 0 1 = cc in absurd (omega arith)
     by false true e =
-        let z : inked text n + nameReach text (inked text n) ≡ k = cc in
-        (
+        let z : inked text n + nameReach text (inked text n) ≡ k = cc in (
           omega (arith, z),
           omega (arith, inked-le text n l, reach-le beginsName [] (drop (inked text n) text), length-drop (inked text n) text, z),
         )

@@ -289,8 +289,7 @@ module _ (w : List ℕ) (r : Row) (t : Written w r) where
   -- its bytes, written over the start of a buffer
   pub written-over : (before : List ℕ) {after : List ℕ} → after ≡ writtenOver (literalBy (r .kind) w .bytes) before → (r .size ≤ length after) × (take (r .size) after ≡ value .bytes)
   written-over before {after} e =
-      let f : after ≡ value .bytes ++ drop (length (value .bytes)) before = e ∙ ap (λ (b : List ℕ). writtenOver b before) written-bytes in
-      (
+      let f : after ≡ value .bytes ++ drop (length (value .bytes)) before = e ∙ ap (λ (b : List ℕ). writtenOver b before) written-bytes in (
         omega (arith, written-size, ap length f, length-append (value .bytes) (drop (length (value .bytes)) before)),
         rw (written-size, f) (take-append-seam (value .bytes) (drop (length (value .bytes)) before)),
       )

@@ -22,19 +22,36 @@ enum-known-end-2 : tie.Need-enum-known-end-2
 enum-known-end-2 c = search needs
 
 add-t13 : tie.Need-add-t13
-add-t13 c = omega (arith, literal-ended (now (c .before .before .before .before .before .before .args .text)) (c .before .before .before .before .before .before .args .n) (c .before .before .before .before .before .before .pre) _ (sym (c .before .before .before .spelled-at .ensures) ∙ c .before .end2 .given .1) .1)
+add-t13 c =
+    let p3 = c .before .before .before in
+    let p6 = p3 .before .before .before in
+    omega (arith, literal-ended (now (p6 .args .text)) (p6 .args .n) (p6 .pre) _ (sym (p3 .spelled-at .ensures) ∙ c .before .end2 .given .1) .1)
 
 enum-known-k : tie.Need-enum-known-k
 enum-known-k c = search needs
 
 returns : tie.Need-returns
-returns c = rw (c .before .before .before .before .next-ink .ensures) (ap (highRead (c .before .before .before .before .before .before .args .low) (c .before .before .before .before .before .before .args .mid) (inked (now (c .before .before .before .before .before .before .args .text)) (c .before .before .before .before .before .before .args .n))) (sym (c .before .end .given .1) ∙ c .before .before .before .spelled-at .ensures))
+returns c =
+    let p3 = c .before .before .before in
+    let p4 = p3 .before in
+    let p6 = p4 .before .before in
+    rw (p4 .next-ink .ensures) (ap (highRead (p6 .args .low) (p6 .args .mid) (inked (now (p6 .args .text)) (p6 .args .n))) (sym
+    (c .before .end .given .1) ∙ p3 .spelled-at .ensures))
 
 returns-2 : tie.Need-returns-2
-returns-2 c = rw (c .before .before .before .before .next-ink .ensures) (ap (highRead (c .before .before .before .before .before .before .args .low) (c .before .before .before .before .before .before .args .mid) (inked (now (c .before .before .before .before .before .before .args .text)) (c .before .before .before .before .before .before .args .n))) (sym (c .before .end2 .given .1) ∙ c .before .before .before .spelled-at .ensures))
+returns-2 c =
+    let p3 = c .before .before .before in
+    let p4 = p3 .before in
+    let p6 = p4 .before .before in
+    rw (p4 .next-ink .ensures) (ap (highRead (p6 .args .low) (p6 .args .mid) (inked (now (p6 .args .text)) (p6 .args .n))) (sym
+    (c .before .end2 .given .1) ∙ p3 .spelled-at .ensures))
 
 returns-3 : tie.Need-returns-3
-returns-3 c = ap (highRead (c .before .before .before .before .before .before .args .low) (c .before .before .before .before .before .before .args .mid) (inked (now (c .before .before .before .before .before .before .args .text)) (c .before .before .before .before .before .before .args .n))) (sym (c .before .k .given .1) ∙ c .before .before .before .spelled-at .ensures)
+returns-3 c =
+    let p3 = c .before .before .before in
+    let p6 = p3 .before .before .before in
+    ap (highRead (p6 .args .low) (p6 .args .mid) (inked (now (p6 .args .text)) (p6 .args .n))) (sym (c .before .k .given .1) ∙
+    p3 .spelled-at .ensures)
 
 pub high-at-spec : {M : Type 1} → statement M
 high-at-spec =

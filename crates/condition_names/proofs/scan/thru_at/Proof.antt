@@ -19,16 +19,26 @@ enum-known-k : tie.Need-enum-known-k
 enum-known-k c = search needs
 
 high-at-requires : tie.Need-high-at-requires
-high-at-requires c κs = word-within (bytes "THRU")  (now (c .before .before .before .before .before .before .args .text)) (c .before .before .before .before .before .before .args .mid) _ (c .before .before .before .before .before .before .pre) (sym (c .before .before .before .literal .ensures) ∙ c .before .k .given .1) .1
+high-at-requires c κs =
+    let p3 = c .before .before .before in
+    let p6 = p3 .before .before .before in
+    word-within (bytes "THRU") (now (p6 .args .text)) (p6 .args .mid) _ (p6 .pre) (sym (p3 .literal .ensures) ∙ c .before .k .given .1) .1
 
 enum-known-k-2 : tie.Need-enum-known-k-2
 enum-known-k-2 c = search needs
 
 returns : tie.Need-returns
-returns c = c .high-at .ensures ∙ ap (thruRead (now (c .before .before .before .before .before .before .before .args .text)) (c .before .before .before .before .before .before .before .args .low) (c .before .before .before .before .before .before .before .args .mid)) (sym (c .before .before .k .given .1) ∙ c .before .before .before .before .literal .ensures)
+returns c =
+    let p2 = c .before .before in
+    let p4 = p2 .before .before in
+    let p7 = p4 .before .before .before in
+    c .high-at .ensures ∙ ap (thruRead (now (p7 .args .text)) (p7 .args .low) (p7 .args .mid)) (sym (p2 .k .given .1) ∙ p4 .literal .ensures)
 
 returns-2 : tie.Need-returns-2
-returns-2 c = ap (thruRead (now (c .before .before .before .before .before .before .args .text)) (c .before .before .before .before .before .before .args .low) (c .before .before .before .before .before .before .args .mid)) (sym (c .before .k2 .given .1) ∙ c .before .before .before .literal .ensures)
+returns-2 c =
+    let p3 = c .before .before .before in
+    let p6 = p3 .before .before .before in
+    ap (thruRead (now (p6 .args .text)) (p6 .args .low) (p6 .args .mid)) (sym (c .before .k2 .given .1) ∙ p3 .literal .ensures)
 
 pub thru-at-spec : {M : Type 1} → statement M
 thru-at-spec =

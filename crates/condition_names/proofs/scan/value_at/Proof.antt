@@ -27,30 +27,60 @@ byte-at-requires : tie.Need-byte-at-requires
 byte-at-requires c κs = search needs
 
 thru-at-requires : tie.Need-thru-at-requires
-thru-at-requires c κs = literal-open (now (c .before .before .before .before .before .before .before .before .before .args .text)) (c .before .before .before .before .before .before .before .before .before .args .n) (c .before .before .before .before .before .before .before .before .before .pre) _ (sym (c .before .before .before .before .before .before .spelled-at .ensures) ∙ c .before .before .before .before .mid .given .1) .ends
+thru-at-requires c κs =
+    let p4 = c .before .before .before .before in
+    let p6 = p4 .before .before in
+    let p9 = p6 .before .before .before in
+    literal-open (now (p9 .args .text)) (p9 .args .n) (p9 .pre) _ (sym (p6 .spelled-at .ensures) ∙ p4 .mid .given .1) .ends
 
 returns : tie.Need-returns
-returns c = let e = sym (c .before .before .byte-at .ensures ∙ ap (λ (k : ℕ). getD (now (c .before .before .before .before .before .before .before .before .before .before .args .text)) k 0) (c .before .before .before .next-ink2 .ensures)) ∙ c .before .if1 .taken in
-    c .thru-at .ensures ∙ rw (c .before .before .before .before .before .before .before .before .next-ink .ensures) (taken (now (c .before .before .before .before .before .before .before .before .before .before .args .text)) (inked (now (c .before .before .before .before .before .before .before .before .before .before .args .text)) (c .before .before .before .before .before .before .before .before .before .before .args .n)) _ e ∙ ap (lowRead (now (c .before .before .before .before .before .before .before .before .before .before .args .text)) (inked (now (c .before .before .before .before .before .before .before .before .before .before .args .text)) (c .before .before .before .before .before .before .before .before .before .before .args .n))) (sym (c .before .before .before .before .before .mid .given .1) ∙ c .before .before .before .before .before .before .before .spelled-at .ensures))
+returns c =
+    let p2 = c .before .before in
+    let p3 = p2 .before in
+    let p5 = p3 .before .before in
+    let p7 = p5 .before .before in
+    let p8 = p7 .before in
+    let p10 = p8 .before .before in
+    let e = sym (p2 .byte-at .ensures ∙ ap (λ (k : ℕ). getD (now (p10 .args .text)) k 0) (p3 .next-ink2 .ensures)) ∙ c .before .if1 .taken in
+    c .thru-at .ensures ∙ rw (p8 .next-ink .ensures) (taken (now (p10 .args .text)) (inked (now (p10 .args .text)) (p10 .args .n)) _ e ∙ ap (lowRead
+    (now (p10 .args .text)) (inked (now (p10 .args .text)) (p10 .args .n))) (sym (p5 .mid .given .1) ∙ p7 .spelled-at .ensures))
 
 enum-known-mid-2 : tie.Need-enum-known-mid-2
 enum-known-mid-2 c = search needs
 
 add-t14 : tie.Need-add-t14
-add-t14 c = omega (arith, literal-ended (now (c .before .before .before .before .before .before .args .text)) (c .before .before .before .before .before .before .args .n) (c .before .before .before .before .before .before .pre) _ (sym (c .before .before .before .spelled-at .ensures) ∙ c .before .mid2 .given .1) .1)
+add-t14 c =
+    let p3 = c .before .before .before in
+    let p6 = p3 .before .before .before in
+    omega (arith, literal-ended (now (p6 .args .text)) (p6 .args .n) (p6 .pre) _ (sym (p3 .spelled-at .ensures) ∙ c .before .mid2 .given .1) .1)
 
 enum-known-k : tie.Need-enum-known-k
 enum-known-k c = search needs
 
 returns-2 : tie.Need-returns-2
-returns-2 c = rw (c .before .before .before .before .before .before .before .next-ink .ensures) (left (now (c .before .before .before .before .before .before .before .before .before .args .text)) (inked (now (c .before .before .before .before .before .before .before .before .before .args .text)) (c .before .before .before .before .before .before .before .before .before .args .n)) _
-    (λ e. c .if1 .left (c .before .byte-at .ensures ∙ ap (λ (k : ℕ). getD (now (c .before .before .before .before .before .before .before .before .before .args .text)) k 0) (c .before .before .next-ink2 .ensures) ∙ e)) ∙ ap (lowRead (now (c .before .before .before .before .before .before .before .before .before .args .text)) (inked (now (c .before .before .before .before .before .before .before .before .before .args .text)) (c .before .before .before .before .before .before .before .before .before .args .n))) (sym (c .before .before .before .before .mid .given .1) ∙ c .before .before .before .before .before .before .spelled-at .ensures))
+returns-2 c =
+    let p2 = c .before .before in
+    let p4 = p2 .before .before in
+    let p6 = p4 .before .before in
+    let p7 = p6 .before in
+    let p9 = p7 .before .before in
+    rw (p7 .next-ink .ensures) (left (now (p9 .args .text)) (inked (now (p9 .args .text)) (p9 .args .n)) _ (λ e. c .if1 .left
+    (c .before .byte-at .ensures ∙ ap (λ (k : ℕ). getD (now (p9 .args .text)) k 0) (p2 .next-ink2 .ensures) ∙ e)) ∙ ap (lowRead (now (p9 .args .text))
+    (inked (now (p9 .args .text)) (p9 .args .n))) (sym (p4 .mid .given .1) ∙ p6 .spelled-at .ensures))
 
 returns-3 : tie.Need-returns-3
-returns-3 c = rw (c .before .before .before .before .next-ink .ensures) (ap (lowRead (now (c .before .before .before .before .before .before .args .text)) (inked (now (c .before .before .before .before .before .before .args .text)) (c .before .before .before .before .before .before .args .n))) (sym (c .before .mid2 .given .1) ∙ c .before .before .before .spelled-at .ensures))
+returns-3 c =
+    let p3 = c .before .before .before in
+    let p4 = p3 .before in
+    let p6 = p4 .before .before in
+    rw (p4 .next-ink .ensures) (ap (lowRead (now (p6 .args .text)) (inked (now (p6 .args .text)) (p6 .args .n))) (sym (c .before .mid2 .given .1) ∙
+    p3 .spelled-at .ensures))
 
 returns-4 : tie.Need-returns-4
-returns-4 c = ap (lowRead (now (c .before .before .before .before .before .before .args .text)) (inked (now (c .before .before .before .before .before .before .args .text)) (c .before .before .before .before .before .before .args .n))) (sym (c .before .k .given .1) ∙ c .before .before .before .spelled-at .ensures)
+returns-4 c =
+    let p3 = c .before .before .before in
+    let p6 = p3 .before .before .before in
+    ap (lowRead (now (p6 .args .text)) (inked (now (p6 .args .text)) (p6 .args .n))) (sym (c .before .k .given .1) ∙ p3 .spelled-at .ensures)
 
 pub value-at-spec : {M : Type 1} → statement M
 value-at-spec =

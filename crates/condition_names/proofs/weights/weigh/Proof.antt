@@ -29,14 +29,26 @@ may-compare-requires : tie.Need-may-compare-requires
 may-compare-requires c κs = search needs
 
 returns : tie.Need-returns
-returns c = value-barred (now (c .before .before .before .before .before .before .before .before .args .text)) (c .before .before .before .before .before .before .before .before .args .item) (c .before .before .before .before .before .before .before .before .args .found) (alone-apart (literalIn (now (c .before .before .before .before .before .before .before .before .args .text)) (c .before .before .before .before .before .before .before .before .args .found .low) (c .before .before .before .before .before .before .before .before .args .found .mid)) _ (sym (c .before .before .before .before .before .literal-row .ensures) ∙ c .before .before .before .low .given .1) (c .before .before .before .before .before .before .before .before .args .item) (sym (c .before .may-compare .ensures) ∙ not-true _ (c .if1 .taken)))
+returns c =
+    let p3 = c .before .before .before in
+    let p5 = p3 .before .before in
+    let p8 = p5 .before .before .before in
+    value-barred (now (p8 .args .text)) (p8 .args .item) (p8 .args .found) (alone-apart (literalIn (now (p8 .args .text)) (p8 .args .found .low)
+    (p8 .args .found .mid)) _ (sym (p5 .literal-row .ensures) ∙ p3 .low .given .1) (p8 .args .item) (sym (c .before .may-compare .ensures) ∙ not-true
+    _ (c .if1 .taken)))
 
 weigh-high-requires : tie.Need-weigh-high-requires
-weigh-high-requires c κs = (
-      (c .before .before .before .before .before .before .before .before .before .pre, c .if2 .taken),
+weigh-high-requires c κs =
+    let p2 = c .before .before in
+    let p4 = p2 .before .before in
+    let p6 = p4 .before .before in
+    let p9 = p6 .before .before .before in (
+      (p9 .pre, c .if2 .taken),
       (
-        written-is _ _ (c .before .before .before .before .before .before .before .before .before .pre .low) (sym (c .before .before .before .before .before .before .literal-row .ensures) ∙ c .before .before .before .before .low .given .1),
-        alone-fine (literalIn (now (c .before .before .before .before .before .before .before .before .before .args .text)) (c .before .before .before .before .before .before .before .before .before .args .found .low) (c .before .before .before .before .before .before .before .before .before .args .found .mid)) _ (sym (c .before .before .before .before .before .before .literal-row .ensures) ∙ c .before .before .before .before .low .given .1) (c .before .before .before .before .before .before .before .before .before .args .item) (sym (c .before .before .may-compare .ensures) ∙ not-false _ (c .before .if1 .left)),
+        written-is _ _ (p9 .pre .low) (sym (p6 .literal-row .ensures) ∙ p4 .low .given .1),
+        alone-fine (literalIn (now
+            (p9 .args .text)) (p9 .args .found .low) (p9 .args .found .mid)) _ (sym (p6 .literal-row .ensures) ∙ p4 .low .given .1) (p9 .args .item) (sym
+            (p2 .may-compare .ensures) ∙ not-false _ (c .before .if1 .left)),
       ),
     )
 
@@ -47,10 +59,21 @@ enum-told : tie.Need-enum-told
 enum-told c = search needs
 
 returns-3 : tie.Need-returns-3
-returns-3 c = value-single (now (c .before .before .before .before .before .before .before .before .before .args .text)) (c .before .before .before .before .before .before .before .before .before .args .item) (c .before .before .before .before .before .before .before .before .before .args .found) (c .if2 .left) (alone-fine (literalIn (now (c .before .before .before .before .before .before .before .before .before .args .text)) (c .before .before .before .before .before .before .before .before .before .args .found .low) (c .before .before .before .before .before .before .before .before .before .args .found .mid)) _ (sym (c .before .before .before .before .before .before .literal-row .ensures) ∙ c .before .before .before .before .low .given .1) (c .before .before .before .before .before .before .before .before .before .args .item) (sym (c .before .before .may-compare .ensures) ∙ not-false _ (c .before .if1 .left))) _ (sym (c .before .before .before .before .before .before .literal-row .ensures) ∙ c .before .before .before .before .low .given .1)
+returns-3 c =
+    let p2 = c .before .before in
+    let p4 = p2 .before .before in
+    let p6 = p4 .before .before in
+    let p9 = p6 .before .before .before in
+    value-single (now (p9 .args .text)) (p9 .args .item) (p9 .args .found) (c .if2 .left) (alone-fine (literalIn (now (p9 .args .text))
+    (p9 .args .found .low) (p9 .args .found .mid)) _ (sym (p6 .literal-row .ensures) ∙ p4 .low .given .1) (p9 .args .item) (sym
+    (p2 .may-compare .ensures) ∙ not-false _ (c .before .if1 .left))) _ (sym (p6 .literal-row .ensures) ∙ p4 .low .given .1)
 
 returns-4 : tie.Need-returns-4
-returns-4 c = value-barred (now (c .before .before .before .before .before .args .text)) (c .before .before .before .before .before .args .item) (c .before .before .before .before .before .args .found) (alone-unfit (literalIn (now (c .before .before .before .before .before .args .text)) (c .before .before .before .before .before .args .found .low) (c .before .before .before .before .before .args .found .mid)) (c .before .before .before .before .before .args .item) (sym (c .before .before .literal-row .ensures) ∙ c .enum-told .given .1))
+returns-4 c =
+    let p2 = c .before .before in
+    let p5 = p2 .before .before .before in
+    value-barred (now (p5 .args .text)) (p5 .args .item) (p5 .args .found) (alone-unfit (literalIn (now (p5 .args .text)) (p5 .args .found .low)
+    (p5 .args .found .mid)) (p5 .args .item) (sym (p2 .literal-row .ensures) ∙ c .enum-told .given .1))
 
 pub weigh-spec : {M : Type 1} → statement M
 weigh-spec =

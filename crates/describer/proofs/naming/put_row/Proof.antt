@@ -34,7 +34,10 @@ mul-names-2 : tie.Need-mul-names-2 Inv-loop μ-loop
 mul-names-2 c = search needs
 
 slice-write-names : tie.Need-slice-write-names Inv-loop μ-loop
-slice-write-names c = omega (arith, copied-long (c .before .before .before .pre .0) (c .before .before .before .pre .1) (c .before .before .loop .inv), c .before .before .before .pre .0)
+slice-write-names c =
+    let p2 = c .before .before in
+    let p3 = p2 .before in
+    omega (arith, copied-long (p3 .pre .0) (p3 .pre .1) (p2 .loop .inv), p3 .pre .0)
 
 add-k : tie.Need-add-k Inv-loop μ-loop
 add-k c = omega arith

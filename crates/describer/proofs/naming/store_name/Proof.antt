@@ -45,7 +45,14 @@ same-length-3 : tie.Need-same-length-3
 same-length-3 c = search needs
 
 returns : tie.Need-returns
-returns c = record { stored = c .before .before .put-row .ensures ∙ ap (sets (now (c .before .before .before .before .before .before .before .before .args .names)) (c .before .before .before .before .before .before .before .before .args .i * 18)) (two-first (now (c .before .before .before .before .before .before .before .before .args .row)) (c .before .before .before .before .before .before .before .before .args .item) (c .before .before .before .before .before .before .before .before .args .values) (c .before .before .before .before .before .before .before .before .pre .0 .1 .1)); placed = refl }
+returns c =
+    let p2 = c .before .before in
+    let p8 = p2 .before .before .before .before .before .before in
+    record {
+      stored = p2 .put-row .ensures ∙ ap (sets (now (p8 .args .names)) (p8 .args .i * 18)) (two-first (now (p8 .args .row)) (p8 .args .item)
+          (p8 .args .values) (p8 .pre .0 .1 .1));
+      placed = refl;
+    }
 
 pub store-name-spec : {M : Type 1} → statement M
 store-name-spec =

@@ -9,10 +9,21 @@ use Rattle.descriptions.proofs.calls.describe_with.Statement.{statement
 use Rattle.descriptions.proofs.calls.describe_with.Tie as tie
 
 read-within-requires : tie.Need-read-within-requires
-read-within-requires c κs = ((c .before .before .before .before .before .before .before .before .before .before .before .before .before .before .before .before .pre .0 .0, c .before .before .before .before .before .before .before .before .before .before .before .before .before .before .before .before .pre .0 .1 .0), c .before .before .before .before .before .before .before .before .before .before .before .before .before .before .before .before .pre .1)
+read-within-requires c κs =
+    let p16 = c .before .before .before .before .before .before .before .before .before .before .before .before .before .before .before .before in
+    ((p16 .pre .0 .0, p16 .pre .0 .1 .0), p16 .pre .1)
 
 lay-rows-requires : tie.Need-lay-rows-requires
-lay-rows-requires c κs = (omega (arith, c .before .before .before .before .before .before .before .before .before .before .before .before .before .before .before .read-within .ensures .few), (omega (arith, c .before .before .before .before .before .before .before .before .before .before .before .before .before .before .before .read-within .ensures .few, c .before .before .before .before .before .before .before .before .before .before .before .before .before .before .before .read-within .kept .1 .0, c .before .before .before .before .before .before .before .before .before .before .before .before .before .before .before .before .before .before .before .before .before .before .before .before .before .before .before .before .before .before .before .before .pre .0 .0), c .before .before .before .before .before .before .before .before .before .before .before .before .before .before .before .before .before .before .before .before .before .before .before .before .before .before .before .before .before .before .before .before .pre .0 .1 .1))
+lay-rows-requires c κs =
+    let p15 = c .before .before .before .before .before .before .before .before .before .before .before .before .before .before .before in
+    let p32 =
+    p15 .before .before .before .before .before .before .before .before .before .before .before .before .before .before .before .before .before in (
+      omega (arith, p15 .read-within .ensures .few),
+      (
+        omega (arith, p15 .read-within .ensures .few, p15 .read-within .kept .1 .0, p32 .pre .0 .0),
+        p32 .pre .0 .1 .1,
+      ),
+    )
 
 sooner-of-requires : tie.Need-sooner-of-requires
 sooner-of-requires c κs = search needs
@@ -45,10 +56,37 @@ same-length-7 : tie.Need-same-length-7
 same-length-7 c = search needs
 
 returns : tie.Need-returns
-returns c = answers-faulty (now (c .before .before .before .before .before .before .before .before .before .before .before .before .before .before .before .before .before .before .before .before .before .before .before .before .before .before .before .before .before .before .before .before .before .before .before .before .before .before .before .before .args .text)) (c .before .before .before .before .before .before .before .before .before .before .before .before .before .before .before .before .before .before .before .before .before .before .before .read-within .last .1 .0) _ _ _ (c .before .before .before .before .before .before .before .lay-rows .last .1 .1 .0) (now (c .before .before .before .before .before .before .before .before .before .before .before .before .before .before .before .before .before .before .before .before .before .before .before .before .before .before .before .before .before .before .before .before .before .before .before .before .before .before .before .before .args .rows)) (now (c .before .before .before .before .before .before .before .before .before .before .before .before .before .before .before .before .before .before .before .before .before .before .before .before .before .before .before .before .before .before .before .before .before .before .before .before .before .before .before .before .args .places)) (c .before .before .before .before .before .before .before .before .before .before .before .before .before .before .before .before .before .before .before .before .before .before .before .read-within .result) (c .before .before .before .before .before .before .before .before .before .before .before .before .before .before .before .before .before .before .before .before .before .before .before .read-within .ensures) (c .before .before .before .before .before .before .before .lay-rows .ensures) (c .before .before .before .before .sooner-of .ensures) (c .before .before .enum-told .given .1) (not-true _ (c .if1 .taken))
+returns c =
+    let p2 = c .before .before in
+    let p4 = p2 .before .before in
+    let p7 = p4 .before .before .before in
+    let p23 = p7 .before .before .before .before .before .before .before .before .before .before .before .before .before .before .before .before in
+    let p40 =
+    p23 .before .before .before .before .before .before .before .before .before .before .before .before .before .before .before .before .before in
+    answers-faulty (now (p40 .args .text)) (p23 .read-within .last .1 .0) _ _ _ (p7 .lay-rows .last .1 .1 .0) (now (p40 .args .rows)) (now
+    (p40 .args .places)) (p23 .read-within .result) (p23 .read-within .ensures) (p7 .lay-rows .ensures) (p4 .sooner-of .ensures)
+    (p2 .enum-told .given .1) (not-true _ (c .if1 .taken))
 
 give-requires : tie.Need-give-requires
-give-requires c κs = (omega (arith, c .before .before .before .before .before .before .before .before .before .before .before .lay-rows .ensures .few (c .before .before .before .before .before .before .before .before .sooner-of .ensures .fine (c .before .before .before .before .before .before .enum-told .given .1)), c .before .before .before .before .before .before .before .before .before .before .before .lay-rows .kept .1 .1 .0, c .before .before .before .before .before .before .before .before .before .before .before .before .before .before .before .before .before .before .before .before .before .before .before .before .before .before .before .before .before .before .before .before .before .before .before .before .before .before .before .before .before .before .before .before .pre .0 .1 .1), (omega (arith, c .before .before .before .before .before .before .before .before .before .before .before .before .before .before .before .before .before .before .before .before .before .before .before .before .before .before .before .read-within .ensures .few, c .before .before .before .before .before .before .before .before .before .before .before .before .before .before .before .before .before .before .before .before .before .before .before .before .before .before .before .read-within .kept .1 .0, c .before .before .before .before .before .before .before .before .before .before .before .before .before .before .before .before .before .before .before .before .before .before .before .before .before .before .before .before .before .before .before .before .before .before .before .before .before .before .before .before .before .before .before .before .pre .0 .0), c .before .before .before .before .before .before .before .before .before .before .before .lay-rows .ensures .few (c .before .before .before .before .before .before .before .before .sooner-of .ensures .fine (c .before .before .before .before .before .before .enum-told .given .1))))
+give-requires c κs =
+    let p6 = c .before .before .before .before .before .before in
+    let p8 = p6 .before .before in
+    let p11 = p8 .before .before .before in
+    let p27 = p11 .before .before .before .before .before .before .before .before .before .before .before .before .before .before .before .before in
+    let p44 =
+    p27 .before .before .before .before .before .before .before .before .before .before .before .before .before .before .before .before .before in (
+      omega (
+        arith,
+        p11 .lay-rows .ensures .few (p8 .sooner-of .ensures .fine (p6 .enum-told .given .1)),
+        p11 .lay-rows .kept .1 .1 .0,
+        p44 .pre .0 .1 .1,
+      ),
+      (
+        omega (arith, p27 .read-within .ensures .few, p27 .read-within .kept .1 .0, p44 .pre .0 .0),
+        p11 .lay-rows .ensures .few
+            (p8 .sooner-of .ensures .fine (p6 .enum-told .given .1)),
+      ),
+    )
 
 same-length-8 : tie.Need-same-length-8
 same-length-8 c = search needs
@@ -72,7 +110,15 @@ same-length-14 : tie.Need-same-length-14
 same-length-14 c = search needs
 
 returns-2 : tie.Need-returns-2
-returns-2 c = answers-over (now (c .before .before .before .before .before .before .before .before .before .before .before .before .before .before .before .before .before .before .before .before .before .before .before .before .before .before .before .before .before .before .before .before .before .before .before .before .before .before .before .args .text)) (c .before .before .before .before .before .before .before .before .before .before .before .before .before .before .before .before .before .before .before .before .before .before .read-within .last .1 .0) _ _ _ (c .before .before .before .before .before .before .lay-rows .last .1 .1 .0) (now (c .before .before .before .before .before .before .before .before .before .before .before .before .before .before .before .before .before .before .before .before .before .before .before .before .before .before .before .before .before .before .before .before .before .before .before .before .before .before .before .args .rows)) (now (c .before .before .before .before .before .before .before .before .before .before .before .before .before .before .before .before .before .before .before .before .before .before .before .before .before .before .before .before .before .before .before .before .before .before .before .before .before .before .before .args .places)) (c .before .before .before .before .before .before .before .before .before .before .before .before .before .before .before .before .before .before .before .before .before .before .read-within .result) (c .before .before .before .before .before .before .before .before .before .before .before .before .before .before .before .before .before .before .before .before .before .before .read-within .ensures) (c .before .before .before .before .before .before .lay-rows .ensures) (c .before .before .before .sooner-of .ensures) (c .before .p .given .1)
+returns-2 c =
+    let p3 = c .before .before .before in
+    let p6 = p3 .before .before .before in
+    let p22 = p6 .before .before .before .before .before .before .before .before .before .before .before .before .before .before .before .before in
+    let p39 =
+    p22 .before .before .before .before .before .before .before .before .before .before .before .before .before .before .before .before .before in
+    answers-over (now (p39 .args .text)) (p22 .read-within .last .1 .0) _ _ _ (p6 .lay-rows .last .1 .1 .0) (now (p39 .args .rows)) (now
+    (p39 .args .places)) (p22 .read-within .result) (p22 .read-within .ensures) (p6 .lay-rows .ensures) (p3 .sooner-of .ensures)
+    (c .before .p .given .1)
 
 same-length-15 : tie.Need-same-length-15
 same-length-15 c = search needs
@@ -102,7 +148,24 @@ same-length-23 : tie.Need-same-length-23
 same-length-23 c = search needs
 
 returns-3 : tie.Need-returns-3
-returns-3 c = answers-given (now (c .before .before .before .before .before .before .before .before .before .before .before .before .before .before .before .before .before .before .before .before .before .before .before .before .before .before .before .before .before .before .before .before .before .before .before .before .before .before .before .before .before .before .before .before .before .before .before .before .before .args .text)) (c .before .before .before .before .before .before .before .before .before .before .before .before .before .before .before .before .before .before .before .before .before .before .before .before .before .before .before .before .before .before .before .before .read-within .last .1 .0) _ _ _ (c .before .before .before .before .before .before .before .before .before .before .before .before .before .before .before .before .lay-rows .last .1 .1 .0) (now (c .before .before .before .before .before .before .before .before .before .before .before .before .before .before .before .before .before .before .before .before .before .before .before .before .before .before .before .before .before .before .before .before .before .before .before .before .before .before .before .before .before .before .before .before .before .before .before .before .before .args .rows)) (now (c .before .before .before .before .before .before .before .before .before .before .before .before .before .before .before .before .before .before .before .before .before .before .before .before .before .before .before .before .before .before .before .before .before .before .before .before .before .before .before .before .before .before .before .before .before .before .before .before .before .args .places)) (c .before .before .before .before .before .before .before .before .before .before .before .before .before .before .before .before .before .before .before .before .before .before .before .before .before .before .before .before .before .before .before .before .read-within .result) (c .before .before .before .before .before .before .before .before .before .before .before .before .before .before .before .before .before .before .before .before .before .before .before .before .before .before .before .before .before .before .before .before .read-within .ensures) (c .before .before .before .before .before .before .before .before .before .before .before .before .before .before .before .before .lay-rows .ensures) (c .before .before .before .before .before .before .before .before .before .before .before .before .before .sooner-of .ensures) (c .before .before .before .before .before .before .before .before .before .before .before .enum-told .given .1) (not-false _ (c .before .before .before .before .before .before .before .before .before .if1 .left)) (c .before .before .before .before .give .ensures) (omega (arith, c .before .before .before .before .before .before .before .before .before .before .before .before .before .before .before .before .lay-rows .ensures .few (c .before .before .before .before .before .before .before .before .before .before .before .before .before .sooner-of .ensures .fine (c .before .before .before .before .before .before .before .before .before .before .before .enum-told .given .1)), c .before .before .before .before .before .before .before .before .before .before .before .before .before .before .before .before .lay-rows .kept .1 .1 .0, c .before .before .before .before .before .before .before .before .before .before .before .before .before .before .before .before .before .before .before .before .before .before .before .before .before .before .before .before .before .before .before .before .before .before .before .before .before .before .before .before .before .before .before .before .before .before .before .before .before .pre .0 .1 .1))
+returns-3 c =
+    let p4 = c .before .before .before .before in
+    let p9 = p4 .before .before .before .before .before in
+    let p11 = p9 .before .before in
+    let p13 = p11 .before .before in
+    let p16 = p13 .before .before .before in
+    let p32 = p16 .before .before .before .before .before .before .before .before .before .before .before .before .before .before .before .before in
+    let p49 =
+    p32 .before .before .before .before .before .before .before .before .before .before .before .before .before .before .before .before .before in
+    answers-given (now (p49 .args .text)) (p32 .read-within .last .1 .0) _ _ _ (p16 .lay-rows .last .1 .1 .0) (now (p49 .args .rows)) (now
+    (p49 .args .places)) (p32 .read-within .result) (p32 .read-within .ensures) (p16 .lay-rows .ensures) (p13 .sooner-of .ensures)
+    (p11 .enum-told .given .1) (not-false _ (p9 .if1 .left)) (p4 .give .ensures) (omega (
+      arith,
+      p16 .lay-rows .ensures .few
+          (p13 .sooner-of .ensures .fine (p11 .enum-told .given .1)),
+      p16 .lay-rows .kept .1 .1 .0,
+      p49 .pre .0 .1 .1,
+    ))
 
 pub describe-with-spec : {M : Type 1} → statement M
 describe-with-spec =

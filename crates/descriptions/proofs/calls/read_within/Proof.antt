@@ -10,7 +10,10 @@ use Rattle.descriptions.proofs.calls.read_within.Statement.{statement}
 use Rattle.descriptions.proofs.calls.read_within.Tie as tie
 
 read-entries-requires : tie.Need-read-entries-requires
-read-entries-requires c κs = ((c .before .before .before .before .before .before .if1 .taken, c .before .before .before .before .before .before .before .before .before .before .before .before .before .before .pre .0), c .before .before .before .before .before .before .before .before .before .before .before .before .before .before .pre .1)
+read-entries-requires c κs =
+    let p6 = c .before .before .before .before .before .before in
+    let p14 = p6 .before .before .before .before .before .before .before .before in
+    ((p6 .if1 .taken, p14 .pre .0), p14 .pre .1)
 
 same-length : tie.Need-same-length
 same-length c = search needs
@@ -31,13 +34,19 @@ same-length-6 : tie.Need-same-length-6
 same-length-6 c = search needs
 
 returns : tie.Need-returns
-returns c = within-short (now (c .before .before .before .before .before .before .before .before .before .before .before .before .before .before .before .before .before .before .before .before .before .before .before .before .before .before .before .args .text)) _ _ _ _ (c .before .before .before .before .before .before .before .before .before .before .before .before .read-entries .result) (c .before .before .before .before .before .before .before .before .before .before .before .before .before .before .before .before .before .before .before .if1 .taken) (c .before .before .before .before .before .before .before .before .before .before .before .before .read-entries .ensures)
+returns c =
+    let p12 = c .before .before .before .before .before .before .before .before .before .before .before .before in
+    let p19 = p12 .before .before .before .before .before .before .before in
+    let p27 = p19 .before .before .before .before .before .before .before .before in
+    within-short (now (p27 .args .text)) _ _ _ _ (p12 .read-entries .result) (p19 .if1 .taken) (p12 .read-entries .ensures)
 
 slice-aggregate-read-entries : tie.Need-slice-aggregate-read-entries
 slice-aggregate-read-entries c = omega (arith, length-take 4096 (now (c .before .before .before .before .before .before .before .before .before .args .text)))
 
 read-entries-requires-2 : tie.Need-read-entries-requires-2
-read-entries-requires-2 c κs = ((omega (arith, length-take 4096 (now (c .before .before .before .before .before .before .before .before .before .before .before .before .before .before .before .args .text))), c .before .before .before .before .before .before .before .before .before .before .before .before .before .before .before .pre .0), c .before .before .before .before .before .before .before .before .before .before .before .before .before .before .before .pre .1)
+read-entries-requires-2 c κs =
+    let p15 = c .before .before .before .before .before .before .before .before .before .before .before .before .before .before .before in
+    ((omega (arith, length-take 4096 (now (p15 .args .text))), p15 .pre .0), p15 .pre .1)
 
 same-length-7 : tie.Need-same-length-7
 same-length-7 c = search needs
@@ -58,7 +67,11 @@ same-length-12 : tie.Need-same-length-12
 same-length-12 c = search needs
 
 returns-2 : tie.Need-returns-2
-returns-2 c = within-cut (now (c .before .before .before .before .before .before .before .before .before .before .before .before .before .before .before .before .before .before .before .before .before .before .before .before .before .before .before .before .before .before .args .text)) _ _ _ _ (c .before .before .before .before .before .before .before .before .before .before .before .before .before .before .read-entries2 .result) (c .before .before .before .before .before .before .before .before .before .before .before .before .before .before .before .before .before .before .before .before .before .before .if1 .left) (c .before .before .before .before .before .before .before .before .before .before .before .before .before .before .read-entries2 .ensures) (c .if2 .taken)
+returns-2 c =
+    let p14 = c .before .before .before .before .before .before .before .before .before .before .before .before .before .before in
+    let p22 = p14 .before .before .before .before .before .before .before .before in
+    let p30 = p22 .before .before .before .before .before .before .before .before in
+    within-cut (now (p30 .args .text)) _ _ _ _ (p14 .read-entries2 .result) (p22 .if1 .left) (p14 .read-entries2 .ensures) (c .if2 .taken)
 
 same-length-13 : tie.Need-same-length-13
 same-length-13 c = search needs
@@ -79,7 +92,11 @@ same-length-18 : tie.Need-same-length-18
 same-length-18 c = search needs
 
 returns-3 : tie.Need-returns-3
-returns-3 c = within-long (now (c .before .before .before .before .before .before .before .before .before .before .before .before .before .before .before .before .before .before .before .before .before .before .before .before .before .before .before .before .before .before .args .text)) _ _ _ _ (c .before .before .before .before .before .before .before .before .before .before .before .before .before .before .read-entries2 .result) (c .before .before .before .before .before .before .before .before .before .before .before .before .before .before .before .before .before .before .before .before .before .before .if1 .left) (c .before .before .before .before .before .before .before .before .before .before .before .before .before .before .read-entries2 .ensures) (c .if2 .left)
+returns-3 c =
+    let p14 = c .before .before .before .before .before .before .before .before .before .before .before .before .before .before in
+    let p22 = p14 .before .before .before .before .before .before .before .before in
+    let p30 = p22 .before .before .before .before .before .before .before .before in
+    within-long (now (p30 .args .text)) _ _ _ _ (p14 .read-entries2 .result) (p22 .if1 .left) (p14 .read-entries2 .ensures) (c .if2 .left)
 
 pub read-within-spec : {M : Type 1} → statement M
 read-within-spec =

@@ -15,13 +15,21 @@ enum-known-laid : tie.Need-enum-known-laid
 enum-known-laid c = search needs
 
 returns-2 : tie.Need-returns-2
-returns-2 c = sooner-item (c .before .before .before .before .before .before .before .args .names) (not-false _ (c .before .before .before .before .before .if1 .left)) (c .before .before .before .laid .given .1) (c .if2 .taken)
+returns-2 c =
+    let p3 = c .before .before .before in
+    let p5 = p3 .before .before in
+    let p7 = p5 .before .before in
+    sooner-item (p7 .args .names) (not-false _ (p5 .if1 .left)) (p3 .laid .given .1) (c .if2 .taken)
 
 enum-told : tie.Need-enum-told
 enum-told c = search needs
 
 returns-3 : tie.Need-returns-3
-returns-3 c = sooner-name (c .before .before .before .before .before .before .before .args .names) (not-false _ (c .before .before .before .before .before .if1 .left)) (c .before .before .before .laid .given .1) (c .if2 .left)
+returns-3 c =
+    let p3 = c .before .before .before in
+    let p5 = p3 .before .before in
+    let p7 = p5 .before .before in
+    sooner-name (p7 .args .names) (not-false _ (p5 .if1 .left)) (p3 .laid .given .1) (c .if2 .left)
 
 returns-4 : tie.Need-returns-4
 returns-4 c = sooner-only (c .before .before .before .before .args .names) (not-false _ (c .before .before .if1 .left)) (c .enum-told .given .1)

@@ -24,7 +24,12 @@ step-requires : tie.Need-step-requires Inv-loop μ-loop
 step-requires c κs = search needs
 
 returns : tie.Need-returns Inv-loop μ-loop
-returns c = stops (now (c .before .before .before .before .before .before .args .rest)) (c .before .before .before .before .loop .state) (c .before .before .before .before .loop .k) (c .before .step .result) (c .before .before .before .before .loop .inv) (c .before .before .before .loop-test .taken) (c .before .step .ensures) (c .if1 .taken)
+returns c =
+    let p3 = c .before .before .before in
+    let p4 = p3 .before in
+    let p6 = p4 .before .before in
+    stops (now (p6 .args .rest)) (p4 .loop .state) (p4 .loop .k) (c .before .step .result) (p4 .loop .inv) (p3 .loop-test .taken)
+    (c .before .step .ensures) (c .if1 .taken)
 
 add-k : tie.Need-add-k Inv-loop μ-loop
 add-k c = omega arith
@@ -33,7 +38,12 @@ loop-less : tie.Need-loop-less Inv-loop μ-loop
 loop-less c = omega arith
 
 loop-again : tie.Need-loop-again Inv-loop μ-loop
-loop-again c = goes (now (c .before .before .before .before .before .before .args .rest)) (c .before .before .before .before .loop .state) (c .before .before .before .before .loop .k) (c .before .step .result) (c .before .before .before .before .loop .inv) (c .before .before .before .loop-test .taken) (c .before .step .ensures) (c .if1 .left)
+loop-again c =
+    let p3 = c .before .before .before in
+    let p4 = p3 .before in
+    let p6 = p4 .before .before in
+    goes (now (p6 .args .rest)) (p4 .loop .state) (p4 .loop .k) (c .before .step .result) (p4 .loop .inv) (p3 .loop-test .taken)
+    (c .before .step .ensures) (c .if1 .left)
 
 returns-2 : tie.Need-returns-2 Inv-loop μ-loop
 returns-2 c = ends (now (c .before .before .before .args .rest)) (c .before .loop .state) (c .before .loop .k) (c .before .loop .inv) (c .loop-test .left)

@@ -27,25 +27,45 @@ is-digit-requires c κs = search needs
 
 returns-5 : tie.Need-returns-5
 unfolding step
-returns-5 c = rw (eqb-no _ 6 (c .before .before .before .before .if1 .left), eqb-no _ 7 (c .before .before .before .if3 .left), ← c .before .before .is-digit .ensures, c .before .if5 .taken, le-leb _ 2 (c .if6 .taken))
+returns-5 c =
+    let p2 = c .before .before in
+    let p3 = p2 .before in
+    let p4 = p3 .before in
+    rw (eqb-no _ 6 (p4 .if1 .left), eqb-no _ 7 (p3 .if3 .left), ← p2 .is-digit .ensures, c .before .if5 .taken, le-leb _ 2 (c .if6 .taken))
 
 returns-6 : tie.Need-returns-6
 unfolding step
-returns-6 c = rw (eqb-no _ 6 (c .before .before .before .before .if1 .left), eqb-no _ 7 (c .before .before .before .if3 .left), ← c .before .before .is-digit .ensures, c .before .if5 .taken, lt-leb _ 2 (c .if6 .left))
+returns-6 c =
+    let p2 = c .before .before in
+    let p3 = p2 .before in
+    let p4 = p3 .before in
+    rw (eqb-no _ 6 (p4 .if1 .left), eqb-no _ 7 (p3 .if3 .left), ← p2 .is-digit .ensures, c .before .if5 .taken, lt-leb _ 2 (c .if6 .left))
 
 point-step-requires : tie.Need-point-step-requires
 point-step-requires c κs = search needs
 
 returns-7 : tie.Need-returns-7
 unfolding step
-returns-7 c = rw (eqb-no _ 6 (c .before .before .before .before .before .if1 .left), eqb-no _ 7 (c .before .before .before .before .if3 .left), ← c .before .before .before .is-digit .ensures, c .before .before .if5 .left, c .before .if7 .taken) (c .point-step .ensures)
+returns-7 c =
+    let p2 = c .before .before in
+    let p3 = p2 .before in
+    let p4 = p3 .before in
+    let p5 = p4 .before in
+    rw (eqb-no _ 6 (p5 .if1 .left), eqb-no _ 7 (p4 .if3 .left), ← p3 .is-digit .ensures, p2 .if5 .left, c .before .if7 .taken)
+    (c .point-step .ensures)
 
 first-step-requires : tie.Need-first-step-requires
 first-step-requires c κs = search needs
 
 returns-8 : tie.Need-returns-8
 unfolding step
-returns-8 c = rw (eqb-no _ 6 (c .before .before .before .before .before .if1 .left), eqb-no _ 7 (c .before .before .before .before .if3 .left), ← c .before .before .before .is-digit .ensures, c .before .before .if5 .left, eqb-no _ 0x2e (c .before .if7 .left)) (c .first-step .ensures)
+returns-8 c =
+    let p2 = c .before .before in
+    let p3 = p2 .before in
+    let p4 = p3 .before in
+    let p5 = p4 .before in
+    rw (eqb-no _ 6 (p5 .if1 .left), eqb-no _ 7 (p4 .if3 .left), ← p3 .is-digit .ensures, p2 .if5 .left, eqb-no _ 0x2e (c .before .if7 .left))
+    (c .first-step .ensures)
 
 pub step-spec : {M : Type 1} → statement M
 step-spec =

@@ -23,7 +23,10 @@ abbrev μ-loop : tie.MeasureT-loop
 μ-loop text n item row₀ notes₀ tally₀ at₀ row notes tally at = length text - at
 
 loop-holds : tie.Need-loop-holds Inv-loop μ-loop
-loop-holds c = going-first (now (c .before .before .before .args .text)) (c .before .before .before .args .n) (c .before .before .before .args .item) (c .before .before .before .args .start) (now (c .before .before .before .args .row)) (now (c .before .before .before .args .notes)) (c .before .before .before .pre .0) (c .before .before .before .pre .1)
+loop-holds c =
+    let p3 = c .before .before .before in
+    going-first (now (p3 .args .text)) (p3 .args .n) (p3 .args .item) (p3 .args .start) (now (p3 .args .row)) (now (p3 .args .notes)) (p3 .pre .0)
+    (p3 .pre .1)
 
 value-at-requires : tie.Need-value-at-requires Inv-loop μ-loop
 value-at-requires c κs = c .loop .inv .inside
@@ -35,39 +38,87 @@ weigh-requires : tie.Need-weigh-requires Inv-loop μ-loop
 weigh-requires c κs = stands (c .before .before .before .before .loop .inv) (sym (c .before .found .given .1) ∙ c .before .before .before .value-at .ensures) .0
 
 take-value-requires : tie.Need-take-value-requires Inv-loop μ-loop
-take-value-requires c κs = let s = stands (c .before .before .before .before .before .before .before .loop .inv) (sym (c .before .before .before .before .found .given .1) ∙ c .before .before .before .before .before .before .value-at .ensures) .0 in
-    (rooms (c .before .before .before .before .before .before .before .loop .inv) (c .before .before .before .before .before .before .before .before .before .before .before .pre .1) s, subst Small (sym (c .before .before .weigh .ensures)) (small-weighed (now (c .before .before .before .before .before .before .before .before .before .before .before .args .text)) (c .before .before .before .before .before .before .before .before .before .before .before .args .item) _ s))
+take-value-requires c κs =
+    let p2 = c .before .before in
+    let p4 = p2 .before .before in
+    let p6 = p4 .before .before in
+    let p7 = p6 .before in
+    let p11 = p7 .before .before .before .before in
+    let s = stands (p7 .loop .inv) (sym (p4 .found .given .1) ∙ p6 .value-at .ensures) .0 in
+    (rooms (p7 .loop .inv) (p11 .pre .1) s, subst Small (sym (p2 .weigh .ensures)) (small-weighed (now (p11 .args .text)) (p11 .args .item) _ s))
 
 loop-less : tie.Need-loop-less Inv-loop μ-loop
-loop-less c = let s = stands (c .before .before .before .before .before .before .before .before .before .before .before .before .loop .inv) (sym (c .before .before .before .before .before .before .before .before .before .found .given .1) ∙ c .before .before .before .before .before .before .before .before .before .before .before .value-at .ensures) in omega (arith, s .1, s .2)
+loop-less c =
+    let p9 = c .before .before .before .before .before .before .before .before .before in
+    let p11 = p9 .before .before in
+    let p12 = p11 .before in
+    let s = stands (p12 .loop .inv) (sym (p9 .found .given .1) ∙ p11 .value-at .ensures) in
+    omega (arith, s .1, s .2)
 
 loop-again : tie.Need-loop-again Inv-loop μ-loop
-loop-again c = going-more (c .before .before .before .before .before .before .before .before .before .before .before .before .loop .inv) (omega (arith, c .before .before .before .before .before .before .before .before .before .before .before .before .loop .inv .long, c .before .before .before .before .before .before .before .before .before .before .before .before .before .before .before .before .pre .1 .long)) (c .before .before .before .before .take-value .kept .1 .1 .1 .0) (c .before .before .before .before .take-value .kept .1 .1 .1 .1 .0) (same-weight (sym (c .before .before .before .before .before .before .before .weigh .ensures)) (c .before .before .before .before .take-value .ensures)) (sym (c .before .before .before .before .before .before .before .before .before .found .given .1) ∙ c .before .before .before .before .before .before .before .before .before .before .before .value-at .ensures)
+loop-again c =
+    let p4 = c .before .before .before .before in
+    let p7 = p4 .before .before .before in
+    let p9 = p7 .before .before in
+    let p11 = p9 .before .before in
+    let p12 = p11 .before in
+    let p16 = p12 .before .before .before .before in
+    going-more (p12 .loop .inv) (omega (arith, p12 .loop .inv .long, p16 .pre .1 .long)) (p4 .take-value .kept .1 .1 .1 .0)
+    (p4 .take-value .kept .1 .1 .1 .1 .0) (same-weight (sym (p7 .weigh .ensures)) (p4 .take-value .ensures)) (sym (p9 .found .given .1) ∙
+    p11 .value-at .ensures)
 
 enum-known-found-2 : tie.Need-enum-known-found-2 Inv-loop μ-loop
 enum-known-found-2 c = search needs
 
 weigh-requires-2 : tie.Need-weigh-requires-2 Inv-loop μ-loop
-weigh-requires-2 c κs = stands-ended (c .before .before .before .before .loop .inv) (sym (c .before .found2 .given .1) ∙ c .before .before .before .value-at .ensures) .0
+weigh-requires-2 c κs =
+    let p3 = c .before .before .before in
+    let p4 = p3 .before in
+    stands-ended (p4 .loop .inv) (sym (c .before .found2 .given .1) ∙ p3 .value-at .ensures) .0
 
 take-value-requires-2 : tie.Need-take-value-requires-2 Inv-loop μ-loop
-take-value-requires-2 c κs = let s = stands-ended (c .before .before .before .before .before .before .before .loop .inv) (sym (c .before .before .before .before .found2 .given .1) ∙ c .before .before .before .before .before .before .value-at .ensures) .0 in
-    (rooms (c .before .before .before .before .before .before .before .loop .inv) (c .before .before .before .before .before .before .before .before .before .before .before .pre .1) s, subst Small (sym (c .before .before .weigh2 .ensures)) (small-weighed (now (c .before .before .before .before .before .before .before .before .before .before .before .args .text)) (c .before .before .before .before .before .before .before .before .before .before .before .args .item) _ s))
+take-value-requires-2 c κs =
+    let p2 = c .before .before in
+    let p4 = p2 .before .before in
+    let p6 = p4 .before .before in
+    let p7 = p6 .before in
+    let p11 = p7 .before .before .before .before in
+    let s = stands-ended (p7 .loop .inv) (sym (p4 .found2 .given .1) ∙ p6 .value-at .ensures) .0 in
+    (rooms (p7 .loop .inv) (p11 .pre .1) s, subst Small (sym (p2 .weigh2 .ensures)) (small-weighed (now (p11 .args .text)) (p11 .args .item) _ s))
 
 same-length : tie.Need-same-length Inv-loop μ-loop
-same-length c = c .before .before .before .before .take-value2 .kept .1 .1 .1 .0 ∙ c .before .before .before .before .before .before .before .before .before .before .before .before .loop .inv .wide ∙ sym (ap length (c .before .before .before .before .before .before .before .before .before .before .before .before .before .before .before .before .pre .1 .zeros))
+same-length c =
+    let p4 = c .before .before .before .before in
+    let p12 = p4 .before .before .before .before .before .before .before .before in
+    let p16 = p12 .before .before .before .before in
+    p4 .take-value2 .kept .1 .1 .1 .0 ∙ p12 .loop .inv .wide ∙ sym (ap length (p16 .pre .1 .zeros))
 
 same-length-2 : tie.Need-same-length-2 Inv-loop μ-loop
-same-length-2 c = c .before .before .before .before .take-value2 .kept .1 .1 .1 .1 .0 ∙ c .before .before .before .before .before .before .before .before .before .before .before .before .loop .inv .long
+same-length-2 c =
+    let p4 = c .before .before .before .before in
+    let p12 = p4 .before .before .before .before .before .before .before .before in
+    p4 .take-value2 .kept .1 .1 .1 .1 .0 ∙ p12 .loop .inv .long
 
 returns : tie.Need-returns Inv-loop μ-loop
-returns c = going-ended (c .before .before .before .before .before .before .before .before .before .before .before .before .loop .inv) (omega (arith, c .before .before .before .before .before .before .before .before .before .before .before .before .loop .inv .long, c .before .before .before .before .before .before .before .before .before .before .before .before .before .before .before .before .pre .1 .long)) (c .before .before .before .before .take-value2 .kept .1 .1 .1 .0) (c .before .before .before .before .take-value2 .kept .1 .1 .1 .1 .0) (same-weight (sym (c .before .before .before .before .before .before .before .weigh2 .ensures)) (c .before .before .before .before .take-value2 .ensures)) (sym (c .before .before .before .before .before .before .before .before .before .found2 .given .1) ∙ c .before .before .before .before .before .before .before .before .before .before .before .value-at .ensures)
+returns c =
+    let p4 = c .before .before .before .before in
+    let p7 = p4 .before .before .before in
+    let p9 = p7 .before .before in
+    let p11 = p9 .before .before in
+    let p12 = p11 .before in
+    let p16 = p12 .before .before .before .before in
+    going-ended (p12 .loop .inv) (omega (arith, p12 .loop .inv .long, p16 .pre .1 .long)) (p4 .take-value2 .kept .1 .1 .1 .0)
+    (p4 .take-value2 .kept .1 .1 .1 .1 .0) (same-weight (sym (p7 .weigh2 .ensures)) (p4 .take-value2 .ensures)) (sym (p9 .found2 .given .1) ∙
+    p11 .value-at .ensures)
 
 enum-known-k : tie.Need-enum-known-k Inv-loop μ-loop
 enum-known-k c = search needs
 
 same-length-3 : tie.Need-same-length-3 Inv-loop μ-loop
-same-length-3 c = c .before .before .before .before .loop .inv .wide ∙ sym (ap length (c .before .before .before .before .before .before .before .before .pre .1 .zeros))
+same-length-3 c =
+    let p4 = c .before .before .before .before in
+    let p8 = p4 .before .before .before .before in
+    p4 .loop .inv .wide ∙ sym (ap length (p8 .pre .1 .zeros))
 
 same-length-4 : tie.Need-same-length-4 Inv-loop μ-loop
 same-length-4 c = c .before .before .before .before .loop .inv .long

@@ -14,25 +14,119 @@ passed-requires : tie.Need-passed-requires
 passed-requires c κs = search needs
 
 returns : tie.Need-returns
-returns c = single-over (c .before .before .before .before .before .before .before .args .low) (c .before .before .before .before .before .before .before .args .found) (c .before .before .before .before .before .before .before .args .tally) (now (c .before .before .before .before .before .before .before .args .row)) (now (c .before .before .before .before .before .before .before .args .notes)) _ _ _ (c .passed .ensures) (c .before .if1 .taken)
+returns c =
+    let p7 = c .before .before .before .before .before .before .before in
+    single-over (p7 .args .low) (p7 .args .found) (p7 .args .tally) (now (p7 .args .row)) (now (p7 .args .notes)) _ _ _ (c .passed .ensures)
+    (c .before .if1 .taken)
 
 put-literal-requires : tie.Need-put-literal-requires
-put-literal-requires c κs = (omega (arith, has-room (c .before .before .before .before .before .before .before .args .tally) 1 64 refl (c .before .if1 .left) .values, has-room (c .before .before .before .before .before .before .before .args .tally) 1 64 refl (c .before .if1 .left) .literals, c .before .before .before .before .before .before .before .pre .0 .bytes (has-room (c .before .before .before .before .before .before .before .args .tally) 1 64 refl (c .before .if1 .left) .«open»), c .before .before .before .before .before .before .before .pre .0 .wide, c .before .before .before .before .before .before .before .pre .0 .long, c .before .before .before .before .before .before .before .pre .1), (omega (arith, has-room (c .before .before .before .before .before .before .before .args .tally) 1 64 refl (c .before .if1 .left) .values, has-room (c .before .before .before .before .before .before .before .args .tally) 1 64 refl (c .before .if1 .left) .literals, c .before .before .before .before .before .before .before .pre .0 .bytes (has-room (c .before .before .before .before .before .before .before .args .tally) 1 64 refl (c .before .if1 .left) .«open»), c .before .before .before .before .before .before .before .pre .0 .wide, c .before .before .before .before .before .before .before .pre .0 .long, c .before .before .before .before .before .before .before .pre .1), (c .before .before .before .before .before .before .before .pre .0 .mid .0, c .before .before .before .before .before .before .before .pre .0 .mid .1)))
+put-literal-requires c κs =
+    let p7 = c .before .before .before .before .before .before .before in (
+      omega (
+        arith,
+        has-room (p7 .args .tally) 1 64 refl (c .before .if1 .left) .values,
+        has-room (p7 .args .tally) 1 64 refl
+            (c .before .if1 .left) .literals,
+        p7 .pre .0 .bytes (has-room (p7 .args .tally) 1 64 refl (c .before .if1 .left) .«open»),
+        p7 .pre .0 .wide,
+        p7 .pre .0 .long,
+        p7 .pre .1,
+      ),
+      (
+        omega (
+          arith,
+          has-room (p7 .args .tally) 1 64 refl (c .before .if1 .left) .values,
+          has-room (p7 .args .tally) 1 64
+              refl (c .before .if1 .left) .literals,
+          p7 .pre .0 .bytes (has-room (p7 .args .tally) 1 64 refl (c .before .if1 .left) .«open»),
+          p7 .pre .0 .wide,
+          p7 .pre .0 .long,
+          p7 .pre .1,
+        ),
+        (p7 .pre .0 .mid .0, p7 .pre .0 .mid .1),
+      ),
+    )
 
 put-pair-requires : tie.Need-put-pair-requires
-put-pair-requires c κs = (omega (arith, has-room (c .before .before .before .before .before .before .before .before .before .before .before .args .tally) 1 64 refl (c .before .before .before .before .before .if1 .left) .values, has-room (c .before .before .before .before .before .before .before .before .before .before .before .args .tally) 1 64 refl (c .before .before .before .before .before .if1 .left) .literals, c .before .before .before .before .before .before .before .before .before .before .before .pre .0 .bytes (has-room (c .before .before .before .before .before .before .before .before .before .before .before .args .tally) 1 64 refl (c .before .before .before .before .before .if1 .left) .«open»), c .before .before .before .before .before .before .before .before .before .before .before .pre .0 .wide, c .before .before .before .before .before .before .before .before .before .before .before .pre .0 .long, c .before .before .before .before .before .before .before .before .before .before .before .pre .1), (omega (arith, has-room (c .before .before .before .before .before .before .before .before .before .before .before .args .tally) 1 64 refl (c .before .before .before .before .before .if1 .left) .values, has-room (c .before .before .before .before .before .before .before .before .before .before .before .args .tally) 1 64 refl (c .before .before .before .before .before .if1 .left) .literals, c .before .before .before .before .before .before .before .before .before .before .before .pre .0 .bytes (has-room (c .before .before .before .before .before .before .before .before .before .before .before .args .tally) 1 64 refl (c .before .before .before .before .before .if1 .left) .«open»), c .before .before .before .before .before .before .before .before .before .before .before .pre .0 .wide, c .before .before .before .before .before .before .before .before .before .before .before .pre .0 .long, c .before .before .before .before .before .before .before .before .before .before .before .pre .1), omega (arith, has-room (c .before .before .before .before .before .before .before .before .before .before .before .args .tally) 1 64 refl (c .before .before .before .before .before .if1 .left) .values, has-room (c .before .before .before .before .before .before .before .before .before .before .before .args .tally) 1 64 refl (c .before .before .before .before .before .if1 .left) .literals, c .before .before .before .before .before .before .before .before .before .before .before .pre .0 .bytes (has-room (c .before .before .before .before .before .before .before .before .before .before .before .args .tally) 1 64 refl (c .before .before .before .before .before .if1 .left) .«open»), c .before .before .before .before .before .before .before .before .before .before .before .pre .0 .wide, c .before .before .before .before .before .before .before .before .before .before .before .pre .0 .long, c .before .before .before .before .before .before .before .before .before .before .before .pre .1)))
+put-pair-requires c κs =
+    let p5 = c .before .before .before .before .before in
+    let p11 = p5 .before .before .before .before .before .before in (
+      omega (
+        arith,
+        has-room (p11 .args .tally) 1 64 refl (p5 .if1 .left) .values,
+        has-room (p11 .args .tally) 1 64 refl (p5 .if1 .left) .literals,
+        p11 .pre .0 .bytes (has-room (p11 .args .tally) 1 64 refl (p5 .if1 .left) .«open»),
+        p11 .pre .0 .wide,
+        p11 .pre .0 .long,
+        p11 .pre .1,
+      ),
+      (
+        omega (
+          arith,
+          has-room (p11 .args .tally) 1 64 refl (p5 .if1 .left) .values,
+          has-room (p11 .args .tally) 1 64 refl (p5 .if1 .left) .literals,
+          p11 .pre .0 .bytes (has-room (p11 .args .tally) 1 64 refl (p5 .if1 .left) .«open»),
+          p11 .pre .0 .wide,
+          p11 .pre .0 .long,
+          p11 .pre .1,
+        ),
+        omega (
+          arith,
+          has-room (p11 .args .tally) 1 64 refl (p5 .if1 .left) .values,
+          has-room (p11 .args .tally) 1 64 refl (p5 .if1 .left) .literals,
+          p11 .pre .0 .bytes (has-room (p11 .args .tally) 1 64 refl (p5 .if1 .left) .«open»),
+          p11 .pre .0 .wide,
+          p11 .pre .0 .long,
+          p11 .pre .1,
+        ),
+      ),
+    )
 
 add-t16 : tie.Need-add-t16
-add-t16 c = omega (arith, has-room (c .before .before .before .before .before .before .before .before .before .before .before .before .before .before .before .args .tally) 1 64 refl (c .before .before .before .before .before .before .before .before .before .if1 .left) .values, has-room (c .before .before .before .before .before .before .before .before .before .before .before .before .before .before .before .args .tally) 1 64 refl (c .before .before .before .before .before .before .before .before .before .if1 .left) .literals, c .before .before .before .before .before .before .before .before .before .before .before .before .before .before .before .pre .0 .bytes (has-room (c .before .before .before .before .before .before .before .before .before .before .before .before .before .before .before .args .tally) 1 64 refl (c .before .before .before .before .before .before .before .before .before .if1 .left) .«open»), c .before .before .before .before .before .before .before .before .before .before .before .before .before .before .before .pre .0 .wide, c .before .before .before .before .before .before .before .before .before .before .before .before .before .before .before .pre .0 .long, c .before .before .before .before .before .before .before .before .before .before .before .before .before .before .before .pre .1)
+add-t16 c =
+    let p9 = c .before .before .before .before .before .before .before .before .before in
+    let p15 = p9 .before .before .before .before .before .before in
+    omega (
+      arith,
+      has-room (p15 .args .tally) 1 64 refl (p9 .if1 .left) .values,
+      has-room (p15 .args .tally) 1 64 refl (p9 .if1 .left) .literals,
+      p15 .pre .0 .bytes (has-room (p15 .args .tally) 1 64 refl (p9 .if1 .left) .«open»),
+      p15 .pre .0 .wide,
+      p15 .pre .0 .long,
+      p15 .pre .1,
+    )
 
 add-t17 : tie.Need-add-t17
-add-t17 c = omega (arith, has-room (c .before .before .before .before .before .before .before .before .before .before .before .before .before .before .before .args .tally) 1 64 refl (c .before .before .before .before .before .before .before .before .before .if1 .left) .values, has-room (c .before .before .before .before .before .before .before .before .before .before .before .before .before .before .before .args .tally) 1 64 refl (c .before .before .before .before .before .before .before .before .before .if1 .left) .literals, c .before .before .before .before .before .before .before .before .before .before .before .before .before .before .before .pre .0 .bytes (has-room (c .before .before .before .before .before .before .before .before .before .before .before .before .before .before .before .args .tally) 1 64 refl (c .before .before .before .before .before .before .before .before .before .if1 .left) .«open»), c .before .before .before .before .before .before .before .before .before .before .before .before .before .before .before .pre .0 .wide, c .before .before .before .before .before .before .before .before .before .before .before .before .before .before .before .pre .0 .long, c .before .before .before .before .before .before .before .before .before .before .before .before .before .before .before .pre .1)
+add-t17 c =
+    let p9 = c .before .before .before .before .before .before .before .before .before in
+    let p15 = p9 .before .before .before .before .before .before in
+    omega (
+      arith,
+      has-room (p15 .args .tally) 1 64 refl (p9 .if1 .left) .values,
+      has-room (p15 .args .tally) 1 64 refl (p9 .if1 .left) .literals,
+      p15 .pre .0 .bytes (has-room (p15 .args .tally) 1 64 refl (p9 .if1 .left) .«open»),
+      p15 .pre .0 .wide,
+      p15 .pre .0 .long,
+      p15 .pre .1,
+    )
 
 wide-requires : tie.Need-wide-requires
 wide-requires c κs = search needs
 
 add-t19 : tie.Need-add-t19
-add-t19 c = omega (arith, has-room (c .before .before .before .before .before .before .before .before .before .before .before .before .before .before .before .before .before .args .tally) 1 64 refl (c .before .before .before .before .before .before .before .before .before .before .before .if1 .left) .values, has-room (c .before .before .before .before .before .before .before .before .before .before .before .before .before .before .before .before .before .args .tally) 1 64 refl (c .before .before .before .before .before .before .before .before .before .before .before .if1 .left) .literals, c .before .before .before .before .before .before .before .before .before .before .before .before .before .before .before .before .before .pre .0 .bytes (has-room (c .before .before .before .before .before .before .before .before .before .before .before .before .before .before .before .before .before .args .tally) 1 64 refl (c .before .before .before .before .before .before .before .before .before .before .before .if1 .left) .«open»), c .before .before .before .before .before .before .before .before .before .before .before .before .before .before .before .before .before .pre .0 .wide, c .before .before .before .before .before .before .before .before .before .before .before .before .before .before .before .before .before .pre .0 .long, c .before .before .before .before .before .before .before .before .before .before .before .before .before .before .before .before .before .pre .1, c .before .wide .ensures)
+add-t19 c =
+    let p11 = c .before .before .before .before .before .before .before .before .before .before .before in
+    let p17 = p11 .before .before .before .before .before .before in
+    omega (
+      arith,
+      has-room (p17 .args .tally) 1 64 refl (p11 .if1 .left) .values,
+      has-room (p17 .args .tally) 1 64 refl (p11 .if1 .left) .literals,
+      p17 .pre .0 .bytes (has-room (p17 .args .tally) 1 64 refl (p11 .if1 .left) .«open»),
+      p17 .pre .0 .wide,
+      p17 .pre .0 .long,
+      p17 .pre .1,
+      c .before .wide .ensures,
+    )
 
 same-length : tie.Need-same-length
 same-length c = search needs
@@ -41,7 +135,13 @@ same-length-2 : tie.Need-same-length-2
 same-length-2 c = search needs
 
 returns-2 : tie.Need-returns-2
-returns-2 c = single-taken (c .before .before .before .before .before .before .before .before .before .before .before .before .before .before .before .before .before .args .low) (c .before .before .before .before .before .before .before .before .before .before .before .before .before .before .before .before .before .args .found) (c .before .before .before .before .before .before .before .before .before .before .before .before .before .before .before .before .before .args .tally) (now (c .before .before .before .before .before .before .before .before .before .before .before .before .before .before .before .before .before .args .row)) (now (c .before .before .before .before .before .before .before .before .before .before .before .before .before .before .before .before .before .args .notes)) _ (c .before .wide .ensures) (c .before .before .before .before .before .before .before .before .before .before .before .if1 .left) (c .before .before .before .before .before .put-pair .ensures) (c .before .before .before .before .before .before .before .before .before .put-literal .ensures)
+returns-2 c =
+    let p5 = c .before .before .before .before .before in
+    let p9 = p5 .before .before .before .before in
+    let p11 = p9 .before .before in
+    let p17 = p11 .before .before .before .before .before .before in
+    single-taken (p17 .args .low) (p17 .args .found) (p17 .args .tally) (now (p17 .args .row)) (now (p17 .args .notes)) _ (c .before .wide .ensures)
+    (p11 .if1 .left) (p5 .put-pair .ensures) (p9 .put-literal .ensures)
 
 pub take-single-spec : {M : Type 1} → statement M
 take-single-spec =

@@ -25,16 +25,24 @@ enum-known-weighed : tie.Need-enum-known-weighed
 enum-known-weighed c = search needs
 
 take-single-requires : tie.Need-take-single-requires
-take-single-requires c κs = (c .before .before .before .before .before .before .before .pre .0, subst Small (c .before .before .before .weighed .given .1) (c .before .before .before .before .before .before .before .pre .1))
+take-single-requires c κs =
+    let p3 = c .before .before .before in
+    let p7 = p3 .before .before .before .before in
+    (p7 .pre .0, subst Small (p3 .weighed .given .1) (p7 .pre .1))
 
 enum-known-weighed-2 : tie.Need-enum-known-weighed-2
 enum-known-weighed-2 c = search needs
 
 take-range-requires : tie.Need-take-range-requires
-take-range-requires c κs = (c .before .before .before .before .before .before .before .pre .0, subst Small (c .before .before .before .weighed2 .given .1) (c .before .before .before .before .before .before .before .pre .1))
+take-range-requires c κs =
+    let p3 = c .before .before .before in
+    let p7 = p3 .before .before .before .before in
+    (p7 .pre .0, subst Small (p3 .weighed2 .given .1) (p7 .pre .1))
 
 returns : tie.Need-returns
-returns c = same-weight (c .before .enum-told .given .1) (barred-over (c .before .before .before .before .before .args .found) (c .before .before .before .before .before .args .tally) _ _ _ _ (c .passed .result) (c .passed .ensures))
+returns c =
+    let p5 = c .before .before .before .before .before in
+    same-weight (c .before .enum-told .given .1) (barred-over (p5 .args .found) (p5 .args .tally) _ _ _ _ (c .passed .result) (c .passed .ensures))
 
 same-length : tie.Need-same-length
 same-length c = search needs
@@ -43,7 +51,10 @@ same-length-2 : tie.Need-same-length-2
 same-length-2 c = search needs
 
 returns-2 : tie.Need-returns-2
-returns-2 c = same-weight (c .before .before .before .before .before .before .before .before .weighed .given .1) (c .before .before .before .before .take-single .ensures)
+returns-2 c =
+    let p4 = c .before .before .before .before in
+    let p8 = p4 .before .before .before .before in
+    same-weight (p8 .weighed .given .1) (p4 .take-single .ensures)
 
 same-length-3 : tie.Need-same-length-3
 same-length-3 c = search needs
@@ -52,7 +63,10 @@ same-length-4 : tie.Need-same-length-4
 same-length-4 c = search needs
 
 returns-3 : tie.Need-returns-3
-returns-3 c = same-weight (c .before .before .before .before .before .before .before .before .weighed2 .given .1) (c .before .before .before .before .take-range .ensures)
+returns-3 c =
+    let p4 = c .before .before .before .before in
+    let p8 = p4 .before .before .before .before in
+    same-weight (p8 .weighed2 .given .1) (p4 .take-range .ensures)
 
 pub take-value-spec : {M : Type 1} → statement M
 take-value-spec =

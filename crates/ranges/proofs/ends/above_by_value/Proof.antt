@@ -22,11 +22,15 @@ relation-holds-requires : tie.Need-relation-holds-requires
 relation-holds-requires c κs = search needs
 
 returns : tie.Need-returns
-returns c = let a = c .before .before .before .before .before .before .args in
+returns c =
+    let p2 = c .before .before in
+    let p3 = p2 .before in
+    let p6 = p3 .before .before .before in
+    let a = p6 .args in
     let s = side false (a .low) (now (a .left)) in
     let o = side false (a .high) (now (a .right)) in
-    let order = rw (c .before .before .before .read-number .ensures, c .before .before .read-number2 .ensures) at (c .before .compare-scaled .ensures) in
-    c .relation-holds .ensures ∙ ap isGreater (order ∙ sym (by-value s o (c .before .before .before .before .before .before .pre .0 .kind) (c .before .before .before .before .before .before .pre .1 .kind)))
+    let order = rw (p3 .read-number .ensures, p2 .read-number2 .ensures) at (c .before .compare-scaled .ensures) in
+    c .relation-holds .ensures ∙ ap isGreater (order ∙ sym (by-value s o (p6 .pre .0 .kind) (p6 .pre .1 .kind)))
 
 pub above-by-value-spec : {M : Type 1} → statement M
 above-by-value-spec =

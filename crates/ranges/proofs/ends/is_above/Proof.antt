@@ -16,14 +16,21 @@ is-numeric-requires-2 : tie.Need-is-numeric-requires-2
 is-numeric-requires-2 c κs = search needs
 
 above-by-value-requires : tie.Need-above-by-value-requires
-above-by-value-requires c κs = let k = and-both (isNumeric (c .before .before .before .before .before .args .low)) (isNumeric (c .before .before .before .before .before .args .high)) (rw (c .before .before .is-numeric .ensures, c .before .is-numeric2 .ensures) at (c .if1 .taken)) in
-    (numeral (c .before .before .before .before .before .pre .0) (k .0), numeral (c .before .before .before .before .before .pre .1) (k .1))
+above-by-value-requires c κs =
+    let p2 = c .before .before in
+    let p5 = p2 .before .before .before in
+    let k = and-both (isNumeric (p5 .args .low)) (isNumeric (p5 .args .high)) (rw (p2 .is-numeric .ensures, c .before .is-numeric2 .ensures) at
+    (c .if1 .taken)) in
+    (numeral (p5 .pre .0) (k .0), numeral (p5 .pre .1) (k .1))
 
 returns : tie.Need-returns
 returns c = search needs
 
 compare-sides-requires : tie.Need-compare-sides-requires
-compare-sides-requires c κs = (c .before .before .before .before .before .pre, rw (c .before .before .is-numeric .ensures, c .before .is-numeric2 .ensures) at (c .if1 .left))
+compare-sides-requires c κs =
+    let p2 = c .before .before in
+    let p5 = p2 .before .before .before in
+    (p5 .pre, rw (p2 .is-numeric .ensures, c .before .is-numeric2 .ensures) at (c .if1 .left))
 
 relation-holds-requires : tie.Need-relation-holds-requires
 relation-holds-requires c κs = search needs

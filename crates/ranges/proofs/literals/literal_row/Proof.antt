@@ -18,24 +18,41 @@ enum-known-n : tie.Need-enum-known-n
 enum-known-n c = search needs
 
 text-row-requires : tie.Need-text-row-requires
-text-row-requires c κs = held-small (now (c .before .before .before .before .before .before .before .args .word)) _ (sym (c .before .before .before .read-text .ensures) ∙ c .before .n .given .1)
+text-row-requires c κs =
+    let p3 = c .before .before .before in
+    let p7 = p3 .before .before .before .before in
+    held-small (now (p7 .args .word)) _ (sym (p3 .read-text .ensures) ∙ c .before .n .given .1)
 
 enum-told : tie.Need-enum-told
 enum-told c = search needs
 
 returns : tie.Need-returns
-returns c = let e = sym (c .before .before .before .before .read-text .ensures) ∙ c .before .before .n .given .1 in
-    ap Is (c .text-row .ensures) ∙ sym (ap textRow e) ∙ in-quotes (now (c .before .before .before .before .before .before .before .before .args .word)) (c .before .before .before .before .before .before .before .before .pre) (sym (c .before .before .before .before .before .before .byte-at .ensures) ∙ c .before .before .before .before .before .if1 .taken)
+returns c =
+    let p2 = c .before .before in
+    let p4 = p2 .before .before in
+    let p5 = p4 .before in
+    let p6 = p5 .before in
+    let p8 = p6 .before .before in
+    let e = sym (p4 .read-text .ensures) ∙ p2 .n .given .1 in
+    ap Is (c .text-row .ensures) ∙ sym (ap textRow e) ∙ in-quotes (now (p8 .args .word)) (p8 .pre) (sym (p6 .byte-at .ensures) ∙ p5 .if1 .taken)
 
 returns-2 : tie.Need-returns-2
-returns-2 c = let e = sym (c .before .before .read-text .ensures) ∙ c .enum-told .given .1 in
-    sym (ap textRow e) ∙ in-quotes (now (c .before .before .before .before .before .before .args .word)) (c .before .before .before .before .before .before .pre) (sym (c .before .before .before .before .byte-at .ensures) ∙ c .before .before .before .if1 .taken)
+returns-2 c =
+    let p2 = c .before .before in
+    let p3 = p2 .before in
+    let p4 = p3 .before in
+    let p6 = p4 .before .before in
+    let e = sym (p2 .read-text .ensures) ∙ c .enum-told .given .1 in
+    sym (ap textRow e) ∙ in-quotes (now (p6 .args .word)) (p6 .pre) (sym (p4 .byte-at .ensures) ∙ p3 .if1 .taken)
 
 read-number-requires : tie.Need-read-number-requires
 read-number-requires c κs = search needs
 
 returns-3 : tie.Need-returns-3
-returns-3 c = c .read-number .ensures ∙ no-quotes (now (c .before .before .before .before .args .word)) (c .before .before .before .before .pre) (λ e. c .before .if1 .left (c .before .before .byte-at .ensures ∙ e))
+returns-3 c =
+    let p2 = c .before .before in
+    let p4 = p2 .before .before in
+    c .read-number .ensures ∙ no-quotes (now (p4 .args .word)) (p4 .pre) (λ e. c .before .if1 .left (p2 .byte-at .ensures ∙ e))
 
 pub literal-row-spec : {M : Type 1} → statement M
 literal-row-spec =
