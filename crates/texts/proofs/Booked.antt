@@ -16,12 +16,9 @@ use Rattle.spelling.specs.Names.{numbers}
 use Rattle.spelling.proofs.Describing.{length-map, few-bytes}
 use Rattle.lexer.proofs.Writing.{bytes-over, rest-length}
 use Rattle.literal_words.specs.Found.{writtenOver}
-use Rattle.name_entries.specs.Named.{pairNumbers}
-use Rattle.describer.specs.Naming.{rowNumbers as nameRowNumbers, nameNumbers}
-use Rattle.layouts.specs.Layouts.{rowNumbers}
-use Rattle.descriptions.specs.declared.Described.{Described}
-use Rattle.descriptions.specs.declared.Described.the-variants.{Counts, Faulty, Room}
-use Rattle.descriptions.specs.Calls.{rowsOf, placesOf, namesOf, namePlacesOf, literalsOf, DescribedBy}
+use Rattle.texts.specs.declared.Described.{Described}
+use Rattle.texts.specs.declared.Described.the-variants.{Counts, Faulty, Room}
+use Rattle.texts.specs.Guess.{rowNumbers, rowsOf, placesOf, pairNumbers, nameRowNumbers, nameNumbers, namesOf, namePlacesOf, literalsOf, DescribedBy}
 use Rattle.texts.specs.declared.Named.the-variants.{Given, Faulty as Unnamed}
 use Rattle.texts.specs.Calls.{NamesFound, NamedBy}
 use Rattle.texts.proofs.Describing.{numbers-length, front, few-items, few-conditions, few-rows, book-given}

@@ -1,4 +1,4 @@
-pub mod Describing
-pub mod Booked
 pub mod Giving
 pub mod Refusing
+pub mod Describing
+pub mod Booked

@@ -40,3 +40,9 @@ pub enum Named {
     Given(Book),
     Faulty(usize),
 }
+
+pub enum Described {
+    Counts(usize, usize, usize, usize, usize, usize),
+    Faulty(usize),
+    Room(usize),
+}

