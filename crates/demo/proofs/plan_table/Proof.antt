@@ -1,14 +1,14 @@
 -- The row is one of the plan's.
 use Prim.Native.Nat.{_-_, _≤_}
 use borrow.Author.Needs.{needs}
-use Rattle.demo.proofs.plan.show.Statement.{statement}
-use Rattle.demo.proofs.plan.show.Tie as tie
+use Rattle.demo.proofs.plan_table.Statement.{statement}
+use Rattle.demo.proofs.plan_table.Tie as tie
 
 abbrev Inv-loop : tie.InvT-loop
-Inv-loop plan rows k₀ k = (k ≤ rows)
+Inv-loop literals bytes plan rows k₀ k = (k ≤ rows)
 
 abbrev μ-loop : tie.MeasureT-loop
-μ-loop plan rows k₀ k = rows - k
+μ-loop literals bytes plan rows k₀ k = rows - k
 
 loop-holds : tie.Need-loop-holds Inv-loop μ-loop
 loop-holds c = search needs
@@ -31,8 +31,8 @@ loop-again c = search needs
 returns : tie.Need-returns Inv-loop μ-loop
 returns c = search needs
 
-pub show-spec : {M : Type 1} → statement M
-show-spec =
+pub plan-table-spec : {M : Type 1} → statement M
+plan-table-spec =
     tie.close
     (tie.spec
     Inv-loop
