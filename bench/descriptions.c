@@ -5,7 +5,8 @@
 #include <string.h>
 #include <time.h>
 
-uint32_t second_describe(const uint8_t *, size_t, uint32_t *, size_t, uint32_t *, size_t, oboecurlew_answer *);
+uint32_t second_describe(const uint8_t *, size_t, uint32_t *, size_t, uint32_t *, size_t, uint32_t *, size_t, uint32_t *, size_t, uint32_t *,
+                         size_t, uint8_t *, size_t, oboecurlew_answer *);
 
 enum { MOST = 4096, ROUNDS = 60 };
 
@@ -20,6 +21,7 @@ static struct text texts[] = {
     {"48 nested groups, then members"},
     {"short entries up to byte 4,096, refused"},
     {"a fault in the last entry"},
+    {"63 condition-names of one item"},
 };
 
 enum { TEXTS = sizeof texts / sizeof *texts };
@@ -55,19 +57,36 @@ static void make_texts(void)
     memcpy(texts[3].bytes, texts[0].bytes, texts[0].size);
     texts[3].size = texts[0].size;
     texts[3].bytes[texts[3].size - 3] = '?';
+    add(&texts[4], "77 DAYS PIC 9(3). ");
+    for (int i = 0; i < 63; i++) {
+        snprintf(entry, sizeof entry, "88 AFTER-DAY-%02d VALUE %d. ", i, i * 5 + 1);
+        add(&texts[4], entry);
+    }
 }
 
-static uint32_t rows[2][320], places[2][64];
+enum { ROWS = 320, PLACES = 64, NAMES = 1152 };
+
+/* What one side writes. */
+struct outputs {
+    uint32_t rows[ROWS], places[PLACES], names[NAMES], name_places[PLACES], literals[ROWS];
+    uint8_t bytes[MOST];
+};
+
+static struct outputs written[2];
 static oboecurlew_answer said[2];
 
 static uint32_t library(const struct text *t)
 {
-    return oboecurlew_describe((const uint8_t *)t->bytes, t->size, rows[0], 320, places[0], 64, &said[0]);
+    struct outputs *o = &written[0];
+    return oboecurlew_describe((const uint8_t *)t->bytes, t->size, o->rows, ROWS, o->places, PLACES, o->names, NAMES, o->name_places,
+                               PLACES, o->literals, ROWS, o->bytes, MOST, &said[0]);
 }
 
 static uint32_t second(const struct text *t)
 {
-    return second_describe((const uint8_t *)t->bytes, t->size, rows[1], 320, places[1], 64, &said[1]);
+    struct outputs *o = &written[1];
+    return second_describe((const uint8_t *)t->bytes, t->size, o->rows, ROWS, o->places, PLACES, o->names, NAMES, o->name_places, PLACES,
+                           o->literals, ROWS, o->bytes, MOST, &said[1]);
 }
 
 static double least(uint32_t (*side)(const struct text *), const struct text *t, int times)
@@ -93,8 +112,7 @@ int main(void)
     for (int i = 0; i < TEXTS; i++) {
         const struct text *t = &texts[i];
         uint32_t refusal = library(t);
-        if (second(t) != refusal || memcmp(&said[0], &said[1], sizeof *said) || memcmp(rows[0], rows[1], sizeof *rows)
-            || memcmp(places[0], places[1], sizeof *places)) {
+        if (second(t) != refusal || memcmp(&said[0], &said[1], sizeof *said) || memcmp(&written[0], &written[1], sizeof *written)) {
             printf("%s: the sides differ\n", t->name);
             return 1;
         }
@@ -102,7 +120,7 @@ int main(void)
         if (refusal)
             printf("refusal %u at %u\n", refusal, said[0].value);
         else
-            printf("%u rows\n", said[0].written[1]);
+            printf("%u rows, %u names\n", said[0].written[1], said[0].written[3]);
     }
     return 0;
 }

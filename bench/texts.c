@@ -4,7 +4,7 @@
 #include <string.h>
 #include <time.h>
 
-enum { DESCRIPTION = 4096, TEXT = 2048, TOKENS = 256, NUMBERS = 320, BYTES = 2304, ROUNDS = 60, TIMES = 200 };
+enum { DESCRIPTION = 4096, TEXT = 2048, TOKENS = 256, NUMBERS = 320, BYTES = 6144, ROUNDS = 60, TIMES = 200 };
 
 struct text {
     char bytes[DESCRIPTION + 1];

@@ -33,7 +33,7 @@ typedef struct {
     uint32_t value;      /* a refusal's place, counted from 0; else 1 or 0 for true or false (judge, run); else 0 */
     uint32_t byte;       /* refusals 13 and 17: the item's first wrong byte, as an offset in the record; else 0 */
     uint32_t judged;     /* judge, run: how many simple conditions were judged, one that stopped among them; else 0 */
-    uint32_t written[6]; /* a call with outputs: the count of numbers written to each, in order; else 0 */
+    uint32_t written[6]; /* a call with outputs: the count of numbers or bytes written to each, in order; else 0 */
 } oboecurlew_answer;
 
 /* Refusals, and the place that each gives. */
@@ -54,7 +54,7 @@ enum oboecurlew_refusal {
     OBOECURLEW_DATA = 13,         /* invalid numeric data reached: its simple condition; for run, its row; with the byte */
     OBOECURLEW_TEXT = 14,         /* no valid description: the first faulty byte, or the entry that passes a limit */
     OBOECURLEW_SPELLING = 15,     /* a faulty word of a condition text: its first byte */
-    OBOECURLEW_NAME = 16,         /* read: an unknown or doubled name, its first byte; print: an item without a name of its own, its token */
+    OBOECURLEW_NAME = 16,         /* read: an unknown or doubled name, its first byte; print: a token without a name of its own */
     OBOECURLEW_LETTERS = 17,      /* invalid alphabetic data reached: as 13 */
     OBOECURLEW_CONDITION_NAME = 18, /* name table length not a multiple of 18, or over 1,152: 0; else the first unsound row; just after 4 */
     OBOECURLEW_OVERLAP = 19,      /* two elementary items share a byte: the first row that overlaps an earlier one */
@@ -157,12 +157,14 @@ uint32_t oboecurlew_mend(const uint32_t *items, size_t item_numbers, uint8_t *re
                          size_t change_numbers, oboecurlew_answer *answer);
 
 /* Reads a record description, upper-case COBOL entries of at most 4,096 bytes, into item rows and, for each row, the place of
- * its name or FILLER in the text. 320 numbers and 64 places hold every description. Refusals 14, 10. */
+ * its name or FILLER in the text; and its level 88 entries into name rows, the place of each name in the text, and the rows and bytes of
+ * their literals. 320 numbers, 64 places, 1,152 numbers, 64 places, 320 numbers and 4,096 bytes hold every description. Refusals 14, 10. */
 uint32_t oboecurlew_describe(const uint8_t *text, size_t text_size, uint32_t *rows, size_t row_numbers, uint32_t *places,
-                             size_t place_count, oboecurlew_answer *answer);
+                             size_t place_count, uint32_t *names, size_t name_numbers, uint32_t *name_places, size_t name_place_count,
+                             uint32_t *literals, size_t literal_numbers, uint8_t *bytes, size_t byte_count, oboecurlew_answer *answer);
 
-/* A condition as printed, with the names of a description: its tokens, literal rows and literal bytes. 256 tokens, 320 numbers and 2,304
- * bytes hold what any text gives. */
+/* A condition as printed, with the names of a description: its tokens, literal rows and literal bytes. Rows and bytes begin with the
+ * description's own, those of its level 88 entries. 256 tokens, 320 numbers and 6,144 bytes hold what any text gives. */
 uint32_t oboecurlew_read(const uint8_t *description, size_t description_size, const uint8_t *text, size_t text_size,
                          uint32_t *tokens, size_t token_numbers, uint32_t *literals, size_t literal_numbers, uint8_t *bytes,
                          size_t byte_count, oboecurlew_answer *answer);

@@ -53,8 +53,10 @@
        01  LITERAL-NUMBERS.
            05  LITERAL-NUMBER       BINARY-LONG UNSIGNED OCCURS 320.
        01  LITERAL-BYTES            PIC X(4096).
-      *> The rule has no condition-names.
-       01  CONDITION-NAMES          BINARY-LONG UNSIGNED VALUE 0.
+       01  CONDITION-NAMES.
+           05  CONDITION-NUMBER     BINARY-LONG UNSIGNED OCCURS 1152.
+       01  CONDITION-PLACES.
+           05  CONDITION-PLACE      BINARY-LONG UNSIGNED OCCURS 64.
        01  TOKENS.
            05  TOKEN                BINARY-LONG UNSIGNED OCCURS 256.
        01  PLAN-NUMBERS.
@@ -66,6 +68,7 @@
            05  RULE-SIZE            BINARY-DOUBLE UNSIGNED VALUE 1984.
            05  ROW-ROOM             BINARY-DOUBLE UNSIGNED VALUE 320.
            05  PLACE-ROOM           BINARY-DOUBLE UNSIGNED VALUE 64.
+           05  NAME-ROOM            BINARY-DOUBLE UNSIGNED VALUE 1152.
            05  BYTE-ROOM            BINARY-DOUBLE UNSIGNED VALUE 4096.
            05  TOKEN-ROOM           BINARY-DOUBLE UNSIGNED VALUE 256.
            05  PLAN-ROOM            BINARY-DOUBLE UNSIGNED VALUE 640.
@@ -129,16 +132,23 @@
                END-READ
            END-PERFORM
            CLOSE RULE-FILE.
+      *> The literals of its condition-names are written again with
+      *> those of the rule, which come after them.
        READ-DESCRIPTION.
            CALL STATIC "oboecurlew_describe" USING
                BY REFERENCE DESCRIPTION-TEXT BY VALUE DESCRIPTION-SIZE
                BY REFERENCE ITEM-NUMBERS     BY VALUE ROW-ROOM
                BY REFERENCE NAME-PLACES      BY VALUE PLACE-ROOM
+               BY REFERENCE CONDITION-NAMES  BY VALUE NAME-ROOM
+               BY REFERENCE CONDITION-PLACES BY VALUE PLACE-ROOM
+               BY REFERENCE LITERAL-NUMBERS  BY VALUE ROW-ROOM
+               BY REFERENCE LITERAL-BYTES    BY VALUE BYTE-ROOM
                BY REFERENCE OBOECURLEW-ANSWER
                RETURNING OBOECURLEW-REFUSAL
            END-CALL
            PERFORM STOP-IF-REFUSED
            MOVE NUMBERS-WRITTEN (1) TO ITEM-COUNT
+           MOVE NUMBERS-WRITTEN (3) TO NAME-COUNT
       *> The first entry of the description is the whole record.
            MOVE ROW-SIZE (1) TO ENTRY-SIZE.
        READ-RULE.

@@ -15,8 +15,10 @@
       *> oboecurlew_expand takes the same. oboecurlew_judge takes the
       *> record's bytes in the output's place and then, BY VALUE, the
       *> switch byte; oboecurlew_run the same with a plan in the
-      *> tokens' place. oboecurlew_describe takes a text, item rows and
-      *> places, each with its length, and the answer;
+      *> tokens' place. oboecurlew_describe takes a text, item rows,
+      *> places of names, condition-names, places of these, literal
+      *> numbers and literal bytes, each with its length, and the
+      *> answer;
       *> oboecurlew_read a description, a condition's text, tokens,
       *> literal numbers and literal bytes; oboecurlew_print a
       *> description, literal numbers, literal bytes, tokens and a

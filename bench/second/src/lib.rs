@@ -2,7 +2,7 @@
 
 use second::descriptions;
 use second::outside::{of_judged, of_written, Answer, Said};
-use second::rules::{self, Tables};
+use second::rules::{self, Edition, Tables};
 use std::slice::{from_raw_parts as lent, from_raw_parts_mut as lent_mut};
 
 fn told(said: Said, answer: &mut Answer) -> u32 {
@@ -33,7 +33,7 @@ pub unsafe extern "C" fn second_plan(
         literals: lent(literals, literal_numbers),
         bytes: lent(bytes, byte_count),
         names: lent(names, name_numbers),
-        edition: Default::default(),
+        edition: Edition::CURRENT,
     };
     let count = rules::plan(&tables, lent(tokens, token_count), lent_mut(output, output_numbers));
     told(of_written(count.map(|count| [count])), &mut *answer)
@@ -63,7 +63,7 @@ pub unsafe extern "C" fn second_judge(
         literals: lent(literals, literal_numbers),
         bytes: lent(bytes, byte_count),
         names: lent(names, name_numbers),
-        edition: Default::default(),
+        edition: Edition::CURRENT,
     };
     let judged = rules::judge(&tables, lent(tokens, token_count), lent(record, record_size), switches);
     told(of_judged(judged), &mut *answer)
@@ -93,7 +93,7 @@ pub unsafe extern "C" fn second_run(
         literals: lent(literals, literal_numbers),
         bytes: lent(bytes, byte_count),
         names: lent(names, name_numbers),
-        edition: Default::default(),
+        edition: Edition::CURRENT,
     };
     let judged = rules::run(&tables, lent(plan, plan_numbers), lent(record, record_size), switches);
     told(of_judged(judged), &mut *answer)
@@ -109,12 +109,26 @@ pub unsafe extern "C" fn second_describe(
     row_numbers: usize,
     places: *mut u32,
     place_count: usize,
+    names: *mut u32,
+    name_numbers: usize,
+    name_places: *mut u32,
+    name_place_count: usize,
+    literals: *mut u32,
+    literal_numbers: usize,
+    bytes: *mut u8,
+    byte_count: usize,
     answer: *mut Answer,
 ) -> u32 {
-    let counts = descriptions::describe(
-        lent(text, text_size),
-        lent_mut(rows, row_numbers),
-        lent_mut(places, place_count),
-    );
+    let outputs = descriptions::Outputs {
+        numbers: [
+            lent_mut(rows, row_numbers),
+            lent_mut(places, place_count),
+            lent_mut(names, name_numbers),
+            lent_mut(name_places, name_place_count),
+            lent_mut(literals, literal_numbers),
+        ],
+        bytes: lent_mut(bytes, byte_count),
+    };
+    let counts = descriptions::describe(lent(text, text_size), outputs);
     told(of_written(counts), &mut *answer)
 }

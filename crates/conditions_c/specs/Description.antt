@@ -13,14 +13,16 @@ use Rattle.conditions_c.specs.Answer.{Told}
 abbrev pub narrowed : ℕ → ℕ
 narrowed n = cond (leb n 4294967295) n 4294967295
 
--- two counts written, or the place: of 14 the faulty byte or the entry, of 10 the numbers needed
+-- six counts written, or the place: of 14 the faulty byte or the entry, of 10 the numbers needed
 abbrev pub describedNumbers : Described → List ℕ
-describedNumbers (Counts rows places) = 0 ∷ 0 ∷ 0 ∷ narrowed rows ∷ narrowed places ∷ 0 ∷ 0 ∷ 0 ∷ 0 ∷ []
+describedNumbers (Counts rows places names name-places literals bytes) =
+    0 ∷ 0 ∷ 0 ∷ narrowed rows ∷ narrowed places ∷ narrowed names ∷ narrowed name-places ∷ narrowed literals ∷ narrowed bytes ∷ []
 describedNumbers (Faulty place) = narrowed place ∷ 0 ∷ 0 ∷ 0 ∷ 0 ∷ 0 ∷ 0 ∷ 0 ∷ 0 ∷ []
 describedNumbers (Room needed) = narrowed needed ∷ 0 ∷ 0 ∷ 0 ∷ 0 ∷ 0 ∷ 0 ∷ 0 ∷ 0 ∷ []
 
 -- what the library's call gives, told
-pub record Describes (text rows places : List ℕ) (returned : ℕ) (answer rows-after places-after : List ℕ) : Type 0 where
+pub record Describes (text rows places names name-places literals bytes : List ℕ) (returned : ℕ)
+    (answer rows-after places-after names-after name-places-after literals-after bytes-after : List ℕ) : Type 0 where
   pub given : Described
-  pub described : DescribedBy text rows places given rows-after places-after
+  pub described : DescribedBy text rows places names name-places literals bytes given rows-after places-after names-after name-places-after literals-after bytes-after
   pub told : Told (number given) (describedNumbers given) returned answer

@@ -440,9 +440,21 @@ fn show(rows: &[u32], shown: Shown, text: &[u8]) {
 fn main() {
     let mut numbers = [0u32; 320];
     let mut places = [0u32; 64];
+    let mut names = [0u32; 1152];
+    let mut name_places = [0u32; 64];
+    let mut literals = [0u32; 320];
+    let mut bytes = [0u8; 4096];
     the_entry();
-    let described = describe(&DESCRIPTION, &mut numbers, &mut places);
-    if let Described::Counts(n, _) = described {
+    let described = describe(
+        &DESCRIPTION,
+        &mut numbers,
+        &mut places,
+        &mut names,
+        &mut name_places,
+        &mut literals,
+        &mut bytes,
+    );
+    if let Described::Counts(n, _, _, _, _, _) = described {
         let rows = front(&numbers, n);
         show(rows, Shown::Guarded, &RULE);
         show(rows, Shown::Unguarded, &UNGUARDED);

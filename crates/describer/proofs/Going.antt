@@ -1,52 +1,98 @@
 -- Reading entry by entry: what is known between entries, and how each turn goes.
-use mathlib.Core.Path.{_≡_, refl, sym, ap, _∙_}
-use mathlib.Core.Bool.{Bool, true, false, cond, _&&_}
+use mathlib.Core.Path.{_≡_, refl, sym, ap, subst, _∙_}
+use mathlib.Core.Bool.{Bool, true, false, cond, _&&_, _||_}
 use mathlib.Core.Option.{Option, none, some}
 use mathlib.Core.List.{List, [], _∷_, _++_, map}
 use Prim.Native.Nat.{ℕ, zero, suc, _+_, _*_, _-_, _≤_, _<_}
 use native.Mathlib.Omega.{arith}
 use native.Mathlib.Numerals.{add-one}
-use borrow.Author.Tests.{lt-ltb}
+use borrow.Author.Tests.{lt-ltb, ltb-true}
 use lib.Dec.{eqb, ltb}
-use lib.ListN.{length, getD, set, drop, length-set, length-append}
+use lib.ListN.{length, getD, set, drop, length-set, length-append, List·getD-map}
 use lib.Seq.{sets, length-sets}
-use Rattle.description.specs.Grammar.{Entry}
-use Rattle.description.specs.Reader.{Groups, awaiting, inside, level, ends, State, Reading, read, faulty, layout, readText}
-use Rattle.description.specs.Stages.{inked, onward, parted, joined}
-use Rattle.description.proofs.Bytes.{eqb-no}
+use Rattle.description.specs.Grammar.{Entry, Row, row, Value, Condition, condition}
+use Rattle.description.specs.Reader.{Groups, enters, beginsLevel, awaiting, inside, level, label, Parts, parts, hasItem, ends, State, Reading, read, faulty, readText}
+use Rattle.description.specs.Stages.{inked, onward, parted, joined, clausesAt, nameAt, leveled, ownRow, ownRows}
+use Rattle.description.proofs.Bytes.{apart, eqb-no}
+use Rattle.description.proofs.Takes.{naming}
 use Rattle.description.proofs.Opening.{shut, level-ends}
-use Rattle.levels.specs.Stack.{opened, groupsOf, topped}
+use Rattle.levels.specs.Stack.{opened, groupsOf, enteredBy, topped}
 use Rattle.levels.proofs.Stack.{stored-top}
 use Rattle.words.proofs.Laws.{inked-le}
 use Rattle.entries.specs.declared.Noted.{Noted}
 use Rattle.entries.specs.declared.EntryRead.{EntryRead}
-use Rattle.entries.specs.declared.EntryRead.the-variants.{Whole, Fault}
-use Rattle.entries.specs.Entries.{capNoted, capEntry, entryAt, entryOf}
+use Rattle.entries.specs.declared.EntryRead.the-variants.{Whole, Name, Fault}
+use Rattle.entries.specs.Entries.{noted, capNoted, capEntry, itemOf, calledOf, enteredAt, leveledAt, entryAt, entryOf}
+use Rattle.levels.specs.declared.Entered.{Entered}
+use Rattle.levels.specs.declared.Entered.the-variants.{Depth, Not}
+use Rattle.description.specs.declared.Clauses.{Clauses}
+use Rattle.description.specs.declared.Clauses.the-variants as Clauses
+use Rattle.description.specs.declared.Called.{Called}
+use Rattle.description.specs.declared.Called.the-variants as Called
+use Rattle.name_entries.specs.Taking.{tally}
+use Rattle.name_entries.specs.Named.{Span, Noted as NotesHold}
 use Rattle.entries.proofs.Bounds.{Wholes}
 use Rattle.entries.proofs.Leads.{groupsAfter, onEntry, entry-leads, entry-whole, Deep, entry-deep}
-use Rattle.describer.specs.Stored.{numbersOf, notedAt, notedFrom, pushed, waitingAfter, Scaled, readingOf, Reads}
+use Rattle.describer.specs.Stored.{numbersOf, notedAt, notedFrom, pushed, waitingAfter, Scaled}
+use Rattle.describer.specs.Naming.{names, Kept, NameReady, Stepped, NameBy}
+use Rattle.describer.specs.Reads.{readingOf, ReadBy}
+use Rattle.describer.specs.declared.Names.{Names}
+use Rattle.describer.specs.declared.NameStep.{NameStep}
+use Rattle.describer.specs.declared.NameStep.the-variants.{Read, Fault as Faulty}
+use Rattle.describer.proofs.Labels.{none-kept, kept-item, kept-more}
 use Rattle.describer.specs.declared.Found.{Found}
 use Rattle.describer.proofs.Flat.{kept, held-there, noted-same, noted-snoc}
 
-pub record Going (text flat stack : List ℕ) (depth waiting count at : ℕ) : Type 0 where
+-- Without an item before it no entry is one of level 88.
+no-item : (l d p n : ℕ) (x : Clauses) → itemOf l d p n x ≡ Name → ⊥
+no-item l d p n (Clauses.Ended c s t u k) e = let z : _≡_ {A = ℕ} 0 1 = cc in omega arith
+no-item l d p n (Clauses.Fault k) e = let z : _≡_ {A = ℕ} 0 1 = cc in omega arith
+
+no-called : (text : List ℕ) (l d p : ℕ) (x : Called) → calledOf text l d p x ≡ Name → ⊥
+no-called text l d p (Called.Item k) e = no-item l d p (inked text (p + 2)) (clausesAt text k) e
+no-called text l d p (Called.Group k) e = let z : _≡_ {A = ℕ} 0 1 = cc in omega arith
+no-called text l d p (Called.Fault k) e = let z : _≡_ {A = ℕ} 0 1 = cc in omega arith
+
+no-entered : (text : List ℕ) (l p : ℕ) (x : Entered) → enteredAt text l p x ≡ Name → ⊥
+no-entered text l p (Depth d) e = no-called text l d p (nameAt l text (p + 2)) e
+no-entered text l p Not e = let z : _≡_ {A = ℕ} 0 1 = cc in omega arith
+
+no-name : (stack : List ℕ) (depth waiting : ℕ) (text : List ℕ) (p : ℕ) → entryAt stack depth waiting false text p ≡ Name → ⊥
+no-name stack depth waiting text p e =
+    by (enters (groupsOf stack depth waiting) (getD text p 0 ∷ getD text (p + 1) 0 ∷ [])) (beginsLevel (groupsOf stack depth waiting) (getD text p 0 ∷ []) || false) e
+  where
+    by : (s t : Bool) → leveledAt stack depth waiting text p (leveled p s false t (10 * (getD text p 0 - 0x30) + (getD text (p + 1) 0 - 0x30))) ≡ Name → ⊥
+    by true t e =
+        no-entered text (10 * (getD text p 0 - 0x30) + (getD text (p + 1) 0 - 0x30)) p
+        (enteredBy stack depth waiting (10 * (getD text p 0 - 0x30) + (getD text (p + 1) 0 - 0x30))) e
+    by false true e = let z : _≡_ {A = ℕ} 0 1 = cc in omega arith
+    by false false e = let z : _≡_ {A = ℕ} 0 1 = cc in omega arith
+
+pub record Going (text flat stack rows places notes : List ℕ) (depth waiting count at : ℕ) (s : Names) : Type 0 where
   pub exact : List Noted
+  pub conditions : List Condition
   pub held : notedFrom flat 0 count ≡ map capNoted exact
   pub scaled : Scaled exact
   pub counted : length exact ≡ count
-  pub reading : readText text ≡ onward text at (level (groupsOf stack depth waiting) (map entryOf exact))
+  pub reading : readText text ≡ onward text at (level (groupsOf stack depth waiting) (parts (map entryOf exact) conditions))
   pub inside : at ≤ length text
   pub few : 5 * count ≤ at
   pub deep : depth ≤ count
   pub wide : 821 ≤ length stack
+  pub kept : Kept text (map entryOf exact) conditions s rows places notes
 
-abbrev pub found : ℕ → Bool → ℕ → Found
-found n w p = record { count = n; whole = w; place = p }
+abbrev pub found : ℕ → Bool → ℕ → Names → Found
+found n w p s = record { count = n; whole = w; place = p; names = s }
 
-pub begins : (text flat stack : List ℕ) → 821 ≤ length stack → Going text flat stack 0 0 0 0
+abbrev pub Reads : List ℕ → List ℕ → List ℕ → List ℕ → List ℕ → Found → Type 0
+Reads text flat rows places notes r = ReadBy text text (readText text) flat rows places notes r
+
+pub begins : (text flat stack rows places notes : List ℕ) → 821 ≤ length stack → Going text flat stack rows places notes 0 0 0 0 (names false 0 0 0 0)
 unfolding readText notedFrom opened
-begins text flat stack h =
+begins text flat stack rows places notes h =
     record {
       exact = [];
+      conditions = [];
       held = refl;
       scaled = tt;
       counted = refl;
@@ -55,68 +101,223 @@ begins text flat stack h =
       few = omega arith;
       deep = omega arith;
       wide = h;
+      kept = none-kept text rows places notes;
     }
 
-module _ (text flat stack : List ℕ) (depth waiting count at : ℕ) (G : Going text flat stack depth waiting count at) (short : length text ≤ 4096) where
+map-length : (ys : List Noted) → length (map entryOf ys) ≡ length ys
+map-length [] = refl
+map-length (y ∷ ys) = ap suc (map-length ys)
+
+-- An entry in the buffer, and by itself.
+abbrev nothing : Noted
+nothing = noted 0 0 0 0 0 0 0
+
+noted-there : (flat : List ℕ) (i n j : ℕ) → j < n → getD (notedFrom flat i n) j (capNoted nothing) ≡ notedAt flat (i + j)
+unfolding notedFrom
+noted-there flat i zero j l = absurd (omega arith)
+noted-there flat i (suc n) zero l = let z : i + 0 ≡ i = omega arith in rw z
+noted-there flat i (suc n) (suc j) l = let z : i + suc j ≡ suc i + j = omega arith in rw z (noted-there flat (suc i) n j (omega arith))
+
+own-there : (ys : List Noted) (j : ℕ) → j < length ys → getD (ownRows (map entryOf ys)) j (row 0 0 0 0 0) ≡ ownRow (entryOf (getD ys j nothing) .content)
+unfolding ownRows
+own-there [] j l = absurd (omega arith)
+own-there (y ∷ ys) zero l = refl
+own-there (y ∷ ys) (suc j) l = own-there ys j (omega arith)
+
+module _ (text flat stack rows places notes : List ℕ) (depth waiting count at : ℕ) (s : Names) (G : Going text flat stack rows places notes depth waiting count at s)
+    (short : length text ≤ 4096) where
+  abbrev es : List Entry
+  es = map entryOf (G .exact)
+
+  abbrev d : Parts
+  d = parts es (G .conditions)
+
+  abbrev g : Groups
+  g = groupsOf stack depth waiting
+
   -- The text is over.
-  pub over : {p : ℕ} → p ≡ inked text at → p ≡ length text → Reads text flat (found count (ltb 0 count && eqb waiting 0) p)
-  over {p} e h =
-      record {
+  pub over : {p : ℕ} → p ≡ inked text at → p ≡ length text → {r : Found} → r ≡ found count (ltb 0 count && eqb waiting 0) p s → Reads text flat rows places notes r
+  over {p} e h q =
+      rw q
+      (record {
         exact = G .exact;
+        conditions = G .conditions;
         held = G .held;
         scaled = G .scaled;
-        reading = G .reading ∙ level-ends text at (groupsOf stack depth waiting) (map entryOf (G .exact)) (omega arith) ∙ by (eqb waiting 0) (G .exact) (G .counted) ∙ rw e;
+        reading = G .reading ∙ level-ends text at g d (omega arith) ∙ by (eqb waiting 0) (ltb 0 count) (rw (map-length (G .exact), G .counted)) ∙ rw e;
         few = omega (arith, G .few, G .inside);
-      }
+        limit = G .kept .limit;
+        stores = λ w o. G .kept .stores o;
+      })
     where
-      by : (t : Bool) (ys : List Noted) → length ys ≡ count →
-          shut (ends (level (cond t (inside (opened stack depth)) (awaiting (waiting - 1) (opened stack depth))) (map entryOf ys))) (map entryOf ys) (inked text at)
-          ≡ readingOf (ltb 0 count && t) (map entryOf ys) (inked text at)
-      by true [] i = rw (← i)
-      by true (y ∷ ys) i = rw (lt-ltb 0 count (omega arith))
-      by false [] i = rw (← i)
-      by false (y ∷ ys) i = rw (lt-ltb 0 count (omega arith))
+      by : (t n : Bool) → hasItem d ≡ n →
+          shut (ends (level (cond t (inside (opened stack depth)) (awaiting (waiting - 1) (opened stack depth))) d)) d (inked text at)
+          ≡ readingOf (n && t) d (inked text at)
+      by true true i = rw i
+      by true false i = rw i
+      by false true i = refl
+      by false false i = refl
 
-  module _ {p : ℕ} (e : p ≡ inked text at) (h : ¬ (p ≡ length text)) {r : EntryRead} (f : r ≡ capEntry (entryAt stack depth waiting text p)) where
+  -- An answer that is no description.
+  faulty-as : (p : ℕ) → readText text ≡ faulty d p → {r : Found} → r ≡ found count false p s → (rows′ places′ notes′ : List ℕ) → Reads text flat rows′ places′ notes′ r
+  faulty-as p f q rows′ places′ notes′ =
+      rw q
+      (record {
+        exact = G .exact;
+        conditions = G .conditions;
+        held = G .held;
+        scaled = G .scaled;
+        reading = f;
+        few = omega (arith, G .few, G .inside);
+        limit = G .kept .limit;
+        stores = λ w o. let z : _≡_ {A = ℕ} 0 1 = cc in absurd (omega arith);
+      })
+
+  module _ {p : ℕ} (e : p ≡ inked text at) (h : ¬ (p ≡ length text)) {r : EntryRead} (f : r ≡ capEntry (entryAt stack depth waiting (ltb 0 count) text p)) where
     pub before-end : p < length text
     before-end = omega (arith, inked-le text at (G .inside))
 
-    leads : readText text ≡ onEntry stack text (map entryOf (G .exact)) (entryAt stack depth waiting text p)
+    has : ltb 0 count ≡ hasItem d
+    has = sym (rw (map-length (G .exact), G .counted))
+
+    leads : readText text ≡ onEntry stack g p text d (entryAt stack depth waiting (ltb 0 count) text p)
     leads =
         let l : inked text at < length text = omega (arith, before-end) in
-        rw e (G .reading ∙ entry-leads stack text (map entryOf (G .exact)) depth waiting at l)
+        rw e (G .reading ∙ entry-leads stack text d depth waiting (ltb 0 count) has at l)
 
     -- An entry that is faulty.
-    pub faults : {k : ℕ} → r ≡ Fault k → Reads text flat (found count false k)
-    faults {k} g =
-        record {
-          exact = G .exact;
-          held = G .held;
-          scaled = G .scaled;
-          reading = leads ∙ by (entryAt stack depth waiting text p) (sym g ∙ f);
-          few = omega (arith, G .few, G .inside);
-        }
+    pub faults : {k : ℕ} → r ≡ Fault k → {z : Found} → z ≡ found count false k s → Reads text flat rows places notes z
+    faults {k} i q = faulty-as k (leads ∙ by (entryAt stack depth waiting (ltb 0 count) text p) (sym i ∙ f)) q rows places notes
       where
-        by : (z : EntryRead) → Fault k ≡ capEntry z → onEntry stack text (map entryOf (G .exact)) z ≡ faulty (map entryOf (G .exact)) k
-        by (Whole y d m) i = let z : _≡_ {A = ℕ} 0 1 = cc in absurd (omega arith)
+        by : (z : EntryRead) → Fault k ≡ capEntry z → onEntry stack g p text d z ≡ faulty d k
+        by (Whole y n m) i = let z : _≡_ {A = ℕ} 0 1 = cc in absurd (omega arith)
+        by Name i = let z : _≡_ {A = ℕ} 0 1 = cc in absurd (omega arith)
         by (Fault m) i = let j : m ≡ k = cc in rw j
 
+    -- Level 88.
+    module _ (i : r ≡ Name) where
+      is-name : entryAt stack depth waiting (ltb 0 count) text p ≡ Name
+      is-name = by (entryAt stack depth waiting (ltb 0 count) text p) (sym i ∙ f)
+        where
+          by : (z : EntryRead) → Name ≡ capEntry z → z ≡ Name
+          by (Whole y n m) i = let z : _≡_ {A = ℕ} 0 1 = cc in absurd (omega arith)
+          by Name i = refl
+          by (Fault m) i = let z : _≡_ {A = ℕ} 0 1 = cc in absurd (omega arith)
+
+      name-leads : readText text ≡ joined text (p + 2) (label (naming g p d))
+      name-leads = leads ∙ rw is-name
+
+      some-item : 0 < count
+      some-item = by (ltb 0 count) refl is-name
+        where
+          by : (t : Bool) → ltb 0 count ≡ t → entryAt stack depth waiting t text p ≡ Name → 0 < count
+          by true j q = ltb-true 0 count j
+          by false j q = absurd (no-name stack depth waiting text p q)
+
+      abbrev y : Noted
+      y = getD (G .exact) (count - 1) nothing
+
+      there : notedAt flat (count - 1) ≡ capNoted y
+      there =
+          let z : 0 + (count - 1) ≡ count - 1 = omega arith in
+          let a : getD (notedFrom flat 0 count) (count - 1) (capNoted nothing) ≡ notedAt flat (count - 1) = rw z at (noted-there flat 0 count (count - 1) (omega (arith, some-item))) in
+          sym a ∙ ap (λ (l : List Noted). getD l (count - 1) (capNoted nothing)) (G .held) ∙ List·getD-map capNoted (G .exact) (count - 1) nothing
+
+      own : getD (ownRows es) (length es - 1) (row 0 0 0 0 0) ≡ ownRow (entryOf y .content)
+      own =
+          let z : length es - 1 ≡ count - 1 = omega (arith, map-length (G .exact), G .counted) in
+          rw z (own-there (G .exact) (count - 1) (omega (arith, G .counted, some-item)))
+
+      inside-name : p + 2 ≤ length text
+      inside-name = subst (Wholes text p) is-name (entry-whole stack text d depth waiting (ltb 0 count) has p before-end)
+
+      pub name-ready : {nrow : List ℕ} → (1152 ≤ length rows) × (64 ≤ length places) × (448 ≤ length notes) × (length nrow ≡ 18) → 5747 ≤ length flat →
+          NameReady text p flat count s rows places notes nrow
+      name-ready {nrow} w m = by (s .over) refl
+        where
+          made : (ss : List Span) → (s .over ≡ false → NotesHold text notes (tally false 0 (s .literals) (s .bytes)) ss) → NameReady text p flat count s rows places notes nrow
+          made ss f =
+              record {
+                inside = inside-name;
+                short = short;
+                some = some-item;
+                few = omega (arith, G .few, G .inside, short);
+                held = omega (arith, G .few, G .inside, short, m);
+                wide = w;
+                spans = ss;
+                noted = f;
+              }
+
+          by : (t : Bool) → s .over ≡ t → NameReady text p flat count s rows places notes nrow
+          by true o = made [] (λ x. apart o x)
+          by false o = made (G .kept .stores o .spans) (λ x. G .kept .stores o .noted)
+
+      module _ {rows′ places′ notes′ : List ℕ} where
+        pub name-fault : {k : ℕ} → NameBy text p flat count s rows places notes (Faulty k) rows′ places′ notes′ → {z : Found} → z ≡ found count false k s →
+            Reads text flat rows′ places′ notes′ z
+        name-fault {k} N q = faulty-as k (name-leads ∙ N .by (naming g p d)) q rows′ places′ notes′
+
+        module _ {r′ : Names} {k : ℕ} (w : (1152 ≤ length rows) × (64 ≤ length places)) (N : NameBy text p flat count s rows places notes (Read r′ k) rows′ places′ notes′) where
+          abbrev c : Condition
+          c = condition (length es - 1) p (inked text (p + 2)) (N .values)
+
+          name-joins : readText text ≡ joined text k (level g (parts es (G .conditions ++ c ∷ [])))
+          name-joins = name-leads ∙ N .by .0 (naming g p d)
+
+          kept-name : Kept text es (G .conditions ++ c ∷ []) r′ rows′ places′ notes′
+          kept-name =
+              kept-more (G .kept) p count flat y (N .values) r′ rows′ places′ notes′ own there
+              (omega (arith, map-length (G .exact), G .counted)) (omega (arith, map-length (G .exact), G .counted, some-item)) w (N .by .3)
+
+          pub name-stops : parted (drop k text) ≡ false → {z : Found} → z ≡ found count false k r′ → Reads text flat rows′ places′ notes′ z
+          name-stops b q =
+              rw q
+              (record {
+                exact = G .exact;
+                conditions = G .conditions ++ c ∷ [];
+                held = G .held;
+                scaled = G .scaled;
+                reading = name-joins ∙ rw b;
+                few = omega (arith, G .few, G .inside, short);
+                limit = kept-name .limit;
+                stores = λ w o. let z : _≡_ {A = ℕ} 0 1 = cc in absurd (omega arith);
+              })
+
+          pub name-goes : parted (drop k text) ≡ true → Going text flat stack rows′ places′ notes′ depth waiting count k r′
+          name-goes b =
+              record {
+                exact = G .exact;
+                conditions = G .conditions ++ c ∷ [];
+                held = G .held;
+                scaled = G .scaled;
+                counted = G .counted;
+                reading = name-joins ∙ rw b;
+                inside = N .by .1;
+                few = omega (arith, G .few, N .by .2, e);
+                deep = G .deep;
+                wide = G .wide;
+                kept = kept-name;
+              }
+
+          pub name-further : (at < k) × (k ≤ length text)
+          name-further = (omega (arith, N .by .2, e), N .by .1)
+
     -- An entry that is whole: the exact one.
-    pub record Exact (x : Noted) (d k : ℕ) : Type 0 where
+    pub record Exact (x : Noted) (n k : ℕ) : Type 0 where
       pub y : Noted
-      pub is : entryAt stack depth waiting text p ≡ Whole y d k
+      pub is : entryAt stack depth waiting (ltb 0 count) text p ≡ Whole y n k
       pub capped : x ≡ capNoted y
       pub scale : y .scale ≤ y .digits
       pub ends : (p + 5 ≤ k) × (k ≤ length text)
-      pub near : (d ≤ depth + 1) × (y .level ≤ 99)
+      pub near : (n ≤ depth + 1) × (y .level ≤ 99)
 
-    pub exactly : {x : Noted} {d k : ℕ} → r ≡ Whole x d k → Exact x d k
-    exactly {x} {d} {k} g = by (entryAt stack depth waiting text p) refl (sym g ∙ f) (entry-whole stack text (map entryOf (G .exact)) depth waiting p before-end)
-        (entry-deep stack text (map entryOf (G .exact)) depth waiting p)
+    pub exactly : {x : Noted} {n k : ℕ} → r ≡ Whole x n k → Exact x n k
+    exactly {x} {n} {k} i = by (entryAt stack depth waiting (ltb 0 count) text p) refl (sym i ∙ f) (entry-whole stack text d depth waiting (ltb 0 count) has p before-end)
+        (entry-deep stack text d depth waiting (ltb 0 count) has p)
       where
-        by : (z : EntryRead) → entryAt stack depth waiting text p ≡ z → Whole x d k ≡ capEntry z → Wholes text p z → Deep stack text (map entryOf (G .exact)) depth waiting z → Exact x d k
-        by (Whole y d′ m) j i w n =
-            let a : d ≡ d′ = cc in
+        by : (z : EntryRead) → entryAt stack depth waiting (ltb 0 count) text p ≡ z → Whole x n k ≡ capEntry z → Wholes text p z → Deep stack text d depth waiting (ltb 0 count) has z → Exact x n k
+        by (Whole y d′ m) j i w o =
+            let a : n ≡ d′ = cc in
             let b : k ≡ m = cc in
             let c : x ≡ capNoted y = cc in
             record {
@@ -125,13 +326,14 @@ module _ (text flat stack : List ℕ) (depth waiting count at : ℕ) (G : Going 
               capped = c;
               scale = w .0;
               ends = (omega (arith, w .1 .0), omega (arith, w .1 .1));
-              near = (omega (arith, n .0), n .1);
+              near = (omega (arith, o .0), o .1);
             }
-        by (Fault m) j i w n = let z : _≡_ {A = ℕ} 0 1 = cc in absurd (omega arith)
+        by Name j i w o = let z : _≡_ {A = ℕ} 0 1 = cc in absurd (omega arith)
+        by (Fault m) j i w o = let z : _≡_ {A = ℕ} 0 1 = cc in absurd (omega arith)
 
-    module _ {x : Noted} {d k : ℕ} (g : r ≡ Whole x d k) (room : 5747 ≤ length flat) where
-      abbrev X : Exact x d k
-      X = exactly g
+    module _ {x : Noted} {n k : ℕ} (i : r ≡ Whole x n k) (room : 5747 ≤ length flat) where
+      abbrev X : Exact x n k
+      X = exactly i
 
       abbrev after : List ℕ
       after = sets flat (count * 7) (numbersOf x)
@@ -139,7 +341,7 @@ module _ (text flat stack : List ℕ) (depth waiting count at : ℕ) (G : Going 
       pub fits : count * 7 + 6 < length flat
       fits = omega (arith, G .few, G .inside)
 
-      pub fits-stack : d ≤ length stack
+      pub fits-stack : n ≤ length stack
       fits-stack = omega (arith, X .near .0, G .deep, G .few, G .inside, G .wide)
 
       pub level-fits : x .level < 4294967295
@@ -147,9 +349,9 @@ module _ (text flat stack : List ℕ) (depth waiting count at : ℕ) (G : Going 
 
       held-after : notedFrom after 0 (count + 1) ≡ map capNoted (G .exact ++ X .y ∷ [])
       held-after =
-          let n : 0 + count ≡ count = omega arith in
+          let n0 : 0 + count ≡ count = omega arith in
           let a : notedFrom after 0 count ≡ notedFrom flat 0 count = noted-same after flat 0 count (λ m l. kept flat count x fits m (omega arith)) in
-          rw (add-one, noted-snoc after 0 count, n, held-there flat count x fits, a, G .held)
+          rw (add-one, noted-snoc after 0 count, n0, held-there flat count x fits, a, G .held)
           (ap (λ (z : Noted). map capNoted (G .exact) ++ z ∷ []) (X .capped) ∙ sym (by (G .exact)))
         where
           by : (ys : List Noted) → map capNoted (ys ++ X .y ∷ []) ≡ map capNoted ys ++ capNoted (X .y) ∷ []
@@ -170,53 +372,61 @@ module _ (text flat stack : List ℕ) (depth waiting count at : ℕ) (G : Going 
           by [] s = (X .scale, tt)
           by (y ∷ ys) s = (s .0, by ys (s .1))
 
-      joins : readText text ≡ joined text k (level (groupsAfter stack (X .y) d) (map entryOf (G .exact ++ X .y ∷ [])))
+      joins : readText text ≡ joined text k (level (groupsAfter stack (X .y) n) (parts (map entryOf (G .exact ++ X .y ∷ [])) (G .conditions)))
       joins = leads ∙ rw (X .is, entries-after)
 
+      kept-after : Kept text (map entryOf (G .exact ++ X .y ∷ [])) (G .conditions) s rows places notes
+      kept-after = rw entries-after (kept-item (entryOf (X .y)) (G .kept))
+
       -- A byte after it that is no blank.
-      pub stops : parted (drop k text) ≡ false → Reads text after (found (count + 1) false k)
-      stops b =
-          record {
+      pub stops : parted (drop k text) ≡ false → {z : Found} → z ≡ found (count + 1) false k s → Reads text after rows places notes z
+      stops b q =
+          rw q
+          (record {
             exact = G .exact ++ X .y ∷ [];
+            conditions = G .conditions;
             held = held-after;
             scaled = scaled-after;
             reading = joins ∙ rw b;
             few = omega (arith, G .few, X .ends, e);
-          }
+            limit = kept-after .limit;
+            stores = λ w o. let z : _≡_ {A = ℕ} 0 1 = cc in absurd (omega arith);
+          })
 
-      top : opened (pushed stack d (x .level)) d ≡ topped stack (x .level) d
+      top : opened (pushed stack n (x .level)) n ≡ topped stack (x .level) n
       unfolding opened
-      top = by d fits-stack
+      top = by n fits-stack
         where
           by : (d : ℕ) → d ≤ length stack → opened (pushed stack d (x .level)) d ≡ topped stack (x .level) d
           by zero l = refl
           by (suc d) l = let z : suc d - 1 ≡ d = omega arith in rw z at (stored-top stack (x .level) (suc d) (omega arith) l)
 
-      groups : groupsAfter stack (X .y) d ≡ groupsOf (pushed stack d (x .level)) d (waitingAfter x)
+      groups : groupsAfter stack (X .y) n ≡ groupsOf (pushed stack n (x .level)) n (waitingAfter x)
       groups =
           let a : x .level ≡ X .y .level = ap (λ (z : Noted). z .level) (X .capped) in
           let b : x .kind ≡ X .y .kind = ap (λ (z : Noted). z .kind) (X .capped) in
           rw (← a, ← b) (by (eqb (x .kind) 0))
         where
-          by : (t : Bool) → cond t (awaiting (x .level) (topped stack (x .level) d)) (inside (topped stack (x .level) d))
-              ≡ groupsOf (pushed stack d (x .level)) d (cond t (x .level + 1) 0)
+          by : (t : Bool) → cond t (awaiting (x .level) (topped stack (x .level) n)) (inside (topped stack (x .level) n))
+              ≡ groupsOf (pushed stack n (x .level)) n (cond t (x .level + 1) 0)
           by true =
               let z : (x .level + 1) - 1 ≡ x .level = omega arith in
               rw (top, eqb-no (x .level + 1) 0 (λ i. omega arith), z)
           by false = rw top
 
-      wide-after : 821 ≤ length (pushed stack d (x .level))
-      wide-after = by d
+      wide-after : 821 ≤ length (pushed stack n (x .level))
+      wide-after = by n
         where
           by : (d : ℕ) → 821 ≤ length (pushed stack d (x .level))
           by zero = G .wide
           by (suc d) = omega (arith, length-set stack d (x .level), G .wide)
 
       -- A blank or the end after it.
-      pub goes-on : parted (drop k text) ≡ true → Going text after (pushed stack d (x .level)) d (waitingAfter x) (count + 1) k
+      pub goes-on : parted (drop k text) ≡ true → Going text after (pushed stack n (x .level)) rows places notes n (waitingAfter x) (count + 1) k s
       goes-on b =
           record {
             exact = G .exact ++ X .y ∷ [];
+            conditions = G .conditions;
             held = held-after;
             scaled = scaled-after;
             counted = omega (arith, length-append (G .exact) (X .y ∷ []), G .counted);
@@ -225,7 +435,12 @@ module _ (text flat stack : List ℕ) (depth waiting count at : ℕ) (G : Going 
             few = omega (arith, G .few, X .ends, e);
             deep = omega (arith, X .near .0, G .deep);
             wide = wide-after;
+            kept = kept-after;
           }
 
       pub further : (at < k) × (k ≤ length text)
       further = (omega (arith, X .ends .0, e), X .ends .1)
+
+pub step-as : {text : List ℕ} {p : ℕ} {flat : List ℕ} {count : ℕ} {s : Names} {rows places notes rows-after places-after notes-after : List ℕ} {r z : NameStep} →
+    NameBy text p flat count s rows places notes r rows-after places-after notes-after → r ≡ z → NameBy text p flat count s rows places notes z rows-after places-after notes-after
+step-as N q = rw (← q) N

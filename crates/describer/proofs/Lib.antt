@@ -1,2 +1,5 @@
 pub mod Flat
+pub mod Rows
+pub mod Labels
+pub mod Steps
 pub mod Going

@@ -1,1 +1,3 @@
 pub mod Stored
+pub mod Naming
+pub mod Reads

@@ -6,10 +6,8 @@ use Prim.Native.Nat.{ℕ, zero, suc, _+_, _*_, _≤_}
 use lib.Dec.{eqb}
 use lib.ListN.{getD, set}
 use Rattle.description.specs.Grammar.{Entry}
-use Rattle.description.specs.Reader.{layout, Reading, read, faulty, readText}
 use Rattle.entries.specs.declared.Noted.{Noted}
 use Rattle.entries.specs.Entries.{noted, capNoted, entryOf}
-use Rattle.describer.specs.declared.Found.{Found}
 
 abbrev pub numbersOf : Noted → List ℕ
 numbersOf x = x .level ∷ x .place ∷ x .named ∷ x .kind ∷ x .size ∷ x .scale ∷ x .digits ∷ []
@@ -37,15 +35,3 @@ waitingAfter x = cond (eqb (x .kind) 0) (x .level + 1) 0
 abbrev pub Scaled : List Noted → Type 0
 Scaled [] = Unit {0}
 Scaled (y ∷ ys) = (y .scale ≤ y .digits) × Scaled ys
-
-abbrev pub readingOf : Bool → List Entry → ℕ → Reading
-readingOf true es place = read (record { rows = layout 0 es; entries = es })
-readingOf false es place = faulty es place
-
--- The buffer holds the complete entries of the text, with counts that stop at 65,536, and the answer says what the reading is.
-pub record Reads (text flat : List ℕ) (r : Found) : Type 0 where
-  pub exact : List Noted
-  pub held : notedFrom flat 0 (r .count) ≡ map capNoted exact
-  pub scaled : Scaled exact
-  pub reading : readText text ≡ readingOf (r .whole) (map entryOf exact) (r .place)
-  pub few : 5 * r .count ≤ 4096

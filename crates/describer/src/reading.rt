@@ -2,9 +2,13 @@
 ghost use mathlib.Core.Path.{_≡_};
 ghost use Prim.Native.Nat.{_≤_};
 ghost use lib.ListN.{length, drop};
+ghost use Rattle.description.specs.Reader.{readText};
 ghost use Rattle.description.specs.Stages.{parted};
-ghost use Rattle.describer.specs.Stored.{Reads};
+ghost use Rattle.describer.specs.Reads.{ReadBy};
 use crate::Found;
+use crate::NameStep;
+use crate::Names;
+use crate::naming::name_step;
 use crate::store::push;
 use crate::store::store;
 use crate::store::waiting_after;
@@ -23,31 +27,65 @@ fn parted_at(text: &[u8], k: usize) -> bool
     is_blank(text[k])
 }
 
-// The entries of a text of at most 4,096 bytes, each in seven numbers. `stack` is for the open groups.
-pub fn read_entries(text: &[u8], entries: &mut [u32], stack: &mut [u32]) -> Found
+fn found(count: usize, whole: bool, place: usize, names: Names) -> Found
+    ensures { λ r. ⌜ r ≡ record { count = count; whole = whole; place = place; names = names } ⌝ }
+{
+    Found {
+        count,
+        whole,
+        place,
+        names,
+    }
+}
+
+// The entries of a text of at most 4,096 bytes: items in seven numbers each, names in eighteen, the places
+// of these, literals in seven. `stack` is for the open groups, `row` for a name's pairs.
+pub fn read_entries(
+    text: &[u8],
+    entries: &mut [u32],
+    stack: &mut [u32],
+    names: &mut [u32],
+    places: &mut [u32],
+    notes: &mut [u32],
+    row: &mut [u32],
+) -> Found
     requires { ⌜ (length (now text) ≤ 4096) × ((5747 ≤ length (now entries)) × (821 ≤ length (now stack))) ⌝ }
-    ensures { λ r. ⌜ Reads (now (text .entry)) (now (entries .exit)) r ⌝ }
+    requires { ⌜ (1152 ≤ length (now names)) × ((64 ≤ length (now places)) × ((448 ≤ length (now notes)) × (length (now row) ≡ 18))) ⌝ }
+    ensures { λ r. ⌜ ReadBy (now (text .entry)) (now (text .entry)) (readText (now (text .entry))) (now (entries .exit)) (now (names .exit)) (now (places .exit)) (now (notes .exit)) r ⌝ }
 {
     let mut depth: usize = 0;
     let mut waiting: u32 = 0;
     let mut count: usize = 0;
     let mut at: usize = 0;
+    let mut kept = Names {
+        over: false,
+        place: 0,
+        count: 0,
+        literals: 0,
+        bytes: 0,
+    };
     loop {
         let p = next_ink(text, at);
         if p == text.len() {
-            return Found {
-                count,
-                whole: (0 < count) & (waiting == 0),
-                place: p,
-            };
+            return found(count, (0 < count) & (waiting == 0), p, kept);
         }
-        match entry_at(stack, depth, waiting, text, p) {
+        match entry_at(stack, depth, waiting, 0 < count, text, p) {
             EntryRead::Fault(k) => {
-                return Found {
-                    count,
-                    whole: false,
-                    place: k,
-                };
+                return found(count, false, k, kept);
+            }
+            EntryRead::Name => {
+                match name_step(text, p, entries, count, kept, names, places, notes, row) {
+                    NameStep::Read(next, end) => {
+                        if !parted_at(text, end) {
+                            return found(count, false, end, next);
+                        }
+                        kept = next;
+                        at = end;
+                    }
+                    NameStep::Fault(k) => {
+                        return found(count, false, k, kept);
+                    }
+                }
             }
             EntryRead::Whole(x, d, end) => {
                 store(entries, count, x);
@@ -57,11 +95,7 @@ pub fn read_entries(text: &[u8], entries: &mut [u32], stack: &mut [u32]) -> Foun
                 waiting = waiting_after(x);
                 at = end;
                 if !parted_at(text, end) {
-                    return Found {
-                        count,
-                        whole: false,
-                        place: end,
-                    };
+                    return found(count, false, end, kept);
                 }
             }
         }

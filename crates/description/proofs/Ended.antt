@@ -11,7 +11,8 @@ use lib.ListN.{length, getD, take, drop, length-append}
 use lib.Seq.{append-snoc, getD-drop, take-suc}
 use Rattle.description.specs.Machine.{bind, after, result}
 use Rattle.description.specs.Grammar.{ended, all, any, same, isNameByte, Shape, characters, number, Picture, content, item, Entry}
-use Rattle.description.specs.Reader.{isSome, given, orElse, unended, endedBy, groupable, isName, isCalled, beginsName, nothing, pictures, Started, State, name, pic, picture, sign, finished, opened, unfinished, next, begins, ends, entriesOf, Reading, faulty}
+use Rattle.description.specs.Grammar.{Called as Calls}
+use Rattle.description.specs.Reader.{isSome, given, orElse, unended, endedBy, groupable, isName, isCalled, beginsName, nothing, pictures, Started, State, name, pic, picture, sign, finished, opened, unfinished, next, begins, ends, partsOf, Reading, faulty}
 use Rattle.description.specs.Stages.{inked, reach, joined, calledAt, nameReach, nameFrom, nameAt, isPeriod, pictureReach, shapeFrom, endedPicture, openPicture, pictured, pictureFrom, pictureAt}
 use Rattle.description.specs.declared.Called.{Called}
 use Rattle.description.specs.declared.Called.the-variants as Called
@@ -25,7 +26,7 @@ use Rattle.description.proofs.Fit.{drawn-some}
 use Rattle.description.proofs.Pictures as P
 use Rattle.description.proofs.Stages.{Middle, no-word, word-leads, wordReach, leads, reached}
 
-unended-snoc : (u : List ℕ) (b : ℕ) → unended (u ++ b ∷ []) ≡ given (eqb b 0x2e) u
+pub unended-snoc : (u : List ℕ) (b : ℕ) → unended (u ++ b ∷ []) ≡ given (eqb b 0x2e) u
 unfolding unended
 unended-snoc [] b = refl
 unended-snoc (a ∷ []) b = by (eqb b 0x2e)
@@ -39,7 +40,7 @@ unended-snoc (a ∷ c ∷ u) b = rw (unended-snoc (c ∷ u) b) (by (eqb b 0x2e))
     by true = refl
     by false = refl
 
-ended-snoc : (test : List ℕ → Bool) (u : List ℕ) (b : ℕ) → endedBy test (u ++ b ∷ []) ≡ eqb b 0x2e && test u
+pub ended-snoc : (test : List ℕ → Bool) (u : List ℕ) (b : ℕ) → endedBy test (u ++ b ∷ []) ≡ eqb b 0x2e && test u
 ended-snoc test u b = rw (unended-snoc u b) (by (eqb b 0x2e) (test u))
   where
     by : (t s : Bool) → isSome (bind (given t u) (λ v. given (test v) v)) ≡ t && test u
@@ -50,27 +51,26 @@ ended-snoc test u b = rw (unended-snoc u b) (by (eqb b 0x2e) (test u))
         last false = refl
     by false s = refl
 
--- A test that no word with a period passes, and that every beginning of what passes it passes; and a test of what a period may end.
+-- A test that every beginning of what passes it passes, and a test of what a period may end.
 pub record Ends (f g : List ℕ → Bool) : Type 0 where
   pub closed : (u : List ℕ) (c : ℕ) → f (u ++ c ∷ []) ≡ true → f u ≡ true
-  pub goes-on : (u : List ℕ) → f (ended u) ≡ false
   pub once : (u : List ℕ) → g (ended u) ≡ false
 
 module _ (f g : List ℕ → Bool) (E : Ends f g) where
   abbrev either : List ℕ → Bool
   either u = f u || endedBy g u
 
-  after-period : (u bs : List ℕ) → reach either (ended u) bs ≡ 0
+  after-period : (u bs : List ℕ) → f (ended u) ≡ false → reach either (ended u) bs ≡ 0
   unfolding reach
-  after-period u [] = refl
-  after-period u (c ∷ bs) = rw (by (f (ended u ++ c ∷ [])) refl)
+  after-period u [] i = refl
+  after-period u (c ∷ bs) i = rw (by (f (ended u ++ c ∷ [])) refl)
     where
       by : (t : Bool) → f (ended u ++ c ∷ []) ≡ t → t || endedBy g (ended u ++ c ∷ []) ≡ false
-      by true h = apart (E .closed (ended u) c h) (E .goes-on u)
+      by true h = apart (E .closed (ended u) c h) i
       by false h = ended-snoc g (ended u) c ∙ rw (E .once u) (and-false (eqb c 0x2e))
 
   -- the period is read too where it may stand
-  reach-ended : (u bs : List ℕ) →
+  pub reach-ended : (u bs : List ℕ) →
       reach either u bs ≡ cond (eqb (getD (drop (reach f u bs) bs) 0 0) 0x2e && g (u ++ take (reach f u bs) bs)) (suc (reach f u bs)) (reach f u bs)
   unfolding reach
   reach-ended u [] = refl
@@ -80,13 +80,13 @@ module _ (f g : List ℕ → Bool) (E : Ends f g) where
       one-more true m = refl
       one-more false m = refl
 
-      period : (t : Bool) → eqb b 0x2e && g u ≡ t → cond t (suc (reach either (u ++ b ∷ []) bs)) 0 ≡ cond t 1 0
-      period true h = ap suc (rw (eqb-true b 0x2e (first (eqb b 0x2e) (g u) h)) (after-period u bs))
+      period : f (u ++ b ∷ []) ≡ false → (t : Bool) → eqb b 0x2e && g u ≡ t → cond t (suc (reach either (u ++ b ∷ []) bs)) 0 ≡ cond t 1 0
+      period i true h = let j : b ≡ 0x2e = eqb-true b 0x2e (first (eqb b 0x2e) (g u) h) in ap suc (rw j (after-period u bs (rw j at i)))
         where
           first : (x y : Bool) → x && y ≡ true → x ≡ true
           first true y h = refl
           first false y h = apart h refl
-      period false h = refl
+      period i false h = refl
 
       by : (t : Bool) → f (u ++ b ∷ []) ≡ t →
           reach either (u ++ b ∷ []) bs
@@ -98,16 +98,16 @@ module _ (f g : List ℕ → Bool) (E : Ends f g) where
       by true h more =
           rw (h, more, append-snoc u b (take (reach f (u ++ b ∷ []) bs) bs))
           (one-more (eqb (getD (drop (reach f (u ++ b ∷ []) bs) bs) 0 0) 0x2e && g (u ++ b ∷ take (reach f (u ++ b ∷ []) bs) bs)) (reach f (u ++ b ∷ []) bs))
-      by false h more = rw (h, ended-snoc g u b, append-nil u) (period (eqb b 0x2e && g u) refl)
+      by false h more = rw (h, ended-snoc g u b, append-nil u) (period h (eqb b 0x2e && g u) refl)
 
-  -- what is read before the period has none
-  no-period : (bs : List ℕ) → unended (take (reach f [] bs) bs) ≡ none
+  -- what is read before the period has none, where no word with one goes on
+  no-period : ((u : List ℕ) → f (ended u) ≡ false) → (bs : List ℕ) → unended (take (reach f [] bs) bs) ≡ none
   unfolding unended
-  no-period bs = by (reach f [] bs) refl (reached f [] bs)
+  no-period goes-on bs = by (reach f [] bs) refl (reached f [] bs)
     where
       long : (w : List ℕ) → f w ≡ true → (o : Option (List ℕ)) → unended w ≡ o → unended w ≡ none
       long w h none i = i
-      long w h (some v) i = apart h (rw (unended-is w v i) (E .goes-on v))
+      long w h (some v) i = apart h (rw (unended-is w v i) (goes-on v))
 
       by : (m : ℕ) → reach f [] bs ≡ m → (0 < m → f (take m bs) ≡ true) → unended (take m bs) ≡ none
       by zero h r = refl
@@ -118,7 +118,7 @@ pub byte-after : (text : List ℕ) (p m : ℕ) → getD (drop m (drop p text)) 0
 byte-after text p m = let z : m + 0 ≡ m = omega arith in getD-drop m (drop p text) 0 0 ∙ rw z (getD-drop p text m 0)
 
 -- a word and its period
-with-period : (bs : List ℕ) (m : ℕ) → eqb (getD (drop m bs) 0 0) 0x2e ≡ true → take (suc m) bs ≡ ended (take m bs)
+pub with-period : (bs : List ℕ) (m : ℕ) → eqb (getD (drop m bs) 0 0) 0x2e ≡ true → take (suc m) bs ≡ ended (take m bs)
 with-period [] zero e = apart e refl
 with-period [] (suc m) e = apart e refl
 with-period (b ∷ bs) zero e = rw (eqb-true b 0x2e e)
@@ -127,20 +127,21 @@ with-period (b ∷ bs) (suc m) e = ap (λ (l : List ℕ). b ∷ l) (with-period 
 -- Names.
 names-end : (l : ℕ) → Ends beginsName (λ v. isCalled v && groupable l)
 unfolding all beginsName
-names-end l = record { closed = closed; goes-on = goes-on; once = λ u. rw (not-called u) }
+names-end l = record { closed = closed; once = λ u. rw (not-called u) }
   where
     closed : (u : List ℕ) (c : ℕ) → beginsName (u ++ c ∷ []) ≡ true → beginsName u ≡ true
     closed [] c h = refl
-    closed (b ∷ u) c h = let k = completes-name (b ∷ u ++ c ∷ []) h in begins-called b u (c ∷ k .0) (rw append-snoc at (k .1))
+    closed (b ∷ u) c h = let k = completes-name (b ∷ u ++ c ∷ []) h in begins-called b u (c ∷ k .0) (rw append-snoc at (Calls.name (k .1)))
 
-    goes-on : (u : List ℕ) → beginsName (ended u) ≡ false
-    goes-on u = by (beginsName (ended u)) refl
-      where
-        by : (t : Bool) → beginsName (ended u) ≡ t → beginsName (ended u) ≡ false
-        by false e = e
-        by true e =
-            let k = completes-name (ended u) e in
-            apart (all-append isNameByte u (0x2e ∷ []) (all-append isNameByte (ended u) (k .0) (called-made (k .1)) .0) .1) refl
+name-goes-on : (u : List ℕ) → beginsName (ended u) ≡ false
+unfolding all
+name-goes-on u = by (beginsName (ended u)) refl
+  where
+    by : (t : Bool) → beginsName (ended u) ≡ t → beginsName (ended u) ≡ false
+    by false e = e
+    by true e =
+        let k = completes-name (ended u) e in
+        apart (all-append isNameByte u (0x2e ∷ []) (all-append isNameByte (ended u) (k .0) (k .1 .made) .0) .1) refl
 
 -- what a name leads to
 abbrev pub onCalled : List ℕ → Started → ℕ → Called → Reading
@@ -177,7 +178,7 @@ module _ (text : List ℕ) (e : ℕ) (h : Started) where
           word-leads text e (name h) name-middle (eqb-false (inked text e) e i)
           ∙ rw (reach-ended beginsName (λ v. isCalled v && groupable (h .level)) (names-end (h .level)) [] (drop (inked text e) text))
           (name-decided (inked text e) (nameReach text (inked text e)) (drop (inked text e) text)
-          (no-period beginsName (λ v. isCalled v && groupable (h .level)) (names-end (h .level)) (drop (inked text e) text))
+          (no-period beginsName (λ v. isCalled v && groupable (h .level)) (names-end (h .level)) name-goes-on (drop (inked text e) text))
           (isCalled (take (nameReach text (inked text e)) (drop (inked text e) text)))
           (eqb (getD (drop (nameReach text (inked text e)) (drop (inked text e) text)) 0 0) 0x2e)
           (groupable (h .level)) refl refl refl
@@ -191,8 +192,7 @@ abbrev drawsWhole : List ℕ → Bool
 drawsWhole v = isSome (result pictures nothing v)
 
 pictures-end : Ends draws drawsWhole
-unfolding all
-pictures-end = record { closed = closed; goes-on = goes-on; once = λ u. rw (no-picture u) }
+pictures-end = record { closed = closed; once = λ u. rw (no-picture u) }
   where
     closed : (u : List ℕ) (c : ℕ) → draws (u ++ c ∷ []) ≡ true → draws u ≡ true
     closed u c h =
@@ -200,15 +200,16 @@ pictures-end = record { closed = closed; goes-on = goes-on; once = λ u. rw (no-
         let m = after-lives P.right nothing (u ++ c ∷ []) (k .0) tt (k .1) in
         drawn-some u (c ∷ m .0) (m .1) (rw append-snoc at (m .2))
 
-    goes-on : (u : List ℕ) → draws (ended u) ≡ false
-    goes-on u = by (draws (ended u)) refl
-      where
-        by : (t : Bool) → draws (ended u) ≡ t → draws (ended u) ≡ false
-        by false e = e
-        by true e =
-            let k = is-some (after pictures nothing (ended u)) e in
-            let m = after-lives P.right nothing (ended u) (k .0) tt (k .1) in
-            apart (all-append P.isMark u (0x2e ∷ []) (all-append P.isMark (ended u) (m .0) (P.picture-made (m .2)) .0) .1) refl
+picture-goes-on : (u : List ℕ) → draws (ended u) ≡ false
+unfolding all
+picture-goes-on u = by (draws (ended u)) refl
+  where
+    by : (t : Bool) → draws (ended u) ≡ t → draws (ended u) ≡ false
+    by false e = e
+    by true e =
+        let k = is-some (after pictures nothing (ended u)) e in
+        let m = after-lives P.right nothing (ended u) (k .0) tt (k .1) in
+        apart (all-append P.isMark u (0x2e ∷ []) (all-append P.isMark (ended u) (m .0) (P.picture-made (m .2)) .0) .1) refl
 
 -- what a picture leads to
 abbrev pub onPictured : List ℕ → Started → ℕ → Pictured → Reading
@@ -251,7 +252,7 @@ module _ (text : List ℕ) (e : ℕ) (h : Started) (n : ℕ) where
           word-leads text e (picture h n) picture-middle (eqb-false (inked text e) e i)
           ∙ rw (reach-ended draws drawsWhole pictures-end [] (drop (inked text e) text))
           (picture-decided (inked text e) (pictureReach text (inked text e)) (drop (inked text e) text)
-          (no-period draws drawsWhole pictures-end (drop (inked text e) text))
+          (no-period draws drawsWhole pictures-end picture-goes-on (drop (inked text e) text))
           (shapeFrom text (inked text e))
           (eqb (getD (drop (pictureReach text (inked text e)) (drop (inked text e) text)) 0 0) 0x2e) refl refl
           ∙ rw (byte-after text (inked text e) (pictureReach text (inked text e))))

@@ -12,7 +12,7 @@ use lib.ListN.{length, getD, take, drop, length-take}
 use lib.Seq.{append-snoc, drop-drop, getD-drop}
 use Rattle.description.specs.Machine.{bind, after, result}
 use Rattle.description.specs.Grammar.{bytes, same, ended, Entry, item, packed}
-use Rattle.description.specs.Reader.{given, orElse, prefix, unended, Started, State, name, pic, picture, sign, side, separate, finished, opened, next, begins, ends, entriesOf, Reading, faulty}
+use Rattle.description.specs.Reader.{given, orElse, prefix, unended, Started, State, name, pic, picture, sign, side, separate, finished, opened, next, begins, ends, partsOf, Reading, faulty}
 use Rattle.description.specs.Stages.{inked, reach, common, met, literalAt, sided, sideAt, joined}
 use Rattle.description.specs.declared.Reached.{Reached}
 use Rattle.description.specs.declared.Reached.the-variants as Reached
@@ -76,7 +76,7 @@ same-common (a ∷ w) (b ∷ bs) = by (eqb b a) refl (same-common w bs)
 -- what a word that was asked for leads to
 abbrev pub onReached : List ℕ → State → State → Reached → Reading
 onReached text q r (Reached.Word k) = joined text k r
-onReached text q r (Reached.Fault k) = faulty (entriesOf q) k
+onReached text q r (Reached.Fault k) = faulty (partsOf q) k
 
 module _ (text : List ℕ) (e : ℕ) (q r : State) (M : Middle q) (word : List ℕ) where
   abbrev rest : List ℕ
@@ -127,12 +127,12 @@ sided-leads : (text : List ℕ) (h : Started) (n i j c : ℕ) (x : Reached) →
 sided-leads text h n i j c (Reached.Word k) = refl
 sided-leads text h n i j c (Reached.Fault k) = refl
 
-or-nothing : (o : Option State) → orElse o none ≡ o
+pub or-nothing : (o : Option State) → orElse o none ≡ o
 or-nothing none = refl
 or-nothing (some r) = refl
 
 -- the byte at which a word begins
-first : (text : List ℕ) (e : ℕ) → getD (drop (inked text e) text) 0 0 ≡ getD text (inked text e) 0
+pub first : (text : List ℕ) (e : ℕ) → getD (drop (inked text e) text) 0 0 ≡ getD text (inked text e) 0
 first text e = let z : inked text e + 0 ≡ inked text e = omega arith in getD-drop (inked text e) text 0 0 ∙ rw z
 
 module _ (h : Started) (n i j p : ℕ) where

@@ -12,11 +12,11 @@ use lib.Seq.{append-snoc, drop-drop, drop-nil}
 use Rattle.description.specs.Machine.{Answer, accepted, refused, run, stepped, closed, bind}
 use Rattle.description.specs.Words.{Mid, mid, pause, parting, machine}
 use Rattle.description.specs.Words as W
-use Rattle.description.specs.Grammar.{isBlank, Entry}
-use Rattle.description.specs.Reader.{State, descriptions, next, begins, ends, entriesOf, complete, Reading, read, faulty, reading}
+use Rattle.description.specs.Grammar.{isBlank}
+use Rattle.description.specs.Reader.{Parts, State, descriptions, next, begins, ends, partsOf, complete, Reading, read, faulty, reading}
 use Rattle.description.specs.Stages.{blanks, inked, reach, onward, parted, joined}
 use Rattle.description.proofs.Bytes.{apart}
-use Rattle.description.proofs.Fit.{not-blank}
+use Rattle.description.proofs.Fit.{not-fresh}
 
 abbrev pub from : ℕ → State → List ℕ → Reading
 from n q bs = reading (run (machine descriptions) n (mid q n []) bs)
@@ -87,7 +87,7 @@ reached test u (b ∷ bs) h = by (test (u ++ b ∷ [])) refl (reached test (u ++
 -- One blank between words.
 from-blank : (n : ℕ) (q : State) (b : ℕ) (bs : List ℕ) → isBlank b ≡ true → from n q (b ∷ bs) ≡ from (suc n) q bs
 unfolding run
-from-blank n q b bs h = let z : suc (n + 0) ≡ suc n = omega arith in rw (not-blank q [] b h, h, z)
+from-blank n q b bs h = let z : suc (n + 0) ≡ suc n = omega arith in rw (not-fresh q b h, h, z)
 
 pub from-blanks : (n : ℕ) (q : State) (bs : List ℕ) → from n q bs ≡ from (n + blanks bs) q (drop (blanks bs) bs)
 unfolding blanks
@@ -101,16 +101,16 @@ from-blanks n q (b ∷ bs) = by (isBlank b) refl (from-blanks (suc n) q bs)
 
 -- after a word that ends at e, or that is none
 abbrev pub after-word : ℕ → State → List ℕ → Reading
-after-word e q bs = cond (parted bs) (from e q bs) (faulty (entriesOf q) e)
+after-word e q bs = cond (parted bs) (from e q bs) (faulty (partsOf q) e)
 
 abbrev pub arrive : Option State → State → ℕ → List ℕ → Reading
-arrive none q e bs = faulty (entriesOf q) e
+arrive none q e bs = faulty (partsOf q) e
 arrive (some r) q e bs = after-word e r bs
 
 module _ (q : State) (n : ℕ) (w : List ℕ) (e : ℕ) where
   -- what is complete where the word may be over
-  faults : (o : Option State) → pause descriptions q n w ≡ o → faulty (complete (mid q n w)) e ≡ faulty (entriesOf (Option·getD o q)) e
-  faults o h = ap (λ (s : Option State). faulty (entriesOf (Option·getD s q)) e) h
+  faults : (o : Option State) → pause descriptions q n w ≡ o → faulty (complete (mid q n w)) e ≡ faulty (partsOf (Option·getD o q)) e
+  faults o h = ap (λ (s : Option State). faulty (partsOf (Option·getD s q)) e) h
 
   -- the text ends
   ends-here : (o : Option State) → pause descriptions q n w ≡ o → reading (run (machine descriptions) e (mid q n w) []) ≡ arrive o q e []
@@ -118,7 +118,7 @@ module _ (q : State) (n : ℕ) (w : List ℕ) (e : ℕ) where
   ends-here none h = rw h (faults none h)
   ends-here (some r) h = rw h (by (ends r))
     where
-      by : (o : Option (List Entry)) → reading (closed (mid q n w) e o) ≡ reading (closed (mid r e []) e o)
+      by : (o : Option Parts) → reading (closed (mid q n w) e o) ≡ reading (closed (mid r e []) e o)
       by none = faults (some r) h
       by (some es) = refl
 
@@ -165,12 +165,12 @@ pub record Middle (q : State) : Type 0 where
   pub asks : (p : ℕ) → next q p [] ≡ none
 
 -- with no blank after a word, or no word at all, it is faulty
-stays-at : (e : ℕ) (q : State) (bs : List ℕ) → ends q ≡ none → blanks bs ≡ 0 → after-word e q bs ≡ faulty (entriesOf q) e
+stays-at : (e : ℕ) (q : State) (bs : List ℕ) → ends q ≡ none → blanks bs ≡ 0 → after-word e q bs ≡ faulty (partsOf q) e
 unfolding run blanks
 stays-at e q [] h z = rw h
 stays-at e q (b ∷ bs) h z = by (isBlank b) refl z
   where
-    by : (t : Bool) → isBlank b ≡ t → cond t (suc (blanks bs)) 0 ≡ 0 → cond t (from e q (b ∷ bs)) (faulty (entriesOf q) e) ≡ faulty (entriesOf q) e
+    by : (t : Bool) → isBlank b ≡ t → cond t (suc (blanks bs)) 0 ≡ 0 → cond t (from e q (b ∷ bs)) (faulty (partsOf q) e) ≡ faulty (partsOf q) e
     by true i z = absurd (omega arith)
     by false i z = refl
 
@@ -185,11 +185,11 @@ parted-blanks (b ∷ bs) h = by (isBlank b) refl h
 
 -- what a decided word leads to
 abbrev pub leads : List ℕ → Option State → State → ℕ → Reading
-leads text none q e = faulty (entriesOf q) e
+leads text none q e = faulty (partsOf q) e
 leads text (some r) q e = joined text e r
 
 module _ (text : List ℕ) (e : ℕ) (q : State) (M : Middle q) where
-  pub no-word : inked text e ≡ e → joined text e q ≡ faulty (entriesOf q) e
+  pub no-word : inked text e ≡ e → joined text e q ≡ faulty (partsOf q) e
   no-word h = stays-at e q (drop e text) (M .unended) (omega arith)
 
   abbrev pub wordReach : ℕ

@@ -1,15 +1,16 @@
 -- The reader word by word, as the code goes: how far the word at a place goes on as one that may stand there, and what it then is.
 -- That this is the reader of specs/Reader.antt: proofs/Stages.antt.
-use mathlib.Core.Bool.{Bool, true, false, cond, _&&_}
-use mathlib.Core.Option.{Option, none, some}
+use mathlib.Core.Bool.{Bool, true, false, cond, _&&_, _||_}
+use mathlib.Core.Option.{Option, none, some, Option·getD}
 use mathlib.Core.List.{List, [], _∷_, _++_}
 use Prim.Native.Nat.{ℕ, suc, _+_, _*_, _-_, _/_}
 use lib.Dec.{eqb, leb}
 use lib.ListN.{length, getD, take, drop}
 use Rattle.description.specs.Machine.{run, after, result}
 use Rattle.description.specs.Words.{mid, machine}
-use Rattle.description.specs.Grammar.{bytes, isBlank, ended, Shape, characters, number, packedKind, Entry}
-use Rattle.description.specs.Reader.{isSome, Groups, enters, beginsLevel, beginsName, isCalled, nothing, pictures, State, descriptions, entriesOf, Reading, read, faulty, reading}
+use Rattle.description.specs.Grammar.{bytes, isBlank, ended, Shape, characters, number, packedKind, Content, group, item, Entry, Row, row, Literal, literal}
+use Rattle.description.specs.Reader.{isSome, Groups, enters, beginsLevel, beginsName, isName, isCalled, nothing, pictures, unspelt, spelling, readLiteral, endedBy, State, descriptions, partsOf, Reading, read, faulty, reading}
+use Rattle.description.specs.Limits.{Mark, smaller}
 use Rattle.description.specs.declared.Reached.{Reached}
 use Rattle.description.specs.declared.Reached.the-variants as Reached
 use Rattle.description.specs.declared.Called.{Called}
@@ -20,6 +21,8 @@ use Rattle.description.specs.declared.Sided.{Sided}
 use Rattle.description.specs.declared.Sided.the-variants as Sided
 use Rattle.description.specs.declared.Clauses.{Clauses}
 use Rattle.description.specs.declared.Clauses.the-variants as Clauses
+use Rattle.description.specs.declared.Spelled.{Spelled}
+use Rattle.description.specs.declared.Spelled.the-variants as Spelled
 use Rattle.description.specs.declared.Leveled.{Leveled}
 use Rattle.description.specs.declared.Leveled.the-variants as Leveled
 
@@ -145,15 +148,57 @@ afterPic text (Reached.Fault k) = Clauses.Fault k
 unfoldable pub clausesAt : List ℕ → ℕ → Clauses
 clausesAt text n = afterPic text (literalAt (bytes "PIC") text n)
 
-abbrev pub leveled : ℕ → Bool → Bool → ℕ → Leveled
-leveled p true begun l = Leveled.Level l
-leveled p false true l = Leveled.Fault (p + 1)
-leveled p false false l = Leveled.Fault p
+-- The name of a level 88 entry from place p on: no FILLER, no period.
+abbrev pub labelFrom : List ℕ → ℕ → Reached
+labelFrom text p =
+    cond (isName (take (nameReach text p) (drop p text))) (Reached.Word (p + nameReach text p)) (Reached.Fault (p + nameReach text p))
 
--- A level number at place p.
-abbrev pub levelAt : Groups → List ℕ → ℕ → Leveled
-levelAt g text p =
-    leveled p (enters g (getD text p 0 ∷ getD text (p + 1) 0 ∷ [])) (beginsLevel g (getD text p 0 ∷ []))
+abbrev pub labelAt : List ℕ → ℕ → Reached
+labelAt text n = cond (eqb (inked text n) n) (Reached.Fault n) (labelFrom text (inked text n))
+
+-- how many bytes from a place on may begin a literal
+abbrev pub literalReach : List ℕ → ℕ → ℕ
+literalReach text p = reach (λ u. isSome (after spelling unspelt u)) [] (drop p text)
+
+-- whether a word is a literal, and whether it is one and a period
+abbrev pub isLiteral : List ℕ → Bool
+isLiteral w = isSome (readLiteral w)
+
+abbrev pub isEnded : List ℕ → Bool
+isEnded w = endedBy isLiteral w
+
+-- What a literal may be goes on as far as k: a period after it ends it, or its own point was that period.
+abbrev pub spelled : ℕ → Bool → Bool → Bool → Spelled
+spelled k whole period point = cond whole (cond period (Spelled.Ended k) (Spelled.Open k)) (cond point (Spelled.Ended (k - 1)) (Spelled.Fault k))
+
+abbrev pub spelledFrom : List ℕ → ℕ → Spelled
+spelledFrom text p =
+    spelled (p + literalReach text p) (isLiteral (take (literalReach text p) (drop p text))) (isPeriod text (p + literalReach text p))
+    (isEnded (take (literalReach text p) (drop p text)))
+
+-- A literal after a blank at n.
+abbrev pub spelledAt : List ℕ → ℕ → Spelled
+spelledAt text n = cond (eqb (inked text n) n) (Spelled.Fault n) (spelledFrom text (inked text n))
+
+-- the literal from p to k
+abbrev pub literalIn : List ℕ → ℕ → ℕ → Literal
+literalIn text p k = Option·getD (readLiteral (take (k - p) (drop p text))) (literal 0 [] 0)
+
+-- A level number of two digits may stand here; 88 may; or a level number that may begins with the first digit.
+abbrev pub leveled : ℕ → Bool → Bool → Bool → ℕ → Leveled
+leveled p true name begun l = Leveled.Level l
+leveled p false true begun l = Leveled.Name
+leveled p false false true l = Leveled.Fault (p + 1)
+leveled p false false false l = Leveled.Fault p
+
+abbrev pub isEight : ℕ → Bool
+isEight b = eqb b 0x38
+
+-- A level number at place p; 88 may stand where an item's entry came before it.
+abbrev pub levelAt : Groups → Bool → List ℕ → ℕ → Leveled
+levelAt g named text p =
+    leveled p (enters g (getD text p 0 ∷ getD text (p + 1) 0 ∷ [])) (named && (isEight (getD text p 0) && isEight (getD text (p + 1) 0)))
+    (beginsLevel g (getD text p 0 ∷ []) || (named && isEight (getD text p 0)))
     (10 * (getD text p 0 - 0x30) + (getD text (p + 1) 0 - 0x30))
 
 -- The reading of the text from place n on, in a state between words.
@@ -166,4 +211,22 @@ parted (b ∷ bs) = isBlank b
 
 -- The same after a word that ends at e: a blank or the end follows it.
 abbrev pub joined : List ℕ → ℕ → State → Reading
-joined text e q = cond (parted (drop e text)) (onward text e q) (faulty (entriesOf q) e)
+joined text e q = cond (parted (drop e text)) (onward text e q) (faulty (partsOf q) e)
+
+-- The place of the first entry over a limit; and the smaller of two.
+unfoldable pub firstOver : List Mark → Option ℕ
+firstOver [] = none
+firstOver (m ∷ ms) = cond (m .over) (some (m .place)) (firstOver ms)
+
+abbrev pub sooner : Option ℕ → Option ℕ → Option ℕ
+sooner none o = o
+sooner (some p) o = some (smaller p o)
+
+-- What an item's own entry tells of its row: all that its values are compared by.
+abbrev pub ownRow : Content → Row
+ownRow group = row 0 0 0 0 0
+ownRow (item k n s t) = row k 0 n s t
+
+unfoldable pub ownRows : List Entry → List Row
+ownRows [] = []
+ownRows (e ∷ es) = ownRow (e .content) ∷ ownRows es

@@ -1,86 +1,147 @@
 // The call that users make.
 ghost use mathlib.Core.Path.{_≡_};
-ghost use Prim.Native.Nat.{_*_, _≤_};
+ghost use Prim.Native.Nat.{_≤_};
 ghost use lib.ListN.{length};
-ghost use Rattle.descriptions.specs.Calls.{ReadsWithin, Given, DescribedBy};
+ghost use Rattle.descriptions.specs.Calls.{ReadsWithin, SoonerBy, DescribedBy};
 use crate::Described;
-use crate::copies::copy_named;
-use crate::copies::copy_numbers;
+use crate::giving::give;
 use describer::Found;
+use describer::Names;
 use describer::reading::read_entries;
 use layouts::Laid;
 use layouts::rows::lay_rows;
 
-// The numbers of a row.
-const WIDTH: usize = 5;
-
 // The entries of a text: byte 4,096 is faulty.
-fn read_within(text: &[u8], entries: &mut [u32], stack: &mut [u32]) -> Found
+fn read_within(
+    text: &[u8],
+    entries: &mut [u32],
+    stack: &mut [u32],
+    named: &mut [u32],
+    spots: &mut [u32],
+    notes: &mut [u32],
+    row: &mut [u32],
+) -> Found
     requires { ⌜ (5747 ≤ length (now entries)) × (821 ≤ length (now stack)) ⌝ }
-    ensures { λ r. ⌜ ReadsWithin (now (text .entry)) (now (entries .exit)) r ⌝ }
+    requires { ⌜ (1152 ≤ length (now named)) × ((64 ≤ length (now spots)) × ((448 ≤ length (now notes)) × (length (now row) ≡ 18))) ⌝ }
+    ensures { λ r. ⌜ ReadsWithin (now (text .entry)) (now (entries .exit)) (now (named .exit)) (now (spots .exit)) (now (notes .exit)) r ⌝ }
 {
     if text.len() <= 4096 {
-        return read_entries(text, entries, stack);
+        return read_entries(text, entries, stack, named, spots, notes, row);
     }
-    let found = read_entries(&text[..4096], entries, stack);
+    let found = read_entries(&text[..4096], entries, stack, named, spots, notes, row);
+    let names = found.names;
     if found.whole {
         return Found {
             count: found.count,
             whole: false,
             place: 4096,
+            names,
         };
     }
     found
 }
 
-// Rows and places, where both outputs have room.
-fn give(laid: &[u32], entries: &[u32], n: usize, rows: &mut [u32], places: &mut [u32]) -> Described
-    requires { ⌜ (n * 5 ≤ length (now laid)) × ((n * 7 ≤ length (now entries)) × (n ≤ 64)) ⌝ }
-    ensures { λ r. ⌜ Given (now (laid .entry)) (now (entries .entry)) n (now (rows .entry)) (now (places .entry)) r (now (rows .exit)) (now (places .exit)) ⌝ }
+// The smallest place over a limit, of items and of names.
+fn sooner_of(laid: Laid, names: Names) -> Laid
+    ensures { λ r. ⌜ SoonerBy laid names r ⌝ }
 {
-    if rows.len() < n * WIDTH {
-        return Described::Room(n * WIDTH);
+    if !names.over {
+        return laid;
     }
-    if places.len() < n {
-        return Described::Room(n);
+    match laid {
+        Laid::Over(p) => {
+            if p <= names.place {
+                return Laid::Over(p);
+            }
+            Laid::Over(names.place)
+        }
+        Laid::Fine => Laid::Over(names.place),
     }
-    copy_numbers(laid, n * WIDTH, rows);
-    copy_named(entries, n, places);
-    Described::Counts(n * WIDTH, n)
 }
 
-// The same as `describe`, with room for the entries, the open groups and the rows.
+// The same as `describe`, with room for the entries, the open groups, the rows, and names with their literals.
 fn describe_with(
     text: &[u8],
     entries: &mut [u32],
     stack: &mut [u32],
+    named: &mut [u32],
+    spots: &mut [u32],
+    notes: &mut [u32],
+    row: &mut [u32],
     laid: &mut [u32],
     rows: &mut [u32],
     places: &mut [u32],
+    names: &mut [u32],
+    name_places: &mut [u32],
+    literals: &mut [u32],
+    bytes: &mut [u8],
 ) -> Described
     requires { ⌜ (5747 ≤ length (now entries)) × ((821 ≤ length (now stack)) × (320 ≤ length (now laid))) ⌝ }
-    ensures { λ r. ⌜ DescribedBy (now (text .entry)) (now (rows .entry)) (now (places .entry)) r (now (rows .exit)) (now (places .exit)) ⌝ }
+    requires { ⌜ (1152 ≤ length (now named)) × ((64 ≤ length (now spots)) × ((448 ≤ length (now notes)) × (length (now row) ≡ 18))) ⌝ }
+    ensures { λ r. ⌜ DescribedBy (now (text .entry)) (now (rows .entry)) (now (places .entry)) (now (names .entry)) (now («name_places» .entry)) (now (literals .entry)) (now (bytes .entry)) r (now (rows .exit)) (now (places .exit)) (now (names .exit)) (now («name_places» .exit)) (now (literals .exit)) (now (bytes .exit)) ⌝ }
 {
-    let found = read_within(text, entries, stack);
-    let n = found.count;
-    match lay_rows(entries, n, laid) {
+    let found = read_within(text, entries, stack, named, spots, notes, row);
+    let kept = found.names;
+    match sooner_of(lay_rows(entries, found.count, laid), kept) {
         Laid::Over(p) => Described::Faulty(p),
         Laid::Fine => {
             if !found.whole {
                 return Described::Faulty(found.place);
             }
-            give(laid, entries, n, rows, places)
+            give(
+                text,
+                laid,
+                entries,
+                named,
+                spots,
+                notes,
+                found,
+                rows,
+                places,
+                names,
+                name_places,
+                literals,
+                bytes,
+            )
         }
     }
 }
 
 // Reads a record description into item rows, five numbers each, and the place of each row's name or
-// FILLER. A refusal changes neither output.
-pub fn describe(text: &[u8], rows: &mut [u32], places: &mut [u32]) -> Described
-    ensures { λ r. ⌜ DescribedBy (now (text .entry)) (now (rows .entry)) (now (places .entry)) r (now (rows .exit)) (now (places .exit)) ⌝ }
+// FILLER; and its level 88 entries into name rows, 18 numbers each, the place of each name, literal rows
+// and literal bytes. A refusal changes no output.
+pub fn describe(
+    text: &[u8],
+    rows: &mut [u32],
+    places: &mut [u32],
+    names: &mut [u32],
+    name_places: &mut [u32],
+    literals: &mut [u32],
+    bytes: &mut [u8],
+) -> Described
+    ensures { λ r. ⌜ DescribedBy (now (text .entry)) (now (rows .entry)) (now (places .entry)) (now (names .entry)) (now («name_places» .entry)) (now (literals .entry)) (now (bytes .entry)) r (now (rows .exit)) (now (places .exit)) (now (names .exit)) (now («name_places» .exit)) (now (literals .exit)) (now (bytes .exit)) ⌝ }
 {
     let mut entries = [0u32; 5747];
     let mut stack = [0u32; 821];
+    let mut named = [0u32; 1152];
+    let mut spots = [0u32; 64];
+    let mut notes = [0u32; 448];
+    let mut row = [0u32; 18];
     let mut laid = [0u32; 320];
-    describe_with(text, &mut entries, &mut stack, &mut laid, rows, places)
+    describe_with(
+        text,
+        &mut entries,
+        &mut stack,
+        &mut named,
+        &mut spots,
+        &mut notes,
+        &mut row,
+        &mut laid,
+        rows,
+        places,
+        names,
+        name_places,
+        literals,
+        bytes,
+    )
 }

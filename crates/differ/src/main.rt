@@ -20,6 +20,11 @@ const ROW_NUMBERS: usize = 320;
 
 const ROWS: usize = 64;
 
+// The room that any description's condition-names and their literals need, which are not listed.
+const NAME_NUMBERS: usize = 1152;
+
+const LITERAL_BYTES: usize = 4096;
+
 const OUTPUT: usize = 128;
 
 fn list(items: &[u32], first: &[u8], second: &[u8]) {
@@ -43,8 +48,21 @@ fn list_first(items: &[u32]) {
 fn list_described(text: &[u8]) {
     let mut rows = [0u32; ROW_NUMBERS];
     let mut places = [0u32; ROWS];
-    match describe(text, &mut rows, &mut places) {
-        Described::Counts(n, _) => list_first(front(&rows, n)),
+    let mut names = [0u32; NAME_NUMBERS];
+    let mut name_places = [0u32; ROWS];
+    let mut literals = [0u32; ROW_NUMBERS];
+    let mut bytes = [0u8; LITERAL_BYTES];
+    let described = describe(
+        text,
+        &mut rows,
+        &mut places,
+        &mut names,
+        &mut name_places,
+        &mut literals,
+        &mut bytes,
+    );
+    match described {
+        Described::Counts(n, _, _, _, _, _) => list_first(front(&rows, n)),
         Described::Faulty(_) => print::refusal(14),
         Described::Room(_) => print::refusal(10),
     }

@@ -1,6 +1,6 @@
 -- Where words end: within the text, and after where they were looked for.
 use mathlib.Core.Path.{_≡_, refl, sym, ap, _∙_}
-use mathlib.Core.Bool.{Bool, true, false, cond, _&&_}
+use mathlib.Core.Bool.{Bool, true, false, cond, _&&_, _||_}
 use mathlib.Core.Option.{Option, none, some}
 use mathlib.Core.List.{List, [], _∷_}
 use Prim.Native.Nat.{ℕ, zero, suc, _+_, _*_, _-_, _≤_, _<_}
@@ -12,7 +12,7 @@ use lib.ListN.{length, getD, take, drop, length-drop, List·getD-eq-default}
 use Rattle.description.specs.Grammar.{all, any, same, bytes, ended, Picture, Shape, characters, number}
 use Rattle.description.specs.Reader.{isName, isCalled, beginsName, isSome, nothing, pictures, enters, beginsLevel, Groups}
 use Rattle.description.specs.Machine.{after, result}
-use Rattle.description.specs.Stages.{inked, common, met, literalAt, isPeriod, nameReach, nameFrom, nameAt, calledAt, pictureReach, shapeFrom, endedPicture, openPicture, pictured, pictureFrom, pictureAt, sided, sideAt, afterSeparate, afterSide, afterSign, signAt, afterPacked, packedAt, usageAt, afterPicture, afterPic, clausesAt, leveled, levelAt, reach}
+use Rattle.description.specs.Stages.{inked, common, met, literalAt, isPeriod, nameReach, nameFrom, nameAt, calledAt, pictureReach, shapeFrom, endedPicture, openPicture, pictured, pictureFrom, pictureAt, sided, sideAt, afterSeparate, afterSide, afterSign, signAt, afterPacked, packedAt, usageAt, afterPicture, afterPic, clausesAt, isEight, leveled, levelAt, reach}
 use Rattle.description.specs.declared.Reached.{Reached}
 use Rattle.description.specs.declared.Reached.the-variants as Reached
 use Rattle.description.specs.declared.Called.{Called}
@@ -25,7 +25,7 @@ use Rattle.description.specs.declared.Clauses.{Clauses}
 use Rattle.description.specs.declared.Clauses.the-variants as Clauses
 use Rattle.description.specs.declared.Leveled.{Leveled}
 use Rattle.description.specs.declared.Leveled.the-variants as Leveled
-use Rattle.description.proofs.Bytes.{apart}
+use Rattle.description.proofs.Bytes.{apart, and-both}
 use Rattle.description.proofs.Stages.{reach-le}
 use Rattle.description.proofs.Takes.{picture-read}
 use Rattle.words.proofs.Laws.{inked-le, common-le}
@@ -33,7 +33,7 @@ use Rattle.pictures.specs.Drawings.{capPictured}
 use Rattle.levels.proofs.Stack.{digits-of, digit-range}
 use Rattle.entries.specs.Entries.{itemOf, itemAt, calledOf, namedAt}
 use Rattle.entries.specs.declared.EntryRead.{EntryRead}
-use Rattle.entries.specs.declared.EntryRead.the-variants.{Whole, Fault}
+use Rattle.entries.specs.declared.EntryRead.the-variants.{Whole, Name, Fault}
 
 -- A word that was looked for from n on ends within the text, and after n where it is one. A kind is not 0, and no scale is above its digits.
 abbrev pub Reaches : List ℕ → ℕ → Reached → Type 0
@@ -60,6 +60,7 @@ Names text n (Called.Fault k) = k ≤ length text
 
 abbrev pub Wholes : List ℕ → ℕ → EntryRead → Type 0
 Wholes text p (Whole x d k) = (x .scale ≤ x .digits) × ((p + 5 ≤ k) × (k ≤ length text))
+Wholes text p Name = p + 2 ≤ length text
 Wholes text p (Fault k) = k ≤ length text
 
 -- the byte at a place in the text that is no 0
@@ -220,35 +221,56 @@ module _ (text : List ℕ) where
   named-whole l d p h = called-whole l d p (nameAt l text (p + 2)) (name-reaches text (p + 2) h l)
 
 -- A level number has two digits in the text.
-pub level-inside : (g : Groups) (text : List ℕ) (p l : ℕ) → levelAt g text p ≡ Leveled.Level l → p + 2 ≤ length text
-level-inside g text p l e = by (enters g (getD text p 0 ∷ getD text (p + 1) 0 ∷ [])) (beginsLevel g (getD text p 0 ∷ [])) refl e
-  where
-    by : (s t : Bool) → enters g (getD text p 0 ∷ getD text (p + 1) 0 ∷ []) ≡ s → leveled p s t (10 * (getD text p 0 - 0x30) + (getD text (p + 1) 0 - 0x30))
-        ≡ Leveled.Level l → p + 2 ≤ length text
-    by true t h e =
-        let k = digit-range (getD text (p + 1) 0) (digits-of g (getD text p 0) (getD text (p + 1) 0) h .1) in
-        omega (arith, inside text (p + 1) (getD text (p + 1) 0) (omega (arith, k .0)) refl)
-    by false true h e = let z : _≡_ {A = ℕ} 0 1 = cc in absurd (omega arith)
-    by false false h e = let z : _≡_ {A = ℕ} 0 1 = cc in absurd (omega arith)
+module _ (g : Groups) (named : Bool) (text : List ℕ) (p : ℕ) where
+  abbrev a : ℕ
+  a = getD text p 0
 
-pub level-small : (g : Groups) (text : List ℕ) (p l : ℕ) → levelAt g text p ≡ Leveled.Level l → l ≤ 99
-level-small g text p l e = by (enters g (getD text p 0 ∷ getD text (p + 1) 0 ∷ [])) (beginsLevel g (getD text p 0 ∷ [])) refl e
-  where
-    by : (s t : Bool) → enters g (getD text p 0 ∷ getD text (p + 1) 0 ∷ []) ≡ s → leveled p s t (10 * (getD text p 0 - 0x30) + (getD text (p + 1) 0 - 0x30)) ≡ Leveled.Level l → l ≤ 99
-    by true t h e =
-        let d = digits-of g (getD text p 0) (getD text (p + 1) 0) h in
-        let i : 10 * (getD text p 0 - 0x30) + (getD text (p + 1) 0 - 0x30) ≡ l = cc in
-        omega (arith, digit-range (getD text p 0) (d .0), digit-range (getD text (p + 1) 0) (d .1))
-    by false true h e = let z : _≡_ {A = ℕ} 0 1 = cc in absurd (omega arith)
-    by false false h e = let z : _≡_ {A = ℕ} 0 1 = cc in absurd (omega arith)
+  abbrev b : ℕ
+  b = getD text (p + 1) 0
 
-pub leveled-le : (g : Groups) (text : List ℕ) (p k : ℕ) → p < length text → levelAt g text p ≡ Leveled.Fault k → k ≤ length text
-leveled-le g text p k l e = by (enters g (getD text p 0 ∷ getD text (p + 1) 0 ∷ [])) (beginsLevel g (getD text p 0 ∷ [])) e
-  where
-    by : (s t : Bool) → leveled p s t (10 * (getD text p 0 - 0x30) + (getD text (p + 1) 0 - 0x30)) ≡ Leveled.Fault k → k ≤ length text
-    by true t e = let z : _≡_ {A = ℕ} 0 1 = cc in absurd (omega arith)
-    by false true e = let i : p + 1 ≡ k = cc in omega arith
-    by false false e = let i : p ≡ k = cc in omega arith
+  abbrev opens : Bool
+  opens = beginsLevel g (a ∷ []) || (named && isEight a)
+
+  pub level-inside : (l : ℕ) → levelAt g named text p ≡ Leveled.Level l → p + 2 ≤ length text
+  level-inside l e = by (enters g (a ∷ b ∷ [])) (named && (isEight a && isEight b)) opens refl e
+    where
+      by : (s n t : Bool) → enters g (a ∷ b ∷ []) ≡ s → leveled p s n t (10 * (a - 0x30) + (b - 0x30)) ≡ Leveled.Level l → p + 2 ≤ length text
+      by true n t h e = let k = digit-range b (digits-of g a b h .1) in omega (arith, inside text (p + 1) b (omega (arith, k .0)) refl)
+      by false true t h e = let z : _≡_ {A = ℕ} 0 1 = cc in absurd (omega arith)
+      by false false true h e = let z : _≡_ {A = ℕ} 0 1 = cc in absurd (omega arith)
+      by false false false h e = let z : _≡_ {A = ℕ} 0 1 = cc in absurd (omega arith)
+
+  pub name-inside : levelAt g named text p ≡ Leveled.Name → p + 2 ≤ length text
+  name-inside e = by (enters g (a ∷ b ∷ [])) (named && (isEight a && isEight b)) opens refl e
+    where
+      by : (s n t : Bool) → named && (isEight a && isEight b) ≡ n → leveled p s n t (10 * (a - 0x30) + (b - 0x30)) ≡ Leveled.Name → p + 2 ≤ length text
+      by true n t h e = let z : _≡_ {A = ℕ} 0 1 = cc in absurd (omega arith)
+      by false true t h e =
+          let k = and-both (isEight a) (isEight b) (and-both named (isEight a && isEight b) h .1) in
+          omega (arith, inside text (p + 1) b (omega (arith, eqb-true b 0x38 (k .1))) refl)
+      by false false true h e = let z : _≡_ {A = ℕ} 0 1 = cc in absurd (omega arith)
+      by false false false h e = let z : _≡_ {A = ℕ} 0 1 = cc in absurd (omega arith)
+
+  pub level-small : (l : ℕ) → levelAt g named text p ≡ Leveled.Level l → l ≤ 99
+  level-small l e = by (enters g (a ∷ b ∷ [])) (named && (isEight a && isEight b)) opens refl e
+    where
+      by : (s n t : Bool) → enters g (a ∷ b ∷ []) ≡ s → leveled p s n t (10 * (a - 0x30) + (b - 0x30)) ≡ Leveled.Level l → l ≤ 99
+      by true n t h e =
+          let d = digits-of g a b h in
+          let i : 10 * (a - 0x30) + (b - 0x30) ≡ l = cc in
+          omega (arith, digit-range a (d .0), digit-range b (d .1))
+      by false true t h e = let z : _≡_ {A = ℕ} 0 1 = cc in absurd (omega arith)
+      by false false true h e = let z : _≡_ {A = ℕ} 0 1 = cc in absurd (omega arith)
+      by false false false h e = let z : _≡_ {A = ℕ} 0 1 = cc in absurd (omega arith)
+
+  pub leveled-le : (k : ℕ) → p < length text → levelAt g named text p ≡ Leveled.Fault k → k ≤ length text
+  leveled-le k l e = by (enters g (a ∷ b ∷ [])) (named && (isEight a && isEight b)) opens e
+    where
+      by : (s n t : Bool) → leveled p s n t (10 * (a - 0x30) + (b - 0x30)) ≡ Leveled.Fault k → k ≤ length text
+      by true n t e = let z : _≡_ {A = ℕ} 0 1 = cc in absurd (omega arith)
+      by false true t e = let z : _≡_ {A = ℕ} 0 1 = cc in absurd (omega arith)
+      by false false true e = let i : p + 1 ≡ k = cc in omega arith
+      by false false false e = let i : p ≡ k = cc in omega arith
 
 -- With counts that stop, the same place.
 pub number-le : (text : List ℕ) (n : ℕ) {s : Bool} {i j k : ℕ} {x : Pictured} (y : Pictured) → x ≡ capPictured y → x ≡ Pictured.Number s i j k → Draws text n y → k ≤ length text

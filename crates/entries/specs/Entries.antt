@@ -1,5 +1,5 @@
 -- Entries as the code reads them: exact, and with counts that stop at 65,536.
-use mathlib.Core.Bool.{cond}
+use mathlib.Core.Bool.{Bool, cond}
 use mathlib.Core.List.{List}
 use Prim.Native.Nat.{ℕ, _+_, min}
 use lib.Dec.{eqb}
@@ -17,7 +17,7 @@ use Rattle.levels.specs.declared.Entered.the-variants.{Depth, Not}
 use Rattle.levels.specs.Stack.{groupsOf, enteredBy}
 use Rattle.entries.specs.declared.Noted.{Noted}
 use Rattle.entries.specs.declared.EntryRead.{EntryRead}
-use Rattle.entries.specs.declared.EntryRead.the-variants.{Whole, Fault}
+use Rattle.entries.specs.declared.EntryRead.the-variants.{Whole, Name, Fault}
 
 abbrev pub cap : ℕ → ℕ
 cap n = min n 65536
@@ -61,17 +61,19 @@ enteredAt text l p Not = Fault p
 
 abbrev pub leveledAt : List ℕ → ℕ → ℕ → List ℕ → ℕ → Leveled → EntryRead
 leveledAt stack depth waiting text p (Leveled.Level l) = enteredAt text l p (enteredBy stack depth waiting l)
+leveledAt stack depth waiting text p Leveled.Name = Name
 leveledAt stack depth waiting text p (Leveled.Fault k) = Fault k
 
 -- the entry at p
-abbrev pub entryAt : List ℕ → ℕ → ℕ → List ℕ → ℕ → EntryRead
-entryAt stack depth waiting text p = leveledAt stack depth waiting text p (levelAt (groupsOf stack depth waiting) text p)
+abbrev pub entryAt : List ℕ → ℕ → ℕ → Bool → List ℕ → ℕ → EntryRead
+entryAt stack depth waiting named text p = leveledAt stack depth waiting text p (levelAt (groupsOf stack depth waiting) named text p)
 
 abbrev pub capNoted : Noted → Noted
 capNoted x = noted (x .level) (x .place) (x .named) (x .kind) (cap (x .size)) (cap (x .scale)) (cap (x .digits))
 
 abbrev pub capEntry : EntryRead → EntryRead
 capEntry (Whole x d k) = Whole (capNoted x) d k
+capEntry Name = Name
 capEntry (Fault k) = Fault k
 
 -- The entry that was noted: kind 0 is a group.

@@ -69,16 +69,24 @@ fn named_at(text: &[u8], level: u32, depth: usize, p: usize) -> EntryRead
     }
 }
 
-// The entry at p.
-pub fn entry_at(stack: &[u32], depth: usize, waiting: u32, text: &[u8], p: usize) -> EntryRead
+// The entry at p. `named`: 88 may stand here.
+pub fn entry_at(
+    stack: &[u32],
+    depth: usize,
+    waiting: u32,
+    named: bool,
+    text: &[u8],
+    p: usize,
+) -> EntryRead
     requires { ⌜ (depth ≤ length (now stack)) × ((p < length (now text)) × (length (now text) ≤ 4096)) ⌝ }
-    ensures { λ r. ⌜ r ≡ capEntry (entryAt (now (stack .entry)) depth waiting (now (text .entry)) p) ⌝ }
+    ensures { λ r. ⌜ r ≡ capEntry (entryAt (now (stack .entry)) depth waiting named (now (text .entry)) p) ⌝ }
 {
-    match level_at(stack, depth, waiting, text, p) {
+    match level_at(stack, depth, waiting, named, text, p) {
         Leveled::Level(level) => match enter(stack, depth, waiting, level) {
             Entered::Depth(d) => named_at(text, level, d, p),
             Entered::Not => EntryRead::Fault(p),
         },
+        Leveled::Name => EntryRead::Name,
         Leveled::Fault(k) => EntryRead::Fault(k),
     }
 }

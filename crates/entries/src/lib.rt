@@ -14,8 +14,10 @@ pub struct Noted {
     pub digits: u32,
 }
 
-// A whole entry, how many groups are open at it, and where its period ends; or the first faulty byte.
+// A whole entry of an item, how many groups are open at it, and where its period ends; level 88; or the
+// first faulty byte.
 pub enum EntryRead {
     Whole(Noted, usize, usize),
+    Name,
     Fault(usize),
 }

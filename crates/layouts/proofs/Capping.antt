@@ -9,11 +9,13 @@ use borrow.Author.Tests.{leb-true, leb-false, le-leb, lt-leb}
 use lib.Dec.{eqb, leb, ltb}
 use Rattle.description.specs.Grammar.{Row, row, Entry, group, item, isSigned, groupKind}
 use Rattle.description.specs.Reader.{sizeOf, belongs, below, signedBelow, rowOf, layout}
-use Rattle.description.specs.Limits.{most, over, firstOver}
+use Rattle.description.specs.Limits.{most, over, itemMarks}
+use Rattle.description.specs.Stages as F
 use Rattle.description.proofs.Bytes.{apart}
 use Rattle.entries.specs.declared.Noted.{Noted}
 use Rattle.entries.specs.Entries.{cap, capNoted, contentOf, entryOf}
 use Rattle.describer.specs.Stored.{Scaled}
+use Rattle.layouts.specs.Layouts.{firstOver}
 use Rattle.layouts.proofs.Laying.{most-le, not-over}
 
 abbrev exact : List Noted → List Entry
@@ -132,3 +134,10 @@ rows-same n o (y ∷ ys) s e = by (over n (rowOfNoted o y (exact ys))) refl e (r
         let j : rowOfNoted o y (exact ys) ≡ rowOfNoted o (capNoted y) (capped ys) = k .0 in
         let m : layout (o + own y) (exact ys) ≡ layout (o + own (capNoted y)) (capped ys) = f e ∙ ap (λ (z : ℕ). layout (o + z) (capped ys)) i in
         cc
+
+-- It is the first of the marks.
+pub first-marks : (n : ℕ) (es : List Entry) (rs : List Row) → F.firstOver (itemMarks n es rs) ≡ firstOver n es rs
+unfolding F.firstOver firstOver itemMarks
+first-marks n [] rs = refl
+first-marks n (e ∷ es) [] = refl
+first-marks n (e ∷ es) (r ∷ rs) = ap (cond (over n r) (some (e .place))) (first-marks (suc n) es rs)

@@ -12,11 +12,11 @@ use lib.ListN.{length, getD, take, drop, set, length-take, length-append}
 use lib.Seq.{sets, sets-eq, take-append-le, take-at, length-take-le, take-add, length-sets}
 use Rattle.description.specs.Grammar.{Row, row, Entry, group, item, isSigned, groupKind}
 use Rattle.description.specs.Reader.{sizeOf, below, signedBelow, rowOf, layout}
-use Rattle.description.specs.Limits.{most, over, passes, firstOver}
+use Rattle.description.specs.Limits.{most, over, passes}
 use Rattle.description.proofs.Bytes.{apart, eqb-no, leb-so, leb-no}
 use Rattle.entries.specs.Entries.{contentOf, entryOf}
 use Rattle.describer.specs.Stored.{notedAt, notedFrom}
-use Rattle.layouts.specs.Layouts.{shownRow, entriesIn, Sized, Signed, Summed, rowIn, numbersOf, rowNumbers, overPlace, LaidOut}
+use Rattle.layouts.specs.Layouts.{firstOver, shownRow, entriesIn, Sized, Signed, Summed, rowIn, numbersOf, rowNumbers, overPlace, LaidOut}
 use Rattle.layouts.specs.declared.ItemRow.{ItemRow}
 use Rattle.layouts.specs.declared.Laid.{Laid}
 use Rattle.layouts.specs.declared.Laid.the-variants.{Over, Fine}

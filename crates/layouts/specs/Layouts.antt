@@ -1,13 +1,13 @@
 -- Rows of the entries in a buffer.
 use mathlib.Core.Path.{_≡_}
-use mathlib.Core.Bool.{Bool}
+use mathlib.Core.Bool.{Bool, cond}
 use mathlib.Core.Option.{Option, none, some}
 use mathlib.Core.List.{List, [], _∷_, _++_, map}
 use Prim.Native.Nat.{ℕ, suc, _+_, _*_, _-_, _≤_}
 use lib.ListN.{length, take}
 use Rattle.description.specs.Grammar.{Row, row, Entry, isSigned}
 use Rattle.description.specs.Reader.{sizeOf, below, signedBelow, rowOf, layout}
-use Rattle.description.specs.Limits.{firstOver}
+use Rattle.description.specs.Limits.{over}
 use Rattle.entries.specs.Entries.{entryOf}
 use Rattle.describer.specs.Stored.{notedAt, notedFrom}
 use Rattle.layouts.specs.declared.ItemRow.{ItemRow}
@@ -51,6 +51,12 @@ rowNumbers (r ∷ rs) = numbersOf r ++ rowNumbers rs
 abbrev pub overPlace : Laid → Option ℕ
 overPlace (Over p) = some p
 overPlace Fine = none
+
+-- the place of the first entry over a limit, with n rows before these
+unfoldable pub firstOver : ℕ → List Entry → List Row → Option ℕ
+firstOver n [] rs = none
+firstOver n (e ∷ es) [] = none
+firstOver n (e ∷ es) (r ∷ rs) = cond (over n r) (some (e .place)) (firstOver (suc n) es rs)
 
 -- The place of the first entry over a limit; where there is none, the rows.
 pub record LaidOut (flat : List ℕ) (n : ℕ) (r : Laid) (rows : List ℕ) : Type 0 where

@@ -6,14 +6,14 @@ use mathlib.Core.List.{List, [], _∷_}
 use Prim.Native.Nat.{ℕ, zero, suc, _+_, _*_, _-_, _≤_, _<_}
 use native.Mathlib.Omega.{arith}
 use native.Mathlib.Numerals.{add-one}
-use borrow.Author.Tests.{eqb-true, leb-true}
+use borrow.Author.Tests.{eqb-true, leb-true, le-ltb, lt-ltb}
 use lib.Dec.{eqb, leb, ltb}
 use lib.ListN.{length, getD, set}
 use lib.Seq.{getD-set-same, getD-set-other}
 use Rattle.description.specs.Machine.{bind}
 use Rattle.description.specs.Grammar.{isDigit}
 use Rattle.description.specs.Reader.{isSome, given, readLevel, back, enter, enters, beginsLevel, someBelow, Groups, awaiting, inside}
-use Rattle.description.specs.Stages.{levelAt, leveled}
+use Rattle.description.specs.Stages.{isEight, levelAt, leveled}
 use Rattle.description.specs.declared.Leveled.{Leveled}
 use Rattle.description.specs.declared.Leveled.the-variants as Leveled
 use Rattle.description.proofs.Bytes.{apart, and-both, eqb-no, eqb-same}
@@ -92,10 +92,13 @@ enters-none g a b h = rw h
 pub enters-no-second : (g : Groups) (a b : ℕ) → isDigit a ≡ true → isDigit b ≡ false → false ≡ enters g (a ∷ b ∷ [])
 enters-no-second g a b h k = rw (h, k)
 
-module _ (stack : List ℕ) (depth waiting a b l : ℕ) (h : isDigit a ≡ true) (k : isDigit b ≡ true) (e : l ≡ 10 * (a - 0x30) + (b - 0x30)) {x : Entered}
+pub enters-none-88 : (g : Groups) (a b l : ℕ) → isDigit a ≡ true → isDigit b ≡ true → l ≡ 10 * (a - 0x30) + (b - 0x30) → 88 ≤ l → false ≡ enters g (a ∷ b ∷ [])
+enters-none-88 g a b l h k e m = rw (h, k, ← e, le-ltb l 88 m)
+
+module _ (stack : List ℕ) (depth waiting a b l : ℕ) (h : isDigit a ≡ true) (k : isDigit b ≡ true) (e : l ≡ 10 * (a - 0x30) + (b - 0x30)) (m : l < 88) {x : Entered}
     (f : x ≡ enteredBy stack depth waiting l) where
   enters-is : isSome (toppedBy stack l x) ≡ enters (groupsOf stack depth waiting) (a ∷ b ∷ [])
-  enters-is = rw (h, k, ← e, enter-is stack depth waiting l, f)
+  enters-is = rw (h, k, ← e, lt-ltb l 88 m, enter-is stack depth waiting l, f)
 
   pub enters-yes : {d : ℕ} → x ≡ Depth d → true ≡ enters (groupsOf stack depth waiting) (a ∷ b ∷ [])
   enters-yes i = rw i at enters-is
@@ -104,10 +107,11 @@ module _ (stack : List ℕ) (depth waiting a b l : ℕ) (h : isDigit a ≡ true)
   enters-no i = rw i at enters-is
 
 pub digits-of : (g : Groups) (a b : ℕ) → enters g (a ∷ b ∷ []) ≡ true → (isDigit a ≡ true) × (isDigit b ≡ true)
-digits-of g a b h = by (isDigit a && isDigit b) refl h
+digits-of g a b h = by (isDigit a && isDigit b && ltb (10 * (a - 0x30) + (b - 0x30)) 88) refl h
   where
-    by : (t : Bool) → isDigit a && isDigit b ≡ t → isSome (bind (given t (10 * (a - 0x30) + (b - 0x30))) (enter g)) ≡ true → (isDigit a ≡ true) × (isDigit b ≡ true)
-    by true e h = and-both (isDigit a) (isDigit b) e
+    by : (t : Bool) → isDigit a && isDigit b && ltb (10 * (a - 0x30) + (b - 0x30)) 88 ≡ t →
+        isSome (bind (given t (10 * (a - 0x30) + (b - 0x30))) (enter g)) ≡ true → (isDigit a ≡ true) × (isDigit b ≡ true)
+    by true e h = and-both (isDigit a) (isDigit b) (and-both (isDigit a && isDigit b) (ltb (10 * (a - 0x30) + (b - 0x30)) 88) e .0)
     by false e h = apart h refl
 
 pub digit-range : (b : ℕ) → isDigit b ≡ true → (0x30 ≤ b) × (b ≤ 0x39)
@@ -136,15 +140,20 @@ second-none g a zero h e = sym e
 second-none g a (suc n) h e = absurd (omega arith)
 
 -- A level number.
-module _ (g : Groups) (text : List ℕ) (p : ℕ) {a b : ℕ} (e : a ≡ getD text p 0) (f : b ≡ getD text (p + 1) 0) where
-  pub level-yes : {l : ℕ} → enters g (a ∷ b ∷ []) ≡ true → l ≡ 10 * (a - 0x30) + (b - 0x30) → Leveled.Level l ≡ levelAt g text p
+module _ (g : Groups) (named : Bool) (text : List ℕ) (p : ℕ) {a b : ℕ} (e : a ≡ getD text p 0) (f : b ≡ getD text (p + 1) 0) where
+  pub level-yes : {l : ℕ} → enters g (a ∷ b ∷ []) ≡ true → l ≡ 10 * (a - 0x30) + (b - 0x30) → Leveled.Level l ≡ levelAt g named text p
   level-yes h k = rw (← e, ← f, h, k)
 
-  pub level-second : enters g (a ∷ b ∷ []) ≡ false → beginsLevel g (a ∷ []) ≡ true → Leveled.Fault (p + 1) ≡ levelAt g text p
-  level-second h k = rw (← e, ← f, h, k)
+  pub level-name : enters g (a ∷ b ∷ []) ≡ false → named && (isEight a && isEight b) ≡ true → Leveled.Name ≡ levelAt g named text p
+  level-name h k = rw (← e, ← f, h, k)
 
-  pub level-first : enters g (a ∷ b ∷ []) ≡ false → beginsLevel g (a ∷ []) ≡ false → Leveled.Fault p ≡ levelAt g text p
-  level-first h k = rw (← e, ← f, h, k)
+  pub level-second : enters g (a ∷ b ∷ []) ≡ false → named && (isEight a && isEight b) ≡ false → beginsLevel g (a ∷ []) || (named && isEight a) ≡ true →
+      Leveled.Fault (p + 1) ≡ levelAt g named text p
+  level-second h k m = rw (← e, ← f, h, k, m)
+
+  pub level-first : enters g (a ∷ b ∷ []) ≡ false → named && (isEight a && isEight b) ≡ false → beginsLevel g (a ∷ []) || (named && isEight a) ≡ false →
+      Leveled.Fault p ≡ levelAt g named text p
+  level-first h k m = rw (← e, ← f, h, k, m)
 
 -- A level number that is stored leaves those below it.
 opened-set : (stack : List ℕ) (i v d : ℕ) → d ≤ i → opened (set stack i v) d ≡ opened stack d

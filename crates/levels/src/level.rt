@@ -38,7 +38,11 @@ fn enters_with(stack: &[u32], depth: usize, waiting: u32, a: u8, b: u8) -> bool
     if !is_digit(b) {
         return false;
     }
-    match enter(stack, depth, waiting, two_digits(a, b)) {
+    let level = two_digits(a, b);
+    if 88 <= level {
+        return false;
+    }
+    match enter(stack, depth, waiting, level) {
         Entered::Depth(_) => true,
         Entered::Not => false,
     }
@@ -59,17 +63,27 @@ fn begins_with(stack: &[u32], depth: usize, waiting: u32, a: u8) -> bool
     false
 }
 
-// The level number at place p.
-pub fn level_at(stack: &[u32], depth: usize, waiting: u32, text: &[u8], p: usize) -> Leveled
+// The level number at place p. `named`: 88 may stand here.
+pub fn level_at(
+    stack: &[u32],
+    depth: usize,
+    waiting: u32,
+    named: bool,
+    text: &[u8],
+    p: usize,
+) -> Leveled
     requires { ⌜ (depth ≤ length (now stack)) × (p < length (now text)) ⌝ }
-    ensures { λ r. ⌜ r ≡ levelAt (groupsOf (now (stack .entry)) depth waiting) (now (text .entry)) p ⌝ }
+    ensures { λ r. ⌜ r ≡ levelAt (groupsOf (now (stack .entry)) depth waiting) named (now (text .entry)) p ⌝ }
 {
     let a = byte_at(text, p);
     let b = byte_at(text, p + 1);
     if enters_with(stack, depth, waiting, a, b) {
         return Leveled::Level(two_digits(a, b));
     }
-    if begins_with(stack, depth, waiting, a) {
+    if named & ((a == 0x38) & (b == 0x38)) {
+        return Leveled::Name;
+    }
+    if begins_with(stack, depth, waiting, a) | (named & (a == 0x38)) {
         return Leveled::Fault(p + 1);
     }
     Leveled::Fault(p)

@@ -10,6 +10,7 @@ use lib.ListN.{length, take, drop, set, length-take, length-drop}
 use lib.Seq.{take-suc-set, append-snoc}
 use borrow.Author.Tests.{lt-ltb, le-ltb}
 use Rattle.tables.specs.declared.Row.{Row}
+use Rattle.spelling.specs.Names.{Known}
 use Rattle.spelling.specs.Literals.{Literal, rowOfLiteral, laid}
 use Rattle.spelling.specs.Keywords.{Piece as Spelt, token, literal, fault}
 use Rattle.spelling.specs.Reading.{Placed, placed, pieces, Found, none, refusal, before, faultAt, after, firstFault, tokensFrom, rowsFrom, bytesOf}
@@ -20,7 +21,7 @@ use Rattle.senses.specs.declared.Piece.{Piece}
 use Rattle.senses.specs.Senses.{metOf}
 use Rattle.lexer.specs.declared.Gathered.{Gathered}
 use Rattle.lexer.specs.declared.Stepped.the-variants.{On, Fault}
-use Rattle.lexer.specs.Gathers.{left, leftPieces, overAt, movedTo, Made, MadeBy, Gathers, Ready, Meets, withToken, withLiteral, LiteralRoom, LiteralLaid, Steps}
+use Rattle.lexer.specs.Gathers.{left, leftPieces, overAt, movedTo, Made, MadeBy, Total, Gathers, Bounds, Ready, Meets, withToken, withLiteral, LiteralRoom, LiteralLaid, Steps}
 use Rattle.lexer.proofs.Writing.{over-front}
 
 -- the first piece of what is left
@@ -56,32 +57,32 @@ fault-next n x xs = refl
 joined : (whole old new rest : List ℕ) → whole ≡ old ++ (new ++ rest) → whole ≡ (old ++ new) ++ rest
 joined whole old new rest e = e ∙ sym (append-assoc old new rest)
 
-module _ {names : List (List ℕ)} {text : List ℕ} {g : Gathered} {tokens rows bytes : List ℕ} (R : Ready names text g tokens rows bytes) {at end : ℕ} {r : Piece}
-    (M : Meets names text (g .past) at end r) where
-  G : Gathers names text g tokens rows bytes
-  G = R .gathers
+module _ {known : Known} {text : List ℕ} {g : Gathered} {tokens rows bytes : List ℕ} (R : Ready text g tokens rows bytes) {at end : ℕ} {r : Piece}
+    (M : Meets known text (g .past) at end r) where
+  B : Bounds text g
+  B = R .bounds
 
   inside : (at < length text) × (g .past < r .past)
   inside = (omega (arith, M .some, M .inside, M .within), omega (arith, M .not-before, M .some, M .inside))
 
-  pieces-next : (s : Spelt) → M .spelt ≡ s → leftPieces names text (g .past) ≡ s ∷ leftPieces names text (r .past)
-  pieces-next s e = ap (map (λ (x : Placed). x .piece)) (M .next) ∙ ap (λ (p : Spelt). p ∷ leftPieces names text (r .past)) e
+  pieces-next : (s : Spelt) → M .spelt ≡ s → leftPieces known text (g .past) ≡ s ∷ leftPieces known text (r .past)
+  pieces-next s e = ap (map (λ (x : Placed). x .piece)) (M .next) ∙ ap (λ (p : Spelt). p ∷ leftPieces known text (r .past)) e
 
-  faults : (s : Spelt) → M .spelt ≡ s
-      → firstFault 0 (placed names text) ≡ before (faultAt (g .literals) at s) (firstFault (after (g .literals) s) (left names text (r .past)))
-  faults s e =
+  faults : (w : Total) (G : Gathers known text w g tokens rows bytes) (s : Spelt) → M .spelt ≡ s
+      → w .fault ≡ before (faultAt (g .literals) at s) (firstFault (after (g .literals) s) (left known text (r .past)))
+  faults w G s e =
       G .fault-is ∙ ap (firstFault (g .literals)) (M .next)
-      ∙ fault-next (g .literals) (record { place = at; piece = M .spelt }) (left names text (r .past))
-      ∙ ap (λ (p : Spelt). before (faultAt (g .literals) at p) (firstFault (after (g .literals) p) (left names text (r .past)))) e
+      ∙ fault-next (g .literals) (record { place = at; piece = M .spelt }) (left known text (r .past))
+      ∙ ap (λ (p : Spelt). before (faultAt (g .literals) at p) (firstFault (after (g .literals) p) (left known text (r .past)))) e
 
-  faulty-step : {number : ℕ} → r .met ≡ MetFault number → (s : Spelt) → M .spelt ≡ s → Steps names text g (Fault number at) tokens rows bytes
+  faulty-step : {number : ℕ} → r .met ≡ MetFault number → (s : Spelt) → M .spelt ≡ s → Steps known text g tokens rows bytes (Fault number at) tokens rows bytes
   faulty-step {number} f (fault n) e =
       let z : n ≡ number = let q : metOf (fault n) ≡ MetFault number = ap metOf (sym e) ∙ sym (M .met) ∙ f in cc in
-      record { gives = (faults (fault n) e ∙ rw z, inside .0) }
+      record { gives = (λ w G. faults w G (fault n) e ∙ rw z, inside .0) }
   faulty-step {number} f (token t) e = let q : metOf (token t) ≡ MetFault number = ap metOf (sym e) ∙ sym (M .met) ∙ f in let z : _≡_ {A = ℕ} 0 1 = cc in absurd (omega arith)
   faulty-step {number} f (literal l) e = let q : metOf (literal l) ≡ MetFault number = ap metOf (sym e) ∙ sym (M .met) ∙ f in let z : _≡_ {A = ℕ} 0 1 = cc in absurd (omega arith)
 
-  pub fault-step : {number : ℕ} → r .met ≡ MetFault number → Steps names text g (Fault number at) tokens rows bytes
+  pub fault-step : {number : ℕ} → r .met ≡ MetFault number → Steps known text g tokens rows bytes (Fault number at) tokens rows bytes
   fault-step f = faulty-step f (M .spelt) refl
 
   -- a token
@@ -90,31 +91,35 @@ module _ {names : List (List ℕ)} {text : List ℕ} {g : Gathered} {tokens rows
   token-is {t} f (literal l) e = let q : metOf (literal l) ≡ MetToken t = ap metOf (sym e) ∙ sym (M .met) ∙ f in cc
   token-is {t} f (fault n) e = let q : metOf (fault n) ≡ MetToken t = ap metOf (sym e) ∙ sym (M .met) ∙ f in cc
 
-  stored : (t : ℕ) (rest : List ℕ) → tokensFrom 0 (pieces names text) ≡ take (g .tokens) tokens ++ t ∷ rest
-      → tokensFrom 0 (pieces names text) ≡ take (g .tokens + 1) (set tokens (g .tokens) t) ++ rest
-  stored t rest e =
-      let h : g .tokens < length tokens = omega (arith, G .few-tokens, R .soon, R .rooms .tokens-room) in
+  stored : (whole : List ℕ) (t : ℕ) (rest : List ℕ) → whole ≡ take (g .tokens) tokens ++ t ∷ rest
+      → whole ≡ take (g .tokens + 1) (set tokens (g .tokens) t) ++ rest
+  stored whole t rest e =
+      let h : g .tokens < length tokens = omega (arith, B .few-tokens, R .soon, R .rooms .tokens-room) in
       e ∙ sym (append-assoc (take (g .tokens) tokens) (t ∷ []) rest)
       ∙ ap (λ (v : List ℕ). v ++ rest) (sym (ap (λ (n : ℕ). take n (set tokens (g .tokens) t)) (add-one (g .tokens)) ∙ take-suc-set tokens (g .tokens) t h))
 
   pub token-step : {t : ℕ} {res : Gathered} {after : List ℕ} → r .met ≡ MetToken t → res ≡ withToken g (r .past) → after ≡ set tokens (g .tokens) t
-      → Steps names text g (On res) after rows bytes
+      → Steps known text g tokens rows bytes (On res) after rows bytes
   token-step {t} f q w =
       let e = token-is f (M .spelt) refl in
-      let ps = leftPieces names text (r .past) in
+      let ps = leftPieces known text (r .past) in
       let n = pieces-next (token t) e in
       rw (q, w)
       record {
         gives = (
+          λ w G.
+              record {
+                tokens-are = stored (w .tokens) t (tokensFrom (g .literals) ps) (G .tokens-are ∙ ap (λ (v : List ℕ). take (g .tokens) tokens ++ v) (ap (tokensFrom (g .literals)) n
+                    ∙ tokens-next (g .literals) t ps));
+                rows-are = G .rows-are ∙ ap (λ (v : List ℕ). take (g .literals * 5) rows ++ v) (ap (rowsFrom (g .bytes)) n ∙ rows-next (g .bytes) t ps);
+                bytes-are = G .bytes-are ∙ ap (λ (v : List ℕ). take (g .bytes) bytes ++ v) (ap bytesOf n ∙ bytes-next t ps);
+                fault-is = faults w G (token t) e;
+              },
           record {
             within = M .within;
-            few-tokens = omega (arith, G .few-tokens, inside .1);
-            few-literals = G .few-literals;
-            few-bytes = omega (arith, G .few-bytes, inside .1);
-            tokens-are = stored t (tokensFrom (g .literals) ps) (G .tokens-are ∙ ap (λ (v : List ℕ). take (g .tokens) tokens ++ v) (ap (tokensFrom (g .literals)) n ∙ tokens-next (g .literals) t ps));
-            rows-are = G .rows-are ∙ ap (λ (v : List ℕ). take (g .literals * 5) rows ++ v) (ap (rowsFrom (g .bytes)) n ∙ rows-next (g .bytes) t ps);
-            bytes-are = G .bytes-are ∙ ap (λ (v : List ℕ). take (g .bytes) bytes ++ v) (ap bytesOf n ∙ bytes-next t ps);
-            fault-is = faults (token t) e;
+            few-tokens = omega (arith, B .few-tokens, inside .1);
+            few-literals = B .few-literals;
+            few-bytes = omega (arith, B .few-bytes, inside .1);
           },
           inside .1,
         );
@@ -138,10 +143,10 @@ module _ {names : List (List ℕ)} {text : List ℕ} {g : Gathered} {tokens rows
   literally f = literal-by f (M .spelt) refl (M .made)
 
   -- the 65th
-  pub full-step : {row : Row} → r .met ≡ MetLiteral row → 64 ≤ g .literals → Steps names text g (Fault 15 at) tokens rows bytes
+  pub full-step : {row : Row} → r .met ≡ MetLiteral row → 64 ≤ g .literals → Steps known text g tokens rows bytes (Fault 15 at) tokens rows bytes
   full-step f h =
       let L = literally f in
-      record { gives = (faults (literal (L .l)) (L .is) ∙ rw (le-ltb (g .literals) 64 h), inside .0) }
+      record { gives = (λ w G. faults w G (literal (L .l)) (L .is) ∙ rw (le-ltb (g .literals) 64 h), inside .0) }
 
   pub literal-room : {row : Row} → r .met ≡ MetLiteral row → g .literals < 64 → LiteralRoom row (between text at end) g tokens rows bytes
   literal-room {row} f h =
@@ -149,24 +154,24 @@ module _ {names : List (List ℕ)} {text : List ℕ} {g : Gathered} {tokens rows
       let size : length (L .l .bytes) ≡ row .size = ap (λ (x : Row). x .size) (L .row-is) in
       let kind : L .l .kind ≡ row .kind = ap (λ (x : Row). x .kind) (L .row-is) in
       record {
-        token-room = omega (arith, G .few-tokens, R .soon, R .rooms .tokens-room);
+        token-room = omega (arith, B .few-tokens, R .soon, R .rooms .tokens-room);
         few = h;
         row-room = omega (arith, R .rooms .rows-room);
-        near = omega (arith, G .few-bytes, R .soon);
-        room = omega (arith, G .few-bytes, R .soon, R .rooms .bytes-room, L .made .small, size);
+        near = omega (arith, B .few-bytes, R .soon);
+        room = omega (arith, B .few-bytes, R .soon, R .rooms .bytes-room, L .made .small, size);
         size = sym (ap (λ (k : ℕ). length (literalBy k (between text at end) .bytes)) kind) ∙ sym (ap (λ (x : Literal). length (x .bytes)) (L .made .by)) ∙ size;
         small = omega (arith, L .made .small, size);
         quoted = λ q. L .made .quoted (kind ∙ q);
       }
 
   pub literal-step : {row : Row} {res : Gathered} {t w b : List ℕ} → r .met ≡ MetLiteral row → g .literals < 64
-      → LiteralLaid row (between text at end) g (r .past) tokens rows bytes res t w b → Steps names text g (On res) t w b
+      → LiteralLaid row (between text at end) g (r .past) tokens rows bytes res t w b → Steps known text g tokens rows bytes (On res) t w b
   literal-step {row} f h D =
       let L = literally f in
       let l : Literal = L .l in
       let v : ℕ = g .literals in
       let o : ℕ = g .bytes in
-      let ps : List Spelt = leftPieces names text (r .past) in
+      let ps : List Spelt = leftPieces known text (r .past) in
       let n = pieces-next (literal l) (L .is) in
       let one : v + 1 ≡ suc v = add-one v in
       let size : length (l .bytes) ≡ row .size = ap (λ (x : Row). x .size) (L .row-is) in
@@ -176,30 +181,33 @@ module _ {names : List (List ℕ)} {text : List ℕ} {g : Gathered} {tokens rows
       let the-row : movedTo o row ≡ rowOfLiteral o l = ap (movedTo o) (sym (L .row-is)) in
       let wide : length (between text at end) ≤ end - at = omega (arith, length-take (end - at) (drop at text)) in
       let rows-wide : v * 5 ≤ length rows = omega (arith, R .rooms .rows-room) in
-      let bytes-wide : o ≤ length bytes = omega (arith, G .few-bytes, R .soon, R .rooms .bytes-room) in
+      let bytes-wide : o ≤ length bytes = omega (arith, B .few-bytes, R .soon, R .rooms .bytes-room) in
       let four : v * 5 + 5 ≡ (v + 1) * 5 = omega arith in
       rw (D .counts, D .token-laid, D .row-laid, D .bytes-laid, the-bytes, the-row)
       record {
         gives = (
+          λ u G.
+              record {
+                tokens-are =
+                    stored (u .tokens) (65536 + v) (tokensFrom (v + 1) ps)
+                    (G .tokens-are ∙ ap (λ (x : List ℕ). take (g .tokens) tokens ++ x) (ap (tokensFrom v) n ∙ tokens-literal v l ps ∙ ap (λ (k : ℕ). (65536 + v) ∷ tokensFrom k ps) (sym one)));
+                rows-are =
+                    joined _ (take (v * 5) rows) (laid (rowOfLiteral o l)) (rowsFrom (o + row .size) ps)
+                    (G .rows-are ∙ ap (λ (x : List ℕ). take (v * 5) rows ++ x) (ap (rowsFrom o) n ∙ rows-literal o l ps ∙ ap (λ (k : ℕ). laid (rowOfLiteral o l) ++ rowsFrom (o + k) ps) size))
+                    ∙ ap (λ (x : List ℕ). x ++ rowsFrom (o + row .size) ps)
+                    (sym (ap (λ (k : ℕ). take k (overAt (v * 5) (laid (rowOfLiteral o l)) rows)) (sym four) ∙ over-front (v * 5) (laid (rowOfLiteral o l)) rows rows-wide));
+                bytes-are =
+                    joined _ (take o bytes) (l .bytes) (bytesOf ps)
+                    (G .bytes-are ∙ ap (λ (x : List ℕ). take o bytes ++ x) (ap bytesOf n ∙ bytes-literal l ps))
+                    ∙ ap (λ (x : List ℕ). x ++ bytesOf ps)
+                    (sym (ap (λ (k : ℕ). take (o + k) (overAt o (l .bytes) bytes)) (sym size) ∙ over-front o (l .bytes) bytes bytes-wide));
+                fault-is = faults u G (literal l) (L .is) ∙ rw (lt-ltb v 64 h, one);
+              },
           record {
             within = M .within;
-            few-tokens = omega (arith, G .few-tokens, inside .1);
+            few-tokens = omega (arith, B .few-tokens, inside .1);
             few-literals = omega arith;
-            few-bytes = omega (arith, G .few-bytes, M .not-before, M .some, M .inside, L .made .short, wide, size);
-            tokens-are =
-                stored (65536 + v) (tokensFrom (v + 1) ps)
-                (G .tokens-are ∙ ap (λ (x : List ℕ). take (g .tokens) tokens ++ x) (ap (tokensFrom v) n ∙ tokens-literal v l ps ∙ ap (λ (k : ℕ). (65536 + v) ∷ tokensFrom k ps) (sym one)));
-            rows-are =
-                joined _ (take (v * 5) rows) (laid (rowOfLiteral o l)) (rowsFrom (o + row .size) ps)
-                (G .rows-are ∙ ap (λ (x : List ℕ). take (v * 5) rows ++ x) (ap (rowsFrom o) n ∙ rows-literal o l ps ∙ ap (λ (k : ℕ). laid (rowOfLiteral o l) ++ rowsFrom (o + k) ps) size))
-                ∙ ap (λ (x : List ℕ). x ++ rowsFrom (o + row .size) ps)
-                (sym (ap (λ (k : ℕ). take k (overAt (v * 5) (laid (rowOfLiteral o l)) rows)) (sym four) ∙ over-front (v * 5) (laid (rowOfLiteral o l)) rows rows-wide));
-            bytes-are =
-                joined _ (take o bytes) (l .bytes) (bytesOf ps)
-                (G .bytes-are ∙ ap (λ (x : List ℕ). take o bytes ++ x) (ap bytesOf n ∙ bytes-literal l ps))
-                ∙ ap (λ (x : List ℕ). x ++ bytesOf ps)
-                (sym (ap (λ (k : ℕ). take (o + k) (overAt o (l .bytes) bytes)) (sym size) ∙ over-front o (l .bytes) bytes bytes-wide));
-            fault-is = faults (literal l) (L .is) ∙ rw (lt-ltb v 64 h, one);
+            few-bytes = omega (arith, B .few-bytes, M .not-before, M .some, M .inside, L .made .short, wide, size);
           },
           inside .1,
         );

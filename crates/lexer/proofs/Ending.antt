@@ -6,12 +6,15 @@ use Prim.Native.Nat.{ℕ, zero, suc, _+_, _-_, _*_, _≤_, _<_}
 use native.Mathlib.Omega.{arith}
 use lib.Dec.{ltb, leb}
 use lib.ListN.{length, take, drop}
+use lib.Seq.{length-take-le}
 use borrow.Author.Tests.{le-leb, lt-leb, le-ltb, leb-true, leb-false, ltb-false}
 use Rattle.description.specs.Grammar.{Word, isBlank}
+use Rattle.tables.specs.Rows.{rowCount}
+use Rattle.spelling.specs.Names.{Known, Book}
 use Rattle.spelling.specs.Words.{wordLength, wordsFrom}
 use Rattle.spelling.specs.Keywords.{Piece as Spelt, token, literal, fault}
 use Rattle.spelling.specs.Meanings.{meaning, joins, pieceOf}
-use Rattle.spelling.specs.Reading.{Placed, piecesFrom, placed, pieces, Found, none, refusal, before, faultAt, after, firstFault, orTooLong, faultOf, tokensFrom, rowsFrom, bytesOf}
+use Rattle.spelling.specs.Reading.{Placed, piecesFrom, placed, pieces, Found, none, refusal, before, faultAt, after, firstFault, orTooLong, faultOf, tokensFrom, rowsFrom, bytesOf, literalsBefore, tokensOf}
 use Rattle.splitter.specs.Splits.{wordsAt, NextFrom}
 use Rattle.splitter.specs.declared.Next.{Next}
 use Rattle.splitter.specs.declared.Next.the-variants.{End as NoWord}
@@ -21,7 +24,7 @@ use Rattle.lexer.specs.declared.Stepped.{Stepped}
 use Rattle.lexer.specs.declared.Stepped.the-variants.{On, End, Fault}
 use Rattle.lexer.specs.declared.Lexed.{Lexed}
 use Rattle.lexer.specs.declared.Lexed.the-variants.{Whole, Fault as LexedFault}
-use Rattle.lexer.specs.Gathers.{left, leftPieces, Rooms, Gathers, Steps, earlyBy, Holds, Lexes}
+use Rattle.lexer.specs.Gathers.{left, leftPieces, Rooms, totalOf, bookIn, Gathers, Bounds, Steps, earlyBy, Holds, Lexes}
 
 -- no word stands before the place where the words were looked for
 abbrev AllFrom : ℕ → List Word → Type 0
@@ -62,99 +65,112 @@ late-at at n place (literal l) h = by (ltb n 64)
     by false = h
 late-at at n place (fault number) h = h
 
-late : (names : List (List ℕ)) (at n k : ℕ) (ws : List Word) → AllFrom at ws → Late at (firstFault n (piecesFrom names k ws))
+late : (known : Known) (at n k : ℕ) (ws : List Word) → AllFrom at ws → Late at (firstFault n (piecesFrom known k ws))
 unfolding piecesFrom firstFault
-late names at n k [] h = tt
-late names at n (suc k) (w ∷ ws) h = late names at n k ws (h .1)
-late names at n zero (w ∷ ws) h =
-    late-before at (faultAt n (w .place) (pieceOf (meaning names (w .text)) ws))
-    (firstFault (after n (pieceOf (meaning names (w .text)) ws)) (piecesFrom names (joins (meaning names (w .text)) ws) ws))
-    (late-at at n (w .place) (pieceOf (meaning names (w .text)) ws) (h .0))
-    (late names at (after n (pieceOf (meaning names (w .text)) ws)) (joins (meaning names (w .text)) ws) ws (h .1))
+late known at n k [] h = tt
+late known at n (suc k) (w ∷ ws) h = late known at n k ws (h .1)
+late known at n zero (w ∷ ws) h =
+    late-before at (faultAt n (w .place) (pieceOf (meaning known (w .text)) ws))
+    (firstFault (after n (pieceOf (meaning known (w .text)) ws)) (piecesFrom known (joins (meaning known (w .text)) ws) ws))
+    (late-at at n (w .place) (pieceOf (meaning known (w .text)) ws) (h .0))
+    (late known at (after n (pieceOf (meaning known (w .text)) ws)) (joins (meaning known (w .text)) ws) ws (h .1))
 
 too-late : (at : ℕ) (f : Found) → 2048 ≤ at → Late at f → orTooLong f ≡ refusal 15 2048
 too-late at none h l = refl
 too-late at (refusal number place) h l = rw (le-ltb place 2048 (omega arith))
 
-short-fault : (names : List (List ℕ)) (text : List ℕ) → length text ≤ 2048 → faultOf names text ≡ firstFault 0 (placed names text)
-short-fault names text h = rw (le-leb (length text) 2048 h)
+short-fault : (known : Known) (n : ℕ) (text : List ℕ) → length text ≤ 2048 → faultOf known n text ≡ firstFault n (placed known text)
+short-fault known n text h = rw (le-leb (length text) 2048 h)
 
-long-fault : (names : List (List ℕ)) (text : List ℕ) → 2048 < length text → faultOf names text ≡ orTooLong (firstFault 0 (placed names text))
-long-fault names text h = rw (lt-leb (length text) 2048 h)
+long-fault : (known : Known) (n : ℕ) (text : List ℕ) → 2048 < length text → faultOf known n text ≡ orTooLong (firstFault n (placed known text))
+long-fault known n text h = rw (lt-leb (length text) 2048 h)
 
-module _ {names : List (List ℕ)} {text : List ℕ} where
-  -- nothing is gathered yet
-  pub nothing : (tokens rows bytes : List ℕ) → Gathers names text (record { tokens = 0; literals = 0; bytes = 0; past = 0 }) tokens rows bytes
-  nothing tokens rows bytes =
-      record {
-        within = omega arith;
-        few-tokens = omega arith;
-        few-literals = omega arith;
-        few-bytes = omega arith;
-        tokens-are = refl;
-        rows-are = refl;
-        bytes-are = refl;
-        fault-is = refl;
-      }
+-- a book's rows in a table that has more
+pub rows-before : (literals : ℕ) (rows : List ℕ) → literals ≤ 64 → 320 ≤ length rows → rowCount (take (literals * 5) rows) ≡ literals
+rows-before literals rows h l = let e = length-take-le (literals * 5) rows (omega arith) in omega (arith, e)
 
-  module _ {g : Gathered} {tokens rows bytes : List ℕ} (G : Gathers names text g tokens rows bytes) where
-    nothing-left : left names text (g .past) ≡ [] → length text ≤ 2048 → Holds names text g tokens rows bytes
+-- nothing of the text is gathered yet
+pub nothing : (known : Known) (text : List ℕ) (literals content : ℕ) (tokens rows bytes : List ℕ) → literals ≤ 64 → content ≤ 4096 → Rooms tokens rows bytes
+    → Gathers known text (totalOf (bookIn known literals content rows bytes) text) (record { tokens = 0; literals = literals; bytes = content; past = 0 }) tokens rows bytes
+nothing known text literals content tokens rows bytes h k R =
+    let n : rowCount (take (literals * 5) rows) ≡ literals = rows-before literals rows h (R .rows-room) in
+    let b : length (take content bytes) ≡ content = length-take-le content bytes (omega (arith, R .bytes-room)) in
+    record {
+      tokens-are = ap (λ (m : ℕ). tokensFrom m (pieces known text)) n;
+      rows-are = ap (λ (m : ℕ). take (literals * 5) rows ++ rowsFrom m (pieces known text)) b;
+      bytes-are = refl;
+      fault-is = ap (λ (m : ℕ). firstFault m (placed known text)) n;
+    }
+
+pub few-yet : (text : List ℕ) (literals content : ℕ) → literals ≤ 64 → content ≤ 4096 → Bounds text (record { tokens = 0; literals = literals; bytes = content; past = 0 })
+few-yet text literals content h k = record { within = omega arith; few-tokens = omega arith; few-literals = h; few-bytes = omega arith }
+
+module _ (b : Book) (text : List ℕ) where
+  abbrev known : Known
+  known = b .known
+
+  abbrev n : ℕ
+  n = literalsBefore b
+
+  module _ {g : Gathered} {tokens rows bytes : List ℕ} (G : Gathers known text (totalOf b text) g tokens rows bytes) (B : Bounds text g) where
+    nothing-left : left known text (g .past) ≡ [] → length text ≤ 2048 → Holds b text g tokens rows bytes
     unfolding firstFault tokensFrom rowsFrom bytesOf
     nothing-left e h =
-        let p : leftPieces names text (g .past) ≡ [] = ap (map (λ (x : Placed). x .piece)) e in
+        let p : leftPieces known text (g .past) ≡ [] = ap (map (λ (x : Placed). x .piece)) e in
         record {
-          faultless = short-fault names text h ∙ G .fault-is ∙ ap (firstFault (g .literals)) e;
+          faultless = short-fault known n text h ∙ G .fault-is ∙ ap (firstFault (g .literals)) e;
           tokens-are = G .tokens-are ∙ ap (λ (ps : List Spelt). take (g .tokens) tokens ++ tokensFrom (g .literals) ps) p ∙ append-nil (take (g .tokens) tokens);
           rows-are = G .rows-are ∙ ap (λ (ps : List Spelt). take (g .literals * 5) rows ++ rowsFrom (g .bytes) ps) p ∙ append-nil (take (g .literals * 5) rows);
           bytes-are = G .bytes-are ∙ ap (λ (ps : List Spelt). take (g .bytes) bytes ++ bytesOf ps) p ∙ append-nil (take (g .bytes) bytes);
-          few-tokens = omega (arith, G .few-tokens, G .within);
-          few-literals = G .few-literals;
-          few-bytes = omega (arith, G .few-bytes, G .within);
+          few-tokens = omega (arith, B .few-tokens, B .within);
+          few-literals = B .few-literals;
+          few-bytes = omega (arith, B .few-bytes, B .within);
         }
 
-    too-long : left names text (g .past) ≡ [] → 2048 < length text → faultOf names text ≡ refusal 15 2048
+    too-long : left known text (g .past) ≡ [] → 2048 < length text → faultOf known n text ≡ refusal 15 2048
     unfolding firstFault
-    too-long e h = long-fault names text h ∙ ap orTooLong (G .fault-is ∙ ap (firstFault (g .literals)) e)
+    too-long e h = long-fault known n text h ∙ ap orTooLong (G .fault-is ∙ ap (firstFault (g .literals)) e)
 
     -- no word starts before byte 2,048 any more
-    pub whole-past : 2048 ≤ g .past → length text ≤ 2048 → Lexes names text (Whole g) tokens rows bytes
+    pub whole-past : 2048 ≤ g .past → length text ≤ 2048 → Lexes b text (Whole g) tokens rows bytes
     unfolding piecesFrom
-    whole-past p h = record { gives = nothing-left (ap (piecesFrom names 0) (no-word text (g .past) (omega arith))) h }
+    whole-past p h = record { gives = nothing-left (ap (piecesFrom known 0) (no-word text (g .past) (omega arith))) h }
 
-    pub long-past : 2048 ≤ g .past → 2048 < length text → Lexes names text (LexedFault 15 2048) tokens rows bytes
+    pub long-past : 2048 ≤ g .past → 2048 < length text → Lexes b text (LexedFault 15 2048) tokens rows bytes
     long-past p h =
-        let l = late names (g .past) (g .literals) 0 (wordsAt text (g .past)) (words-from 0 (g .past) (drop (g .past) text)) in
-        record { gives = long-fault names text h ∙ ap orTooLong (G .fault-is) ∙ too-late (g .past) (firstFault (g .literals) (left names text (g .past))) p l }
+        let l = late known (g .past) (g .literals) 0 (wordsAt text (g .past)) (words-from 0 (g .past) (drop (g .past) text)) in
+        record { gives = long-fault known n text h ∙ ap orTooLong (G .fault-is) ∙ too-late (g .past) (firstFault (g .literals) (left known text (g .past))) p l }
 
-  module _ {g : Gathered} {tokens rows bytes : List ℕ} (r : Stepped) (S : Steps names text g r tokens rows bytes) where
-    pub on-step : {next : Gathered} → r ≡ On next → Gathers names text next tokens rows bytes × (g .past < next .past)
-    on-step e = subst (λ (s : Stepped). Steps names text g s tokens rows bytes) e S .gives
+  module _ {g : Gathered} {t w c tokens rows bytes : List ℕ} (G : Gathers known text (totalOf b text) g t w c) (B : Bounds text g) (r : Stepped)
+      (S : Steps known text g t w c r tokens rows bytes) where
+    pub on-step : {next : Gathered} → r ≡ On next → Gathers known text (totalOf b text) next tokens rows bytes × Bounds text next × (g .past < next .past)
+    on-step e = let s = subst (λ (s : Stepped). Steps known text g t w c s tokens rows bytes) e S .gives in (s .0 (totalOf b text) G, s .1, s .2)
 
-    ended : r ≡ End → Gathers names text g tokens rows bytes × (left names text (g .past) ≡ [])
-    ended e = subst (λ (s : Stepped). Steps names text g s tokens rows bytes) e S .gives
+    ended : r ≡ End → Gathers known text (totalOf b text) g tokens rows bytes × (left known text (g .past) ≡ [])
+    ended e = let s = subst (λ (s : Stepped). Steps known text g t w c s tokens rows bytes) e S .gives in (s .0 (totalOf b text) G, s .1)
 
-    pub whole-end : r ≡ End → length text ≤ 2048 → Lexes names text (Whole g) tokens rows bytes
-    whole-end e h = let f = ended e in record { gives = nothing-left (f .0) (f .1) h }
+    pub whole-end : r ≡ End → length text ≤ 2048 → Lexes b text (Whole g) tokens rows bytes
+    whole-end e h = let f = ended e in record { gives = nothing-left (f .0) B (f .1) h }
 
-    pub long-end : r ≡ End → 2048 < length text → Lexes names text (LexedFault 15 2048) tokens rows bytes
-    long-end e h = let f = ended e in record { gives = too-long (f .0) (f .1) h }
+    pub long-end : r ≡ End → 2048 < length text → Lexes b text (LexedFault 15 2048) tokens rows bytes
+    long-end e h = let f = ended e in record { gives = too-long (f .0) B (f .1) h }
 
-    pub fault-end : {number place : ℕ} (lexed : Lexed) → r ≡ Fault number place → lexed ≡ earlyBy number place → Lexes names text lexed tokens rows bytes
+    pub fault-end : {number place : ℕ} (lexed : Lexed) → r ≡ Fault number place → lexed ≡ earlyBy number place → Lexes b text lexed tokens rows bytes
     fault-end {number} {place} lexed e q =
-        let f = subst (λ (s : Stepped). Steps names text g s tokens rows bytes) e S .gives in
-        rw q (by (leb (length text) 2048) refl (ltb place 2048) refl (f .0) (f .1))
+        let f = subst (λ (s : Stepped). Steps known text g t w c s tokens rows bytes) e S .gives in
+        rw q (by (leb (length text) 2048) refl (ltb place 2048) refl (f .0 (totalOf b text) G) (f .1))
       where
-        by : (t : Bool) → leb (length text) 2048 ≡ t → (u : Bool) → ltb place 2048 ≡ u → firstFault 0 (placed names text) ≡ refusal number place → place < length text
-            → Lexes names text (cond u (LexedFault number place) (LexedFault 15 2048)) tokens rows bytes
-        by true h true l f w = record { gives = short-fault names text (leb-true (length text) 2048 h) ∙ f }
+        by : (t : Bool) → leb (length text) 2048 ≡ t → (u : Bool) → ltb place 2048 ≡ u → firstFault n (placed known text) ≡ refusal number place → place < length text
+            → Lexes b text (cond u (LexedFault number place) (LexedFault 15 2048)) tokens rows bytes
+        by true h true l f w = record { gives = short-fault known n text (leb-true (length text) 2048 h) ∙ f }
         by true h false l f w = absurd (omega (arith, leb-true (length text) 2048 h, ltb-false place 2048 l))
-        by false h true l f w = record { gives = long-fault names text (leb-false (length text) 2048 h) ∙ ap orTooLong f ∙ rw l }
-        by false h false l f w = record { gives = long-fault names text (leb-false (length text) 2048 h) ∙ ap orTooLong f ∙ rw l }
+        by false h true l f w = record { gives = long-fault known n text (leb-false (length text) 2048 h) ∙ ap orTooLong f ∙ rw l }
+        by false h false l f w = record { gives = long-fault known n text (leb-false (length text) 2048 h) ∙ ap orTooLong f ∙ rw l }
 
-pub no-step : {names : List (List ℕ)} {text : List ℕ} {g : Gathered} {tokens rows bytes : List ℕ} (r : Next) → Gathers names text g tokens rows bytes → NextFrom text (g .past) r
-    → r ≡ NoWord → Steps names text g End tokens rows bytes
+pub no-step : {known : Known} {text : List ℕ} {g : Gathered} {tokens rows bytes : List ℕ} (r : Next) → NextFrom text (g .past) r
+    → r ≡ NoWord → Steps known text g tokens rows bytes End tokens rows bytes
 unfolding piecesFrom
-no-step {names} r G n e = record { gives = (G, ap (piecesFrom names 0) (found-end r n e)) }
+no-step {known} r n e = record { gives = (λ w G. G, ap (piecesFrom known 0) (found-end r n e)) }
 
 -- rooms stay
 pub rooms-stay : {t w b tokens rows bytes : List ℕ} → Rooms t w b → length tokens ≡ length t → length rows ≡ length w → length bytes ≡ length b → Rooms tokens rows bytes

@@ -5,7 +5,7 @@ use mathlib.Core.Logic.{_⊎_, inl, inr, ⊎-elim}
 use mathlib.Core.List.{List, [], _∷_, _++_, map}
 use Prim.Native.Nat.{ℕ, zero, suc, _+_, _-_, _≤_, _<_}
 use native.Mathlib.Omega.{arith}
-use lib.Dec.{eqb}
+use lib.Dec.{eqb, ltb}
 use lib.ListN.{length, take, drop, length-take, length-drop, length-append}
 use lib.Seq.{drop-nil}
 use borrow.Author.Tests.{eq-eqb}
@@ -15,6 +15,7 @@ use Rattle.tables.specs.Rows.{rowSound}
 use Rattle.tables.proofs.Tests.{both}
 use Rattle.description.specs.Grammar.{Word, same}
 use Rattle.description.specs.Reader.{isName}
+use Rattle.spelling.specs.Names.{Known, everyName}
 use Rattle.spelling.specs.Literals.{Literal, rowOfLiteral, fits, quoted, doubled, undoubled, textOf, isText, isPoint, withoutPoint, numberOf, isNumber}
 use Rattle.spelling.specs.Keywords.{Piece as Spelt, token, literal, fault, Meaning, alone, item, value, order, equal, faulty, Keyword, vocabulary}
 use Rattle.spelling.specs.Meanings.{count, position, named, lookup, meaning, joins, pieceOf}
@@ -30,17 +31,17 @@ use Rattle.senses.specs.Senses.{metOf, PieceBy}
 use Rattle.lexer.specs.Gathers.{left, Made, MadeBy, Meets}
 
 -- words that joined the word before are passed
-passed : (names : List (List ℕ)) (k : ℕ) (ws : List Word) → piecesFrom names k ws ≡ piecesFrom names 0 (drop k ws)
+passed : (known : Known) (k : ℕ) (ws : List Word) → piecesFrom known k ws ≡ piecesFrom known 0 (drop k ws)
 unfolding piecesFrom
-passed names zero ws = refl
-passed names (suc k) [] = refl
-passed names (suc k) (w ∷ ws) = passed names k ws
+passed known zero ws = refl
+passed known (suc k) [] = refl
+passed known (suc k) (w ∷ ws) = passed known k ws
 
-first-piece : (names : List (List ℕ)) (w : Word) (ws : List Word)
-    → piecesFrom names 0 (w ∷ ws)
-    ≡ record { place = w .place; piece = pieceOf (meaning names (w .text)) ws } ∷ piecesFrom names (joins (meaning names (w .text)) ws) ws
+first-piece : (known : Known) (w : Word) (ws : List Word)
+    → piecesFrom known 0 (w ∷ ws)
+    ≡ record { place = w .place; piece = pieceOf (meaning known (w .text)) ws } ∷ piecesFrom known (joins (meaning known (w .text)) ws) ws
 unfolding piecesFrom
-first-piece names w ws = refl
+first-piece known w ws = refl
 
 -- only a literal means a value
 
@@ -68,13 +69,20 @@ looked w other (k ∷ ks) n e = by (same w (k .bytes)) (looked w other ks (n .1)
     by true h = n .0
     by false h = h
 
-named-none : (names : List (List ℕ)) (w : List ℕ) → isValue (named names w) ≡ false
-named-none names w = by (isName w) (eqb (count w names) 1)
+named-none : (known : Known) (w : List ℕ) → isValue (named known w) ≡ false
+named-none known w = by (isName w) (eqb (count w (everyName known)) 1) (ltb p n)
   where
-    by : (t u : Bool) → isValue (cond t (cond u (item (position w names)) (faulty 16)) (faulty 15)) ≡ false
-    by true true = refl
-    by true false = refl
-    by false u = refl
+    p : ℕ
+    p = position w (everyName known)
+
+    n : ℕ
+    n = length (known .items)
+
+    by : (t u v : Bool) → isValue (cond t (cond u (cond v (item p) (alone (327680 + (p - n)))) (faulty 16)) (faulty 15)) ≡ false
+    by true true true = refl
+    by true true false = refl
+    by true false v = refl
+    by false u v = refl
 
 -- the sizes of literals beside their words
 undoubled-short : (skip : Bool) (v : List ℕ) → length (undoubled skip v) ≤ length v
@@ -130,45 +138,45 @@ number-made w e =
     two true q = omega arith
     two false q = omega arith
 
-made : (names : List (List ℕ)) (w : List ℕ) (l : Literal) → meaning names w ≡ value l → Made w l
+made : (known : Known) (w : List ℕ) (l : Literal) → meaning known w ≡ value l → Made w l
 unfolding meaning
-made names w l e = by (isText w) refl (isNumber w) refl e
+made known w l e = by (isText w) refl (isNumber w) refl e
   where
-    none : isValue (lookup w (named names w) vocabulary) ≡ false
-    none = looked w (named names w) vocabulary no-values (named-none names w)
+    none : isValue (lookup w (named known w) vocabulary) ≡ false
+    none = looked w (named known w) vocabulary no-values (named-none known w)
 
     by : (t : Bool) → isText w ≡ t → (u : Bool) → isNumber w ≡ u
-        → cond t (value (textOf w)) (cond u (value (numberOf w)) (lookup w (named names w) vocabulary)) ≡ value l → Made w l
+        → cond t (value (textOf w)) (cond u (value (numberOf w)) (lookup w (named known w) vocabulary)) ≡ value l → Made w l
     by true p u q e = let z : textOf w ≡ l = cc in rw z at (text-made w p)
     by false p true q e = let z : numberOf w ≡ l = cc in rw z at (number-made w q)
     by false p false q e =
         let bad : true ≡ false = sym (ap isValue e) ∙ none in
         let z : _≡_ {A = ℕ} 0 1 = cc in absurd (omega arith)
 
-made-by : (names : List (List ℕ)) (w : List ℕ) (ws : List Word) (m : Meaning) → meaning names w ≡ m → MadeBy w (pieceOf m ws)
-made-by names w ws (alone t) e = tt
-made-by names w ws (item t) e = tt
-made-by names w ws (value l) e = made names w l e
-made-by names w ws (order p j) e = tt
-made-by names w ws equal e = tt
-made-by names w ws (faulty n) e = tt
+made-by : (known : Known) (w : List ℕ) (ws : List Word) (m : Meaning) → meaning known w ≡ m → MadeBy w (pieceOf m ws)
+made-by known w ws (alone t) e = tt
+made-by known w ws (item t) e = tt
+made-by known w ws (value l) e = made known w l e
+made-by known w ws (order p j) e = tt
+made-by known w ws equal e = tt
+made-by known w ws (faulty n) e = tt
 
-module _ (names : List (List ℕ)) (text : List ℕ) (past at end : ℕ) (r : Piece) where
-  pub meets : past ≤ at → at < end → wordsAt text past ≡ fromNext text (Span at end) → PieceBy (meaning names (between text at end)) text end r
-      → Meets names text past at end r
+module _ (known : Known) (text : List ℕ) (past at end : ℕ) (r : Piece) where
+  pub meets : past ≤ at → at < end → wordsAt text past ≡ fromNext text (Span at end) → PieceBy (meaning known (between text at end)) text end r
+      → Meets known text past at end r
   meets h l e p =
       let w : List ℕ = between text at end in
       let ws : List Word = wordsAt text end in
-      let m : Meaning = meaning names w in
+      let m : Meaning = meaning known w in
       record {
         spelt = pieceOf m ws;
         met = p .met;
-        made = made-by names w ws m refl;
+        made = made-by known w ws m refl;
         next =
-            ap (piecesFrom names 0) e
-            ∙ first-piece names (record { place = at; text = w }) ws
+            ap (piecesFrom known 0) e
+            ∙ first-piece known (record { place = at; text = w }) ws
             ∙ ap (λ (xs : List Placed). record { place = at; piece = pieceOf m ws } ∷ xs)
-            (passed names (joins m ws) ws ∙ ap (piecesFrom names 0) (sym (p .words)));
+            (passed known (joins m ws) ws ∙ ap (piecesFrom known 0) (sym (p .words)));
         not-before = h;
         some = l;
         inside = p .passed;

@@ -6,9 +6,10 @@ use Prim.Native.Nat.{ℕ, _+_, _*_, _≤_, _<_}
 use lib.Dec.{ltb}
 use lib.ListN.{length, take, drop, set}
 use Rattle.tables.specs.declared.Row.{Row}
+use Rattle.spelling.specs.Names.{Known, Book, book}
 use Rattle.spelling.specs.Literals.{Literal, rowOfLiteral, laid}
 use Rattle.spelling.specs.Keywords.{Piece as Spelt, token, literal, fault}
-use Rattle.spelling.specs.Reading.{Placed, piecesFrom, placed, pieces, Found, none, refusal, firstFault, faultOf, tokensFrom, rowsFrom, bytesOf}
+use Rattle.spelling.specs.Reading.{Placed, piecesFrom, placed, pieces, Found, none, refusal, firstFault, faultOf, tokensFrom, rowsFrom, bytesOf, literalsBefore, tokensOf}
 use Rattle.splitter.specs.Splits.{wordsAt, between}
 use Rattle.literal_words.specs.Found.{literalBy}
 use Rattle.senses.specs.declared.Piece.{Piece}
@@ -28,34 +29,57 @@ abbrev pub movedTo : ℕ → Row → Row
 movedTo offset r = record { kind = r .kind; offset = offset; size = r .size; scale = r .scale; digits = r .digits }
 
 -- the pieces of a text from a place on
-abbrev pub left : List (List ℕ) → List ℕ → ℕ → List Placed
-left names text at = piecesFrom names 0 (wordsAt text at)
+abbrev pub left : Known → List ℕ → ℕ → List Placed
+left known text at = piecesFrom known 0 (wordsAt text at)
 
-abbrev pub leftPieces : List (List ℕ) → List ℕ → ℕ → List Spelt
-leftPieces names text at = map (λ (x : Placed). x .piece) (left names text at)
+abbrev pub leftPieces : Known → List ℕ → ℕ → List Spelt
+leftPieces known text at = map (λ (x : Placed). x .piece) (left known text at)
 
--- room for every token, row and byte of a text whose words start before byte 2,048
+-- room for every token, row and byte of a text whose words start before byte 2,048, after the literals of a description: these have at
+-- most 4,096 bytes
 pub record Rooms (tokens rows bytes : List ℕ) : Type 0 where
   pub tokens-room : 2048 ≤ length tokens
   pub rows-room : 320 ≤ length rows
-  pub bytes-room : 2304 ≤ length bytes
+  pub bytes-room : 6400 ≤ length bytes
+
+-- what a text comes to, after the literals of a book
+pub record Total : Type 0 where
+  pub tokens : List ℕ
+  pub rows : List ℕ
+  pub bytes : List ℕ
+  pub fault : Found
+
+abbrev pub totalOf : Book → List ℕ → Total
+totalOf b text =
+    record {
+      tokens = tokensOf b (pieces (b .known) text);
+      rows = b .rows ++ rowsFrom (length (b .bytes)) (pieces (b .known) text);
+      bytes = b .bytes ++ bytesOf (pieces (b .known) text);
+      fault = firstFault (literalsBefore b) (placed (b .known) text);
+    }
+
+-- the first `literals` rows and `content` bytes are the description's
+abbrev pub bookIn : Known → ℕ → ℕ → List ℕ → List ℕ → Book
+bookIn known literals content rows bytes = book known (take (literals * 5) rows) (take content bytes)
 
 -- What is gathered, with what is left, is the whole.
-pub record Gathers (names : List (List ℕ)) (text : List ℕ) (g : Gathered) (tokens rows bytes : List ℕ) : Type 0 where
+pub record Gathers (known : Known) (text : List ℕ) (w : Total) (g : Gathered) (tokens rows bytes : List ℕ) : Type 0 where
+  pub tokens-are : w .tokens ≡ take (g .tokens) tokens ++ tokensFrom (g .literals) (leftPieces known text (g .past))
+  pub rows-are : w .rows ≡ take (g .literals * 5) rows ++ rowsFrom (g .bytes) (leftPieces known text (g .past))
+  pub bytes-are : w .bytes ≡ take (g .bytes) bytes ++ bytesOf (leftPieces known text (g .past))
+  pub fault-is : w .fault ≡ firstFault (g .literals) (left known text (g .past))
+
+pub record Bounds (text : List ℕ) (g : Gathered) : Type 0 where
   pub within : g .past ≤ length text
   pub few-tokens : g .tokens ≤ g .past
   pub few-literals : g .literals ≤ 64
-  pub few-bytes : g .bytes ≤ g .past
-  pub tokens-are : tokensFrom 0 (pieces names text) ≡ take (g .tokens) tokens ++ tokensFrom (g .literals) (leftPieces names text (g .past))
-  pub rows-are : rowsFrom 0 (pieces names text) ≡ take (g .literals * 5) rows ++ rowsFrom (g .bytes) (leftPieces names text (g .past))
-  pub bytes-are : bytesOf (pieces names text) ≡ take (g .bytes) bytes ++ bytesOf (leftPieces names text (g .past))
-  pub fault-is : firstFault 0 (placed names text) ≡ firstFault (g .literals) (left names text (g .past))
+  pub few-bytes : g .bytes ≤ 4096 + g .past
 
 -- Before a step: the next word starts in time.
-pub record Ready (names : List (List ℕ)) (text : List ℕ) (g : Gathered) (tokens rows bytes : List ℕ) : Type 0 where
+pub record Ready (text : List ℕ) (g : Gathered) (tokens rows bytes : List ℕ) : Type 0 where
   pub soon : g .past < 2048
   pub rooms : Rooms tokens rows bytes
-  pub gathers : Gathers names text g tokens rows bytes
+  pub bounds : Bounds text g
 
 -- a literal and the word that writes it
 pub record Made (word : List ℕ) (l : Literal) : Type 0 where
@@ -70,11 +94,11 @@ MadeBy word (literal l) = Made word l
 MadeBy word (fault number) = Unit {0}
 
 -- the next piece, of the word from `at` to `end`
-pub record Meets (names : List (List ℕ)) (text : List ℕ) (past at end : ℕ) (r : Piece) : Type 0 where
+pub record Meets (known : Known) (text : List ℕ) (past at end : ℕ) (r : Piece) : Type 0 where
   pub spelt : Spelt
   pub met : r .met ≡ metOf spelt
   pub made : MadeBy (between text at end) spelt
-  pub next : left names text past ≡ record { place = at; piece = spelt } ∷ left names text (r .past)
+  pub next : left known text past ≡ record { place = at; piece = spelt } ∷ left known text (r .past)
   pub not-before : past ≤ at
   pub some : at < end
   pub inside : end ≤ r .past
@@ -103,31 +127,39 @@ pub record LiteralLaid (row : Row) (word : List ℕ) (g : Gathered) (past : ℕ)
   pub row-laid : rows-after ≡ overAt (g .literals * 5) (laid (movedTo (g .bytes) row)) rows
   pub bytes-laid : bytes-after ≡ overAt (g .bytes) (literalBy (row .kind) word .bytes) bytes
 
--- after a step: gathered with one piece more; nothing left; or the first fault
-abbrev pub StepGives : List (List ℕ) → List ℕ → Gathered → List ℕ → List ℕ → List ℕ → Stepped → Type 0
-StepGives names text g tokens rows bytes (On next) = Gathers names text next tokens rows bytes × (g .past < next .past)
-StepGives names text g tokens rows bytes End = Gathers names text g tokens rows bytes × (left names text (g .past) ≡ [])
-StepGives names text g tokens rows bytes (Fault number place) = (firstFault 0 (placed names text) ≡ refusal number place) × (place < length text)
+-- What is gathered, with what is left, stays the whole.
+abbrev pub Keeps : Known → List ℕ → Gathered → List ℕ → List ℕ → List ℕ → Gathered → List ℕ → List ℕ → List ℕ → Type 0
+Keeps known text g tokens rows bytes next tokens-after rows-after bytes-after =
+    (w : Total) → Gathers known text w g tokens rows bytes → Gathers known text w next tokens-after rows-after bytes-after
 
-pub record Steps (names : List (List ℕ)) (text : List ℕ) (g : Gathered) (r : Stepped) (tokens rows bytes : List ℕ) : Type 0 where
-  pub gives : StepGives names text g tokens rows bytes r
+-- after a step: gathered with one piece more; nothing left; or the first fault
+abbrev pub StepGives : Known → List ℕ → Gathered → List ℕ → List ℕ → List ℕ → Stepped → List ℕ → List ℕ → List ℕ → Type 0
+StepGives known text g tokens rows bytes (On next) tokens-after rows-after bytes-after =
+    Keeps known text g tokens rows bytes next tokens-after rows-after bytes-after × Bounds text next × (g .past < next .past)
+StepGives known text g tokens rows bytes End tokens-after rows-after bytes-after =
+    Keeps known text g tokens rows bytes g tokens-after rows-after bytes-after × (left known text (g .past) ≡ [])
+StepGives known text g tokens rows bytes (Fault number place) tokens-after rows-after bytes-after =
+    ((w : Total) → Gathers known text w g tokens rows bytes → w .fault ≡ refusal number place) × (place < length text)
+
+pub record Steps (known : Known) (text : List ℕ) (g : Gathered) (tokens rows bytes : List ℕ) (r : Stepped) (tokens-after rows-after bytes-after : List ℕ) : Type 0 where
+  pub gives : StepGives known text g tokens rows bytes r tokens-after rows-after bytes-after
 
 abbrev pub earlyBy : ℕ → ℕ → Lexed
 earlyBy number place = cond (ltb place 2048) (LexedFault number place) (LexedFault 15 2048)
 
--- all that is gathered of a text without a fault
-pub record Holds (names : List (List ℕ)) (text : List ℕ) (g : Gathered) (tokens rows bytes : List ℕ) : Type 0 where
-  pub faultless : faultOf names text ≡ none
-  pub tokens-are : tokensFrom 0 (pieces names text) ≡ take (g .tokens) tokens
-  pub rows-are : rowsFrom 0 (pieces names text) ≡ take (g .literals * 5) rows
-  pub bytes-are : bytesOf (pieces names text) ≡ take (g .bytes) bytes
+-- all that is gathered of a text without a fault, after the literals of a book
+pub record Holds (b : Book) (text : List ℕ) (g : Gathered) (tokens rows bytes : List ℕ) : Type 0 where
+  pub faultless : faultOf (b .known) (literalsBefore b) text ≡ none
+  pub tokens-are : totalOf b text .tokens ≡ take (g .tokens) tokens
+  pub rows-are : totalOf b text .rows ≡ take (g .literals * 5) rows
+  pub bytes-are : totalOf b text .bytes ≡ take (g .bytes) bytes
   pub few-tokens : g .tokens ≤ 2048
   pub few-literals : g .literals ≤ 64
-  pub few-bytes : g .bytes ≤ 2048
+  pub few-bytes : g .bytes ≤ 6144
 
-abbrev pub LexedGives : List (List ℕ) → List ℕ → List ℕ → List ℕ → List ℕ → Lexed → Type 0
-LexedGives names text tokens rows bytes (Whole g) = Holds names text g tokens rows bytes
-LexedGives names text tokens rows bytes (LexedFault number place) = faultOf names text ≡ refusal number place
+abbrev pub LexedGives : Book → List ℕ → List ℕ → List ℕ → List ℕ → Lexed → Type 0
+LexedGives b text tokens rows bytes (Whole g) = Holds b text g tokens rows bytes
+LexedGives b text tokens rows bytes (LexedFault number place) = faultOf (b .known) (literalsBefore b) text ≡ refusal number place
 
-pub record Lexes (names : List (List ℕ)) (text : List ℕ) (r : Lexed) (tokens rows bytes : List ℕ) : Type 0 where
-  pub gives : LexedGives names text tokens rows bytes r
+pub record Lexes (b : Book) (text : List ℕ) (r : Lexed) (tokens rows bytes : List ℕ) : Type 0 where
+  pub gives : LexedGives b text tokens rows bytes r

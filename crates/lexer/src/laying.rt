@@ -4,7 +4,7 @@ ghost use Prim.Native.Nat.{_+_, _*_, _≤_, _<_};
 ghost use lib.ListN.{length, set};
 ghost use Rattle.spelling.specs.Literals.{laid};
 ghost use Rattle.literal_words.specs.Found.{literalBy};
-ghost use Rattle.spelling.specs.Names.{namesAt};
+ghost use Rattle.naming.specs.Named.{knownAt};
 ghost use Rattle.lexer.specs.Gathers.{overAt, movedTo, withToken, LiteralRoom, LiteralLaid, Ready, Meets, Steps};
 use crate::Gathered;
 use crate::Stepped;
@@ -80,6 +80,7 @@ fn add_token(t: u32, held: Gathered, past: usize, tokens: &mut [u32]) -> Gathere
 pub fn add(
     description: &[u8],
     places: &[u32],
+    items: usize,
     text: &[u8],
     at: usize,
     end: usize,
@@ -89,9 +90,9 @@ pub fn add(
     rows: &mut [u32],
     bytes: &mut [u8],
 ) -> Stepped
-    requires { ⌜ Ready (namesAt (now description) (now places)) (now text) held (now tokens) (now rows) (now bytes) ⌝ }
-    requires { ⌜ Meets (namesAt (now description) (now places)) (now text) (held .past) at end piece ⌝ }
-    ensures { λ r. ⌜ Steps (namesAt (now (description .entry)) (now (places .entry))) (now (text .entry)) held r (now (tokens .exit)) (now (rows .exit)) (now (bytes .exit)) ⌝ }
+    requires { ⌜ Ready (now text) held (now tokens) (now rows) (now bytes) ⌝ }
+    requires { ⌜ Meets (knownAt (now description) items (now places)) (now text) (held .past) at end piece ⌝ }
+    ensures { λ r. ⌜ Steps (knownAt (now (description .entry)) items (now (places .entry))) (now (text .entry)) held (now (tokens .entry)) (now (rows .entry)) (now (bytes .entry)) r (now (tokens .exit)) (now (rows .exit)) (now (bytes .exit)) ⌝ }
 {
     let met = piece.met;
     match met {

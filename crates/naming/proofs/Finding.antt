@@ -5,19 +5,19 @@ use mathlib.Core.List.{List, [], _∷_, _++_, map}
 use Prim.Native.Nat.{ℕ, zero, suc, _+_, _-_, _≤_, _<_}
 use native.Mathlib.Omega.{arith}
 use native.Mathlib.Numerals.{add-one}
-use lib.ListN.{length, getD, take, drop, length-drop, drop-of-length-le}
-use lib.Seq.{drop-cons, drop-drop, take-append-seam, getD-take}
-use lib.Dec.{eqb}
-use borrow.Author.Tests.{eq-eqb, ne-eqb, eqb-true, not-true, not-false}
+use lib.ListN.{length, getD, take, drop, length-drop, drop-of-length-le, take-append-drop}
+use lib.Seq.{drop-cons, drop-drop, take-append-seam, length-take-le, getD-take}
+use lib.Dec.{eqb, ltb}
+use borrow.Author.Tests.{eq-eqb, ne-eqb, eqb-true, lt-ltb, le-ltb, not-true, not-false}
 use Rattle.description.specs.Grammar.{all, isNameByte, same}
 use Rattle.description.proofs.Bytes.{and-both}
 use Rattle.words.proofs.Laws.{same-lengths}
-use Rattle.spelling.specs.Names.{leading, namesAt}
+use Rattle.spelling.specs.Names.{leading, namesAt, everyName}
 use Rattle.spelling.specs.Meanings.{count, position}
 use Rattle.spelling.proofs.Cutting.{same-true}
 use Rattle.spelling.proofs.Describing.{length-map}
-use Rattle.naming.specs.declared.Called.the-variants.{Row, Not}
-use Rattle.naming.specs.Named.{calledBy}
+use Rattle.naming.specs.declared.Called.the-variants.{Item, Condition, Not}
+use Rattle.naming.specs.Named.{knownAt, rowBy, calledBy}
 
 -- how far a name goes
 pub leading-ended : (rest : List ℕ) (k : ℕ) → length rest ≤ k → leading (drop k rest) ≡ []
@@ -144,7 +144,7 @@ module _ (text places word : List ℕ) (k : ℕ) where
     found-later e = rw (add-one, names-from text places k h, e)
 
 -- the count of rows that have a name, by where the first one is
-position-within : (word : List ℕ) (names : List (List ℕ)) → position word names ≤ length names
+pub position-within : (word : List ℕ) (names : List (List ℕ)) → position word names ≤ length names
 unfolding position
 position-within word [] = omega arith
 position-within word (n ∷ names) = by (same word n) (position-within word names)
@@ -175,17 +175,35 @@ count-first word (n ∷ names) h = by (same word n) h (count-first word names)
     by true h rec = refl
     by false h rec = rec (omega arith)
 
-module _ (text places word : List ℕ) (first : ℕ) (e : first ≡ 0 + position word (namesAt text places)) where
+-- places of items and of conditions are one list of places
+names-joined : (text us vs : List ℕ) → namesAt text us ++ namesAt text vs ≡ namesAt text (us ++ vs)
+names-joined text [] vs = refl
+names-joined text (u ∷ us) vs = ap (λ (ns : List (List ℕ)). leading (drop u text) ∷ ns) (names-joined text us vs)
+
+pub every-name : (text : List ℕ) (items : ℕ) (places : List ℕ) → everyName (knownAt text items places) ≡ namesAt text places
+every-name text items places = names-joined text (take items places) (drop items places) ∙ ap (namesAt text) (take-append-drop items places)
+
+pub items-length : (text : List ℕ) (items : ℕ) (places : List ℕ) → items ≤ length places → length (knownAt text items places .items) ≡ items
+items-length text items places h = names-length text (take items places) ∙ length-take-le items places h
+
+pub conditions-length : (text : List ℕ) (items : ℕ) (places : List ℕ) → length (knownAt text items places .conditions) ≡ length places - items
+conditions-length text items places = names-length text (drop items places) ∙ length-drop items places
+
+module _ (text places word : List ℕ) (items : ℕ) (few : items ≤ length places) (first : ℕ) (e : first ≡ 0 + position word (namesAt text places)) where
   abbrev names : List (List ℕ)
   names = namesAt text places
 
   at : first ≡ position word names
   at = omega (arith, e)
 
-  pub unknown : first ≡ length places → Not ≡ calledBy word names
+  -- what has the name, by the one list
+  by-names : calledBy word (knownAt text items places) ≡ cond (eqb (count word names) 1) (rowBy items (position word names)) Not
+  by-names = rw (every-name text items places, items-length text items places few)
+
+  pub unknown : first ≡ length places → Not ≡ calledBy word (knownAt text items places)
   unknown h =
       let z : count word names ≡ 0 = count-none word names (omega (arith, at, names-length text places)) in
-      rw z
+      sym (by-names ∙ rw z)
 
   module _ (some : first ≡ length places → ⊥) where
     pub first-within : first < length places
@@ -197,18 +215,24 @@ module _ (text places word : List ℕ) (first : ℕ) (e : first ≡ 0 + position
           count-first word names (omega (arith, at, first-within, names-length text places))
           ∙ rw (← at, add-one)
 
-      pub once : second ≡ length places → Row first ≡ calledBy word names
+      once : second ≡ length places → calledBy word (knownAt text items places) ≡ rowBy items first
       once h =
           let rest : List (List ℕ) = drop (first + 1) names in
           let z : count word rest ≡ 0 =
           count-none word rest (omega (arith, length-drop (first + 1) names, names-length text places, first-within)) in
           let n : count word names ≡ 1 = omega (arith, others) in
-          rw (n, at)
+          by-names ∙ rw (n, at)
 
-      pub twice : (second ≡ length places → ⊥) → Not ≡ calledBy word names
+      pub once-item : second ≡ length places → first < items → Item first ≡ calledBy word (knownAt text items places)
+      once-item h l = sym (once h ∙ rw (lt-ltb first items l))
+
+      pub once-condition : second ≡ length places → items ≤ first → Condition (first - items) ≡ calledBy word (knownAt text items places)
+      once-condition h l = sym (once h ∙ rw (le-ltb first items l))
+
+      pub twice : (second ≡ length places → ⊥) → Not ≡ calledBy word (knownAt text items places)
       twice h =
           let rest : List (List ℕ) = drop (first + 1) names in
           let l : position word rest < length rest =
           omega (arith, position-within word rest, length-drop (first + 1) names, names-length text places, first-within, h) in
           let n : (count word names ≡ 1 → ⊥) = λ q. omega (arith, others, count-first word rest l) in
-          rw (ne-eqb (count word names) 1 n)
+          sym (by-names ∙ rw (ne-eqb (count word names) 1 n))

@@ -3,8 +3,9 @@
 pub mod names; // the row that has a name
 pub mod parts; // the name at a place
 
-// The one row that has a name.
+// What has a name: one item by its row, or one condition by its row in the name table; or none, or more.
 pub enum Called {
-    Row(u32),
+    Item(u32),
+    Condition(u32),
     Not,
 }

@@ -6,7 +6,7 @@ ghost use lib.ListN.{length, drop};
 ghost use Rattle.description.specs.Grammar.{all, isNameByte, same};
 ghost use Rattle.spelling.specs.Names.{leading, namesAt};
 ghost use Rattle.spelling.specs.Meanings.{position};
-ghost use Rattle.naming.specs.Named.{calledBy};
+ghost use Rattle.naming.specs.Named.{knownAt, Listed, calledBy};
 use crate::Called;
 use crate::parts::rest_from;
 use words::bytes::byte_at;
@@ -60,18 +60,21 @@ fn first_named(description: &[u8], places: &[u32], word: &[u8], from: usize) -> 
     k
 }
 
-// The row that has this name, if there is one and no other has it.
-pub fn row_named(description: &[u8], places: &[u32], word: &[u8]) -> Called
-    requires { ⌜ (all isNameByte (now word) ≡ true) × (length (now places) ≤ 64) ⌝ }
-    ensures { λ r. ⌜ r ≡ calledBy (now (word .entry)) (namesAt (now (description .entry)) (now (places .entry))) ⌝ }
+// What has this name, if nothing else has it. The first `items` places are items', the others conditions': names of both are one set.
+pub fn row_named(description: &[u8], places: &[u32], items: usize, word: &[u8]) -> Called
+    requires { ⌜ (all isNameByte (now word) ≡ true) × Listed items (now places) ⌝ }
+    ensures { λ r. ⌜ r ≡ calledBy (now (word .entry)) (knownAt (now (description .entry)) items (now (places .entry))) ⌝ }
 {
     let first = first_named(description, places, word, 0);
     if first == places.len() {
         return Called::Not;
     }
     let second = first_named(description, places, word, first + 1);
-    if second == places.len() {
-        return Called::Row(first as u32);
+    if second != places.len() {
+        return Called::Not;
     }
-    Called::Not
+    if first < items {
+        return Called::Item(first as u32);
+    }
+    Called::Condition((first - items) as u32)
 }

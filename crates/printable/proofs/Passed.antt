@@ -2,23 +2,23 @@
 use mathlib.Core.Path.{_≡_, refl, sym, ap, ap₂, _∙_}
 use mathlib.Core.Bool.{Bool, true, false, cond, not, _&&_, _||_}
 use mathlib.Core.List.{List, [], _∷_}
-use Prim.Native.Nat.{ℕ, suc, _+_, _/_, _%_, _≤_, _<_}
+use Prim.Native.Nat.{ℕ, suc, _+_, _-_, _/_, _%_, _≤_, _<_}
 use native.Mathlib.Omega.{arith}
 use native.Mathlib.Numerals.{add-one}
-use lib.Dec.{eqb}
-use lib.ListN.{length, getD, drop, drop-of-length-le}
-use lib.Seq.{drop-cons}
+use lib.Dec.{eqb, ltb}
+use lib.ListN.{length, getD, take, drop, length-drop, drop-of-length-le}
+use lib.Seq.{drop-cons, length-take-le, getD-take, getD-drop}
 use borrow.Author.Tests.{eq-eqb, ne-eqb}
-use Rattle.tables.specs.Tokens.{isItem, isOff, exists}
+use Rattle.tables.specs.Tokens.{isItem, isOff, tokenThere}
 use Rattle.description.specs.Grammar.{bytes, same, all, isNameByte}
-use Rattle.spelling.specs.Names.{leading, namesAt}
+use Rattle.spelling.specs.Names.{leading, Known, everyName}
 use Rattle.spelling.specs.Meanings.{count, position}
-use Rattle.spelling.specs.Printing.{hasName}
+use Rattle.spelling.specs.Printing.{uniquely, hasName}
 use Rattle.naming.specs.declared.Called.{Called}
-use Rattle.naming.specs.declared.Called.the-variants.{Row, Not}
-use Rattle.naming.specs.Named.{calledBy}
+use Rattle.naming.specs.declared.Called.the-variants.{Item, Condition, Not}
+use Rattle.naming.specs.Named.{knownAt, Listed, rowBy, calledBy}
 use Rattle.naming.proofs.Finding.{name-at}
-use Rattle.printable.specs.Passing.{passing, mayPrint, uniquely}
+use Rattle.printable.specs.Passing.{passing, mayPrint, There}
 
 module _ (test : ℕ → Bool) (tokens : List ℕ) (i : ℕ) where
   pub passed-end : length tokens ≤ i → passing test (drop i tokens) ≡ 0
@@ -35,8 +35,9 @@ module _ (test : ℕ → Bool) (tokens : List ℕ) (i : ℕ) where
     passes-on e = rw (add-one, drop-cons tokens i 0 h, e)
 
 -- 3 is an off switch
-pub may-print : (items literals t : ℕ) (r : Bool) → r ≡ exists true items literals t → r && not (eqb (t / 65536) 3) ≡ mayPrint items literals t
-may-print items literals t r e = ap (λ (b : Bool). b && not (isOff t)) e
+pub may-print : (items literals names t : ℕ) (r : Bool) → r ≡ tokenThere true items literals names t
+    → r && not (eqb (t / 65536) 3) ≡ mayPrint items literals names t
+may-print items literals names t r e = ap (λ (a : Bool). a && not (isOff t)) e
 
 -- names
 pub leading-bytes : (rest : List ℕ) → all isNameByte (leading rest) ≡ true
@@ -48,30 +49,57 @@ leading-bytes (b ∷ rest) = by (isNameByte b) refl (leading-bytes rest)
     by true e h = rw (e, h)
     by false e h = refl
 
-module _ (names : List (List ℕ)) (name : List ℕ) where
-  pub filler : same name (bytes "FILLER") ≡ true → false ≡ uniquely names name
+module _ (known : Known) (name : List ℕ) where
+  pub filler : same name (bytes "FILLER") ≡ true → false ≡ uniquely known name
   filler e = rw e
 
-  module _ (other : same name (bytes "FILLER") ≡ false) (r : Called) (f : r ≡ calledBy name names) where
-    pub once : {v : ℕ} → r ≡ Row v → true ≡ uniquely names name
-    once {v} g = rw other (by (eqb (count name names) 1) (sym g ∙ f))
+  module _ (other : same name (bytes "FILLER") ≡ false) (r : Called) (f : r ≡ calledBy name known) where
+    abbrev p : ℕ
+    p = position name (everyName known)
+
+    abbrev n : ℕ
+    n = length (known .items)
+
+    pub once-item : {v : ℕ} → r ≡ Item v → true ≡ uniquely known name
+    once-item {v} g = rw other (by (eqb (count name (everyName known)) 1) (sym g ∙ f))
       where
-        by : (t : Bool) → Row v ≡ cond t (Row (position name names)) Not → true ≡ t
+        by : (t : Bool) → Item v ≡ cond t (rowBy n p) Not → true ≡ t
         by true e = refl
         by false e = cc
 
-    pub not-once : r ≡ Not → false ≡ uniquely names name
-    not-once g = rw other (by (eqb (count name names) 1) (sym g ∙ f))
+    pub once-condition : {v : ℕ} → r ≡ Condition v → true ≡ uniquely known name
+    once-condition {v} g = rw other (by (eqb (count name (everyName known)) 1) (sym g ∙ f))
       where
-        by : (t : Bool) → Not ≡ cond t (Row (position name names)) Not → false ≡ t
-        by true e = cc
-        by false e = refl
+        by : (t : Bool) → Condition v ≡ cond t (rowBy n p) Not → true ≡ t
+        by true e = refl
+        by false e = cc
 
--- the name of an item token
-module _ (text places : List ℕ) (t : ℕ) where
-  pub no-item : (t / 65536 ≡ 0 → ⊥) → true ≡ hasName (namesAt text places) t
-  no-item e = rw (ne-eqb (t / 65536) 0 e)
+    pub not-once : r ≡ Not → false ≡ uniquely known name
+    not-once g = rw other (by (eqb (count name (everyName known)) 1) (ltb p n) (sym g ∙ f))
+      where
+        by : (t u : Bool) → Not ≡ cond t (cond u (Item p) (Condition (p - n))) Not → false ≡ t
+        by true true e = cc
+        by true false e = cc
+        by false u e = refl
 
-  pub an-item : t / 65536 ≡ 0 → t % 65536 < length places
-      → uniquely (namesAt text places) (leading (drop (getD places (t % 65536) 0) text)) ≡ hasName (namesAt text places) t
-  an-item e h = rw (e, name-at text places (t % 65536) h)
+-- the name of a token
+module _ (text : List ℕ) (items : ℕ) (places : List ℕ) (t : ℕ) where
+  abbrev known : Known
+  known = knownAt text items places
+
+  pub no-name : (t / 65536 ≡ 0 → ⊥) → (t / 65536 ≡ 5 → ⊥) → true ≡ hasName known t
+  no-name e f = rw (ne-eqb (t / 65536) 0 e, ne-eqb (t / 65536) 5 f)
+
+  module _ (L : Listed items places) (T : There items places t) where
+    pub item-place : t / 65536 ≡ 0 → t % 65536 < length places
+    item-place e = omega (arith, T .item e, L .within)
+
+    pub an-item : t / 65536 ≡ 0 → uniquely known (leading (drop (getD places (t % 65536) 0) text)) ≡ hasName known t
+    an-item e =
+        let h : t % 65536 < length (take items places) = omega (arith, T .item e, length-take-le items places (L .within)) in
+        rw (e, name-at text (take items places) (t % 65536) h, getD-take items places (t % 65536) 0 (T .item e))
+
+    pub a-condition : t / 65536 ≡ 5 → uniquely known (leading (drop (getD places (items + t % 65536) 0) text)) ≡ hasName known t
+    a-condition e =
+        let h : t % 65536 < length (drop items places) = omega (arith, T .condition e, length-drop items places) in
+        rw (e, name-at text (drop items places) (t % 65536) h, getD-drop items places (t % 65536) 0)

@@ -2,12 +2,9 @@
 use mathlib.Core.Path.{_≡_}
 use mathlib.Core.Bool.{Bool, true, cond, not, _&&_}
 use mathlib.Core.List.{List, [], _∷_}
-use Prim.Native.Nat.{ℕ, suc, _/_, _%_, _<_}
-use lib.Dec.{eqb}
+use Prim.Native.Nat.{ℕ, suc, _+_, _/_, _%_, _<_}
 use lib.ListN.{length, getD}
-use Rattle.tables.specs.Tokens.{isOff, exists}
-use Rattle.description.specs.Grammar.{bytes, same}
-use Rattle.spelling.specs.Meanings.{count}
+use Rattle.tables.specs.Tokens.{isOff, tokenThere}
 
 -- how many tokens stand before the first that fails a test
 unfoldable pub passing : (ℕ → Bool) → List ℕ → ℕ
@@ -15,13 +12,13 @@ passing test [] = 0
 passing test (t ∷ ts) = cond (test t) (suc (passing test ts)) 0
 
 -- `printable`, by the numbers of names and rows
-abbrev pub mayPrint : ℕ → ℕ → ℕ → Bool
-mayPrint items literals t = exists true items literals t && not (isOff t)
+abbrev pub mayPrint : ℕ → ℕ → ℕ → ℕ → Bool
+mayPrint items literals names t = tokenThere true items literals names t && not (isOff t)
 
--- a name that is no FILLER and stands once
-abbrev pub uniquely : List (List ℕ) → List ℕ → Bool
-uniquely names name = not (same name (bytes "FILLER")) && eqb (count name names) 1
+-- an item token and a condition-name have a place
+pub record There (items : ℕ) (places : List ℕ) (t : ℕ) : Type 0 where
+  pub item : t / 65536 ≡ 0 → t % 65536 < items
+  pub condition : t / 65536 ≡ 5 → items + t % 65536 < length places
 
--- every item token has a row
-abbrev pub AllThere : ℕ → List ℕ → Type 0
-AllThere items tokens = (i : ℕ) → i < length tokens → getD tokens i 0 / 65536 ≡ 0 → getD tokens i 0 % 65536 < items
+abbrev pub AllThere : ℕ → List ℕ → List ℕ → Type 0
+AllThere items places tokens = (i : ℕ) → i < length tokens → There items places (getD tokens i 0)

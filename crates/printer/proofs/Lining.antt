@@ -15,7 +15,8 @@ use lib.Seq.{drop-cons, getD-drop}
 use Rattle.tables.specs.Rows.{rowAt, part}
 use Rattle.tables.proofs.Front.{Front, front-none, front-store, front-part, front-length, front-rest}
 use Rattle.spelling.specs.Literals.{quoted, doubled, pointed, written}
-use Rattle.spelling.specs.Names.{leading, namesAt}
+use Rattle.spelling.specs.Names.{leading}
+use Rattle.naming.specs.Named.{knownAt}
 use Rattle.spelling.specs.Printing.{wordOf, spaced, line, printed}
 use Rattle.literal_words.specs.Found.{writtenOver}
 use Rattle.naming.proofs.Finding.{leading-short}
@@ -25,7 +26,7 @@ use Rattle.quoting.proofs.Doubling.{doubled-most, quoted-length}
 use Rattle.quoting.proofs.Pointing.{whole, pointed-length}
 use Rattle.printer.specs.Prints.{literalOf, Printable, AllPrintable}
 use Rattle.printer.proofs.Literally.{small, scaled, in-quotes, with-point}
-use Rattle.printer.proofs.Wording.{item-word, literal-sound, literal-word, switch-there, switch-word, word-there, word-word}
+use Rattle.printer.proofs.Wording.{item-word, condition-word, literal-sound, literal-word, switch-there, switch-word, word-there, word-word}
 
 abbrev short : ℕ → Bool
 short k = leb (length (getD spelt k [])) 16
@@ -38,15 +39,15 @@ spelt-short : (k : ℕ) → k < 28 → length (getD spelt k []) ≤ 16
 spelt-short k h = leb-true _ _ (below 28 short all-short k h)
 
 -- no word is longer than a description
-module _ (description places rows content : List ℕ) (t : ℕ) (P : Printable (namesAt description places) rows content t) (h : length description ≤ 4096) where
+module _ (description : List ℕ) (items : ℕ) (places rows content : List ℕ) (t : ℕ) (P : Printable description items places rows content t) (h : length description ≤ 4096) where
   abbrev w : List ℕ
-  w = wordOf (namesAt description places) rows content t
+  w = wordOf (knownAt description items places) rows content t
 
   literal-small : (k : t / 65536 ≡ 1) → length w ≤ 4096
   literal-small k =
       let r = rowAt rows (t % 65536) in
-      let s = literal-sound description places rows content t P k in
-      let e = literal-word description places rows content t P k in
+      let s = literal-sound description items places rows content t P k in
+      let e = literal-word description items places rows content t P k in
       let m = small r content s in
       elim (ℕ-discrete (r .kind) 2) [
         | yes q ↦ omega (arith, ap length (e ∙ in-quotes r content s q), quoted-length (part r content), doubled-most (part r content), m)
@@ -63,7 +64,7 @@ module _ (description places rows content : List ℕ) (t : ℕ) (P : Printable (
         | yes k ↦
             omega (
               arith,
-              ap length (item-word description places rows content t P k),
+              ap length (item-word description items places rows content t P k),
               leading-short (drop (getD places (t % 65536) 0) description),
               length-drop (getD places (t % 65536) 0) description,
             )
@@ -75,15 +76,25 @@ module _ (description places rows content : List ℕ) (t : ℕ) (P : Printable (
                     | yes k ↦
                         omega (
                           arith,
-                          ap length (switch-word description places rows content t P k),
-                          spelt-short (17 + t % 65536) (omega (arith, switch-there description places rows content t P k)),
+                          ap length (switch-word description items places rows content t P k),
+                          spelt-short (17 + t % 65536) (omega (arith, switch-there description items places rows content t P k)),
                         )
                     | no r ↦
-                        omega (
-                          arith,
-                          ap length (word-word description places rows content t P p q r),
-                          spelt-short (t % 65536) (omega (arith, word-there description places rows content t P p q r)),
-                        )
+                        elim (ℕ-discrete (t / 65536) 5) [
+                          | yes k ↦
+                              omega (
+                                arith,
+                                ap length (condition-word description items places rows content t P k),
+                                leading-short (drop (getD places (items + t % 65536) 0) description),
+                                length-drop (getD places (items + t % 65536) 0) description,
+                              )
+                          | no s ↦
+                              omega (
+                                arith,
+                                ap length (word-word description items places rows content t P p q r s),
+                                spelt-short (t % 65536) (omega (arith, word-there description items places rows content t P p q r s)),
+                              )
+                        ]
                   ]
             ]
       ]
@@ -175,14 +186,14 @@ module _ {word : ℕ → List ℕ} {tokens before now : List ℕ} {n i : ℕ} (L
         }
 
 -- the first word, and the others after it
-module _ {description : List ℕ} {names : List (List ℕ)} {rows content : List ℕ} (tokens : List ℕ) (A : AllPrintable description names rows content tokens) where
+module _ {description : List ℕ} {items : ℕ} {places rows content : List ℕ} (tokens : List ℕ) (A : AllPrintable description items places rows content tokens) where
   abbrev others : List ℕ
   others = take (length tokens - 1) (drop 1 tokens)
 
   pub others-are : others ≡ drop 1 tokens
   others-are = part-to-end tokens 1
 
-  pub others-printable : AllPrintable description names rows content others
+  pub others-printable : AllPrintable description items places rows content others
   others-printable =
       rw others-are
       record {
@@ -191,7 +202,7 @@ module _ {description : List ℕ} {names : List (List ℕ)} {rows content : List
         each =
             λ i h.
             let z : getD (drop 1 tokens) i 0 ≡ getD tokens (1 + i) 0 = getD-drop 1 tokens i 0 in
-            subst (Printable names rows content) (sym z) (A .each (1 + i) (omega (arith, length-drop 1 tokens)));
+            subst (Printable description items places rows content) (sym z) (A .each (1 + i) (omega (arith, length-drop 1 tokens)));
       }
 
 module _ (word : ℕ → List ℕ) (tokens out : List ℕ) (some : 1 ≤ length tokens) (room : length (line (map word tokens)) ≤ length out) where

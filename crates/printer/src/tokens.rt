@@ -5,7 +5,8 @@ ghost use Prim.Native.Nat.{_≤_};
 ghost use lib.ListN.{length, drop};
 ghost use Rattle.tables.specs.Tables.{literalSound};
 ghost use Rattle.spelling.specs.Literals.{written};
-ghost use Rattle.spelling.specs.Names.{leading, namesAt};
+ghost use Rattle.naming.specs.Named.{knownAt};
+ghost use Rattle.spelling.specs.Names.{leading};
 ghost use Rattle.spelling.specs.Printing.{wordOf};
 ghost use Rattle.literal_words.specs.Found.{writtenOver};
 ghost use Rattle.printer.specs.Prints.{literalOf, Printable};
@@ -68,12 +69,13 @@ fn put_name(description: &[u8], place: u32, out: &mut [u8])
 pub fn token_size(
     description: &[u8],
     places: &[u32],
+    items: usize,
     literals: &[u32],
     bytes: &[u8],
     token: u32,
 ) -> usize
-    requires { ⌜ Printable (namesAt (now description) (now places)) (now literals) (now bytes) token ⌝ }
-    ensures { λ r. ⌜ r ≡ length (wordOf (namesAt (now (description .entry)) (now (places .entry))) (now (literals .entry)) (now (bytes .entry)) token) ⌝ }
+    requires { ⌜ Printable (now description) items (now places) (now literals) (now bytes) token ⌝ }
+    ensures { λ r. ⌜ r ≡ length (wordOf (knownAt (now (description .entry)) items (now (places .entry))) (now (literals .entry)) (now (bytes .entry)) token) ⌝ }
 {
     let v = wide(token % 65536);
     let kind = token / 65536;
@@ -86,20 +88,24 @@ pub fn token_size(
     if kind == 2 {
         return word_size(17 + v);
     }
+    if kind == 5 {
+        return name_size(description, places[items + v]);
+    }
     word_size(v)
 }
 
 pub fn put_token(
     description: &[u8],
     places: &[u32],
+    items: usize,
     literals: &[u32],
     bytes: &[u8],
     token: u32,
     out: &mut [u8],
 )
-    requires { ⌜ Printable (namesAt (now description) (now places)) (now literals) (now bytes) token ⌝ }
-    requires { ⌜ length (wordOf (namesAt (now description) (now places)) (now literals) (now bytes) token) ≤ length (now out) ⌝ }
-    ensures { λ _. ⌜ now (out .exit) ≡ writtenOver (wordOf (namesAt (now (description .entry)) (now (places .entry))) (now (literals .entry)) (now (bytes .entry)) token) (now (out .entry)) ⌝ }
+    requires { ⌜ Printable (now description) items (now places) (now literals) (now bytes) token ⌝ }
+    requires { ⌜ length (wordOf (knownAt (now description) items (now places)) (now literals) (now bytes) token) ≤ length (now out) ⌝ }
+    ensures { λ _. ⌜ now (out .exit) ≡ writtenOver (wordOf (knownAt (now (description .entry)) items (now (places .entry))) (now (literals .entry)) (now (bytes .entry)) token) (now (out .entry)) ⌝ }
 {
     let v = wide(token % 65536);
     let kind = token / 65536;
@@ -113,6 +119,10 @@ pub fn put_token(
     }
     if kind == 2 {
         copy_word(17 + v, out);
+        return;
+    }
+    if kind == 5 {
+        put_name(description, places[items + v], out);
         return;
     }
     copy_word(v, out);

@@ -5,7 +5,7 @@ use mathlib.Core.Logic.{⊎-elim}
 use mathlib.Core.List.{List, [], _∷_}
 use Prim.Native.Nat.{ℕ, suc, _+_, _-_, _≤_}
 use native.Mathlib.Omega.{arith}
-use lib.Dec.{eqb, leb}
+use lib.Dec.{eqb, leb, ltb}
 use lib.ListN.{length, getD}
 use borrow.Author.Tests.{eqb-true}
 use Rattle.tables.specs.declared.Row.{Row}
@@ -13,7 +13,7 @@ use Rattle.description.specs.Grammar.{same, within, any, all, isLetter, isHyphe
 use Rattle.description.specs.Reader.{isName}
 use Rattle.description.proofs.Bytes.{and-both}
 use Rattle.spelling.specs.Literals.{textOf, isText, rowOfLiteral, numberOf, isNumber}
-use Rattle.spelling.specs.Names.{namesAt}
+use Rattle.spelling.specs.Names.{Known, everyName}
 use Rattle.spelling.specs.Keywords.{Meaning, alone, item, value, order, equal, faulty, Keyword, vocabulary}
 use Rattle.spelling.specs.Meanings.{count, position, named, lookup, meaning}
 use Rattle.spelling.proofs.Cutting.{same-true}
@@ -28,8 +28,9 @@ use Rattle.literal_words.specs.declared.Text.{Text}
 use Rattle.literal_words.specs.declared.Text.the-variants.{Is as Held, Not as NoText}
 use Rattle.literal_words.specs.Found.{textFound, numberFound}
 use Rattle.naming.specs.declared.Called.{Called}
-use Rattle.naming.specs.declared.Called.the-variants.{Row as Named, Not as Unnamed}
+use Rattle.naming.specs.declared.Called.the-variants.{Item as Named, Condition, Not as Unnamed}
 use Rattle.naming.specs.Named.{calledBy}
+use Rattle.naming.proofs.Finding.{position-within}
 use Rattle.senses.specs.declared.Sense.the-variants.{Token, Item, Literal, Order, Equal, Fault}
 use Rattle.senses.specs.Senses.{senseOf, textRow}
 
@@ -51,11 +52,11 @@ passes w other (k ∷ ks) n e = by (same w (k .bytes)) refl (passes w other ks (
     by true q rest = absurd (true≢false (sym e ∙ ap isName (same-true w (k .bytes) q) ∙ n .0))
     by false q rest = rest
 
-module _ (names : List (List ℕ)) (w : List ℕ) where
-  pub name-sense : isName w ≡ true → senseOf (named names w) ≡ senseOf (lookup w (named names w) vocabulary)
-  name-sense e = ap senseOf (sym (passes w (named names w) vocabulary no-names e))
+module _ (known : Known) (w : List ℕ) where
+  pub name-sense : isName w ≡ true → senseOf (named known w) ≡ senseOf (lookup w (named known w) vocabulary)
+  name-sense e = ap senseOf (sym (passes w (named known w) vocabulary no-names e))
 
-  pub word-sense : isName w ≡ false → senseOf (lookup w (faulty 15) vocabulary) ≡ senseOf (lookup w (named names w) vocabulary)
+  pub word-sense : isName w ≡ false → senseOf (lookup w (faulty 15) vocabulary) ≡ senseOf (lookup w (named known w) vocabulary)
   word-sense e = rw e
 
   -- a name's row
@@ -69,19 +70,51 @@ module _ (names : List (List ℕ)) (w : List ℕ) where
         let f2 = and-both _ (not (isHyphen (getD w (length w - 1) 0))) f3 .0 in
         and-both (all isNameByte w) (not (isHyphen (getD w 0 0))) f2 .0
 
-    pub row-sense : {v : ℕ} (r : Called) → r ≡ calledBy w names → r ≡ Named v → Item v ≡ senseOf (named names w)
-    row-sense {v} r f g = rw e (by (eqb (count w names) 1) (sym g ∙ f))
-      where
-        by : (t : Bool) → Named v ≡ cond t (Named (position w names)) Unnamed → Item v ≡ senseOf (cond t (item (position w names)) (faulty 16))
-        by true q = let p : v ≡ position w names = cc in ap Item p
-        by false q = cc
+    abbrev all-names : List (List ℕ)
+    all-names = everyName known
 
-    pub no-row-sense : (r : Called) → r ≡ calledBy w names → r ≡ Unnamed → Fault 16 ≡ senseOf (named names w)
-    no-row-sense r f g = rw e (by (eqb (count w names) 1) (sym g ∙ f))
+    abbrev n : ℕ
+    n = length (known .items)
+
+    abbrev p : ℕ
+    p = position w all-names
+
+    -- by the test whether one has the name, and whether that is an item
+    pub item-sense : {v : ℕ} (r : Called) → r ≡ calledBy w known → r ≡ Named v → Item v ≡ senseOf (named known w)
+    item-sense {v} r f g = rw e (by (eqb (count w all-names) 1) (ltb p n) (sym g ∙ f))
       where
-        by : (t : Bool) → Unnamed ≡ cond t (Named (position w names)) Unnamed → Fault 16 ≡ senseOf (cond t (item (position w names)) (faulty 16))
-        by true q = cc
-        by false q = refl
+        by : (t u : Bool) → Named v ≡ cond t (cond u (Named p) (Condition (p - n))) Unnamed
+            → Item v ≡ senseOf (cond t (cond u (item p) (alone (327680 + (p - n)))) (faulty 16))
+        by true true q = let z : v ≡ p = cc in ap Item z
+        by true false q = cc
+        by false u q = cc
+
+    pub condition-sense : {v : ℕ} (r : Called) → r ≡ calledBy w known → r ≡ Condition v → Token (327680 + v) ≡ senseOf (named known w)
+    condition-sense {v} r f g = rw e (by (eqb (count w all-names) 1) (ltb p n) (sym g ∙ f))
+      where
+        by : (t u : Bool) → Condition v ≡ cond t (cond u (Named p) (Condition (p - n))) Unnamed
+            → Token (327680 + v) ≡ senseOf (cond t (cond u (item p) (alone (327680 + (p - n)))) (faulty 16))
+        by true true q = cc
+        by true false q = let z : v ≡ p - n = cc in ap (λ (k : ℕ). Token (327680 + k)) z
+        by false u q = cc
+
+    -- a row that there is
+    pub condition-small : {v : ℕ} (r : Called) → r ≡ calledBy w known → r ≡ Condition v → length all-names ≤ 128 → v ≤ 128
+    condition-small {v} r f g h = by (eqb (count w all-names) 1) (ltb p n) (sym g ∙ f)
+      where
+        by : (t u : Bool) → Condition v ≡ cond t (cond u (Named p) (Condition (p - n))) Unnamed → v ≤ 128
+        by true true q = let z : _≡_ {A = ℕ} 0 1 = cc in absurd (omega arith)
+        by true false q = let z : v ≡ p - n = cc in omega (arith, position-within w all-names)
+        by false u q = let z : _≡_ {A = ℕ} 0 1 = cc in absurd (omega arith)
+
+    pub no-row-sense : (r : Called) → r ≡ calledBy w known → r ≡ Unnamed → Fault 16 ≡ senseOf (named known w)
+    no-row-sense r f g = rw e (by (eqb (count w all-names) 1) (ltb p n) (sym g ∙ f))
+      where
+        by : (t u : Bool) → Unnamed ≡ cond t (cond u (Named p) (Condition (p - n))) Unnamed
+            → Fault 16 ≡ senseOf (cond t (cond u (item p) (alone (327680 + (p - n)))) (faulty 16))
+        by true true q = cc
+        by true false q = cc
+        by false u q = refl
 
 -- a nonnumeric literal, by its size
 module _ (w : List ℕ) (r : Text) (f : r ≡ textFound w) where
@@ -105,26 +138,26 @@ text-small w e =
     let f = both (same w (quoted (textOf w .bytes))) (fits (textOf w)) e .1 in
     small-size (textOf w) (both (rowSound (rowOfLiteral 0 (textOf w))) (validContent 2 0 (textOf w .bytes)) f .0) refl
 
-module _ (names : List (List ℕ)) (w : List ℕ) where
-  pub text-sense : {n : ℕ} → isText w ≡ true → length (textOf w .bytes) ≡ n → Literal (textRow n) ≡ senseOf (meaning names w)
+module _ (known : Known) (w : List ℕ) where
+  pub text-sense : {n : ℕ} → isText w ≡ true → length (textOf w .bytes) ≡ n → Literal (textRow n) ≡ senseOf (meaning known w)
   unfolding meaning
   text-sense e q = rw (e, q)
 
   module _ (e : isText w ≡ false) (r : Number) (f : r ≡ numberFound w) where
-    pub number-sense : {row : Row} → r ≡ Is row → Literal row ≡ senseOf (meaning names w)
+    pub number-sense : {row : Row} → r ≡ Is row → Literal row ≡ senseOf (meaning known w)
     unfolding meaning
     number-sense {row} g = rw e (by (isNumber w) (sym g ∙ f))
       where
         by : (t : Bool) → Is row ≡ cond t (Is (rowOfLiteral 0 (numberOf w))) Not
-            → Literal row ≡ senseOf (cond t (value (numberOf w)) (lookup w (named names w) vocabulary))
+            → Literal row ≡ senseOf (cond t (value (numberOf w)) (lookup w (named known w) vocabulary))
         by true q = let p : row ≡ rowOfLiteral 0 (numberOf w) = cc in ap Literal p
         by false q = cc
 
-    pub plain-sense : r ≡ Not → senseOf (lookup w (named names w) vocabulary) ≡ senseOf (meaning names w)
+    pub plain-sense : r ≡ Not → senseOf (lookup w (named known w) vocabulary) ≡ senseOf (meaning known w)
     unfolding meaning
     plain-sense g = rw e (by (isNumber w) (sym g ∙ f))
       where
         by : (t : Bool) → Not ≡ cond t (Is (rowOfLiteral 0 (numberOf w))) Not
-            → senseOf (lookup w (named names w) vocabulary) ≡ senseOf (cond t (value (numberOf w)) (lookup w (named names w) vocabulary))
+            → senseOf (lookup w (named known w) vocabulary) ≡ senseOf (cond t (value (numberOf w)) (lookup w (named known w) vocabulary))
         by true q = cc
         by false q = refl

@@ -4,7 +4,7 @@ ghost use mathlib.Core.Bool.{true};
 ghost use Prim.Native.Nat.{_≤_};
 ghost use lib.ListN.{length};
 ghost use Rattle.description.specs.Reader.{isName};
-ghost use Rattle.spelling.specs.Names.{namesAt};
+ghost use Rattle.naming.specs.Named.{Listed, knownAt};
 ghost use Rattle.spelling.specs.Keywords.{vocabulary};
 ghost use Rattle.spelling.specs.Meanings.{lookup, named, meaning};
 ghost use Rattle.senses.specs.Senses.{textRow, senseOf};
@@ -32,32 +32,33 @@ fn text_row(size: usize) -> Row
     }
 }
 
-// A name's row.
-fn item(description: &[u8], places: &[u32], word: &[u8]) -> Sense
-    requires { ⌜ (isName (now word) ≡ true) × (length (now places) ≤ 64) ⌝ }
-    ensures { λ r. ⌜ r ≡ senseOf (named (namesAt (now (description .entry)) (now (places .entry))) (now (word .entry))) ⌝ }
+// What has a name. A condition-name is no operand: nothing joins its token.
+fn called(description: &[u8], places: &[u32], items: usize, word: &[u8]) -> Sense
+    requires { ⌜ (isName (now word) ≡ true) × (Listed items (now places)) ⌝ }
+    ensures { λ r. ⌜ r ≡ senseOf (named (knownAt (now (description .entry)) items (now (places .entry))) (now (word .entry))) ⌝ }
 {
-    let called = row_named(description, places, word);
+    let called = row_named(description, places, items, word);
     match called {
-        Called::Row(v) => Sense::Item(v),
+        Called::Item(v) => Sense::Item(v),
+        Called::Condition(v) => Sense::Token(327680 + v),
         Called::Not => Sense::Fault(16),
     }
 }
 
 // A word that is no literal.
-fn plain(description: &[u8], places: &[u32], word: &[u8]) -> Sense
-    requires { ⌜ length (now places) ≤ 64 ⌝ }
-    ensures { λ r. ⌜ r ≡ senseOf (lookup (now (word .entry)) (named (namesAt (now (description .entry)) (now (places .entry))) (now (word .entry))) vocabulary) ⌝ }
+fn plain(description: &[u8], places: &[u32], items: usize, word: &[u8]) -> Sense
+    requires { ⌜ Listed items (now places) ⌝ }
+    ensures { λ r. ⌜ r ≡ senseOf (lookup (now (word .entry)) (named (knownAt (now (description .entry)) items (now (places .entry))) (now (word .entry))) vocabulary) ⌝ }
 {
     if is_name(word) {
-        return item(description, places, word);
+        return called(description, places, items, word);
     }
     vocable(word)
 }
 
-pub fn sense_of(description: &[u8], places: &[u32], word: &[u8]) -> Sense
-    requires { ⌜ length (now places) ≤ 64 ⌝ }
-    ensures { λ r. ⌜ r ≡ senseOf (meaning (namesAt (now (description .entry)) (now (places .entry))) (now (word .entry))) ⌝ }
+pub fn sense_of(description: &[u8], places: &[u32], items: usize, word: &[u8]) -> Sense
+    requires { ⌜ Listed items (now places) ⌝ }
+    ensures { λ r. ⌜ r ≡ senseOf (meaning (knownAt (now (description .entry)) items (now (places .entry))) (now (word .entry))) ⌝ }
 {
     let text = read_text(word);
     if let Text::Is(size) = text {
@@ -66,6 +67,6 @@ pub fn sense_of(description: &[u8], places: &[u32], word: &[u8]) -> Sense
     let number = read_number(word);
     match number {
         Number::Is(row) => Sense::Literal(row),
-        Number::Not => plain(description, places, word),
+        Number::Not => plain(description, places, items, word),
     }
 }

@@ -4,7 +4,7 @@ ghost use Prim.Native.Nat.{_≤_, _<_};
 ghost use lib.ListN.{length};
 ghost use Rattle.spelling.specs.Keywords.{order};
 ghost use Rattle.spelling.specs.Meanings.{meaning};
-ghost use Rattle.spelling.specs.Names.{namesAt};
+ghost use Rattle.naming.specs.Named.{Listed, knownAt};
 ghost use Rattle.splitter.specs.Splits.{between};
 ghost use Rattle.senses.specs.Senses.{PastOrEqual, PieceAfter, PieceBy};
 ghost use Rattle.description.specs.Grammar.{bytes};
@@ -71,11 +71,18 @@ fn equal_at(text: &[u8], end: usize) -> Piece
 }
 
 // The word from `at` to `end`, with those that join it.
-pub fn piece_at(description: &[u8], places: &[u32], text: &[u8], at: usize, end: usize) -> Piece
-    requires { ⌜ (length (now places) ≤ 64) × (at < end) × (end ≤ length (now text)) ⌝ }
-    ensures { λ r. ⌜ PieceBy (meaning (namesAt (now (description .entry)) (now (places .entry))) (between (now (text .entry)) at end)) (now (text .entry)) end r ⌝ }
+pub fn piece_at(
+    description: &[u8],
+    places: &[u32],
+    items: usize,
+    text: &[u8],
+    at: usize,
+    end: usize,
+) -> Piece
+    requires { ⌜ (Listed items (now places)) × (at < end) × (end ≤ length (now text)) ⌝ }
+    ensures { λ r. ⌜ PieceBy (meaning (knownAt (now (description .entry)) items (now (places .entry))) (between (now (text .entry)) at end)) (now (text .entry)) end r ⌝ }
 {
-    let sense = sense_of(description, places, &text[at..end]);
+    let sense = sense_of(description, places, items, &text[at..end]);
     match sense {
         Sense::Token(t) => Piece {
             met: Met::Token(t),

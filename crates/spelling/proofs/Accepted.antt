@@ -21,11 +21,12 @@ use Rattle.tables.specs.Rows.{rowCount, isGroup, rowAt, rowSound, groupSound, c
 use Rattle.tables.specs.Refusals.{firstFailing}
 use Rattle.tables.specs.Tables.{lengthSound, literalSound}
 use Rattle.tables.proofs.Tests.{both, four, either, and-both}
+use Rattle.spelling.specs.Names.{Known, Book}
 use Rattle.spelling.specs.Literals.{Literal, rowOfLiteral, fits}
 use Rattle.spelling.specs.Keywords.{Piece, token, literal, fault}
-use Rattle.spelling.specs.Reading.{Found, none, tokensFrom, rowsFrom, bytesOf}
+use Rattle.spelling.specs.Reading.{Found, none, tokensFrom, rowsFrom, bytesOf, literalsBefore, tokensOf}
 use Rattle.spelling.specs.Printing.{printable, hasName, firstToken, printFault}
-use Rattle.spelling.proofs.Laying.{Clean, Fine, AllFine, ofLiteralKind}
+use Rattle.spelling.proofs.Laying.{Clean, Fine, AllFine, AllFit, all-fit, ofLiteralKind}
 
 -- how many literals
 abbrev pub literals : List Piece → ℕ
@@ -48,12 +49,12 @@ rows-length offset (literal l ∷ ps) = omega (arith, rows-length (offset + leng
 rows-length offset (fault number ∷ ps) = rows-length offset ps
 
 -- 6
-module _ (names : List (List ℕ)) where
-  no-table : (rows : List ℕ) (t : ℕ) → isLiteral t ≡ false → printable names [] t ≡ true → printable names rows t ≡ true
+module _ (known : Known) where
+  no-table : (rows : List ℕ) (t : ℕ) → isLiteral t ≡ false → printable known [] t ≡ true → printable known rows t ≡ true
   no-table rows t l e = rw l (rw l at e)
 
-  pub all-printable : (rows : List ℕ) (n : ℕ) (ps : List Piece) → Clean n ps → AllFine names ps → n + literals ps ≤ rowCount rows → (at : ℕ)
-      → firstToken (printable names rows) 6 at (tokensFrom n ps) ≡ none
+  pub all-printable : (rows : List ℕ) (n : ℕ) (ps : List Piece) → Clean n ps → AllFine known ps → n + literals ps ≤ rowCount rows → (at : ℕ)
+      → firstToken (printable known rows) 6 at (tokensFrom n ps) ≡ none
   unfolding firstToken tokensFrom
   all-printable rows n [] c f h at = refl
   all-printable rows n (token t ∷ ps) c f h at =
@@ -66,7 +67,7 @@ module _ (names : List (List ℕ)) where
   all-printable rows n (fault number ∷ ps) c f h at = absurd c
 
   -- 16
-  pub all-named : (n : ℕ) (ps : List Piece) → Clean n ps → AllFine names ps → (at : ℕ) → firstToken (hasName names) 16 at (tokensFrom n ps) ≡ none
+  pub all-named : (n : ℕ) (ps : List Piece) → Clean n ps → AllFine known ps → (at : ℕ) → firstToken (hasName known) 16 at (tokensFrom n ps) ≡ none
   unfolding firstToken tokensFrom
   all-named n [] c f at = refl
   all-named n (token t ∷ ps) c f at = rw (f .0 .4) (all-named n ps c (f .1) (suc at))
@@ -154,7 +155,7 @@ next-sound : (test : ℕ → Bool) (refusal : ℕ → Refusal) (n k : ℕ) → t
 unfolding firstFailing
 next-sound test refusal n k e rest = rw e rest
 
-pub rows-sound : (names : List (List ℕ)) (n : ℕ) (ps : List Piece) → Clean n ps → AllFine names ps → (pre preb : List ℕ)
+pub rows-sound : (n : ℕ) (ps : List Piece) → Clean n ps → AllFit ps → (pre preb : List ℕ)
     → length pre ≡ n * 5 → length preb ≤ n * 256
     → firstFailing
     (λ v. literalSound (preb ++ bytesOf ps) (rowAt (pre ++ rowsFrom (length preb) ps) v))
@@ -163,37 +164,114 @@ pub rows-sound : (names : List (List ℕ)) (n : ℕ) (ps : List Piece) → Clean
     (literals ps)
     ≡ Sound
 unfolding firstFailing rowsFrom bytesOf
-rows-sound names n [] c f pre preb e h = refl
-rows-sound names n (token t ∷ ps) c f pre preb e h = rows-sound names n ps c (f .1) pre preb e h
-rows-sound names n (literal l ∷ ps) c f pre preb e h =
+rows-sound n [] c f pre preb e h = refl
+rows-sound n (token t ∷ ps) c f pre preb e h = rows-sound n ps c f pre preb e h
+rows-sound n (literal l ∷ ps) c f pre preb e h =
     let r : Row = rowOfLiteral (length preb) l in
     let row : List ℕ = l .kind ∷ length preb ∷ length (l .bytes) ∷ l .scale ∷ r .digits ∷ [] in
     let rest : List ℕ = rowsFrom (length preb + length (l .bytes)) ps in
-    let small : length (l .bytes) ≤ 256 = small-size l (both (rowSound (rowOfLiteral 0 l)) (validContent (l .kind) (rowOfLiteral 0 l .digits) (l .bytes)) (f .0 .2) .0) (f .0 .3) in
+    let small : length (l .bytes) ≤ 256 = small-size l (both (rowSound (rowOfLiteral 0 l)) (validContent (l .kind) (rowOfLiteral 0 l .digits) (l .bytes)) (f .0) .0) (f .1) in
     let long : length (pre ++ row) ≡ suc n * 5 = omega (arith, length-append pre row) in
     let ih =
-    rows-sound names (suc n) ps (c .1) (f .1) (pre ++ row) (preb ++ l .bytes) long (omega (arith, length-append preb (l .bytes))) in
+    rows-sound (suc n) ps (c .1) (f .2) (pre ++ row) (preb ++ l .bytes) long (omega (arith, length-append preb (l .bytes))) in
     let near : length preb ≤ 65535 = omega (arith, c .0) in
     next-sound
     (λ v. literalSound (preb ++ (l .bytes ++ bytesOf ps)) (rowAt (pre ++ (l .kind ∷ length preb ∷ length (l .bytes) ∷ l .scale ∷ r .digits ∷ rest)) v))
     LiteralRow n (literals ps)
-    (ap (literalSound (preb ++ (l .bytes ++ bytesOf ps))) (row-again n pre r rest e) ∙ row-sound l preb (bytesOf ps) near (f .0 .2) (f .0 .3))
+    (ap (literalSound (preb ++ (l .bytes ++ bytesOf ps))) (row-again n pre r rest e) ∙ row-sound l preb (bytesOf ps) near (f .0) (f .1))
     (rw (length-append preb (l .bytes), append-assoc pre row rest, append-assoc preb (l .bytes) (bytesOf ps)) at ih)
-rows-sound names n (fault number ∷ ps) c f pre preb e h = absurd c
+rows-sound n (fault number ∷ ps) c f pre preb e h = absurd c
 
--- the printer refuses nothing that was read
-pub no-refusal : (names : List (List ℕ)) (ps : List Piece) → Clean 0 ps → AllFine names ps
-    → leb 1 (length (tokensFrom 0 ps)) && leb (length (tokensFrom 0 ps)) 256 ≡ true
-    → printFault names (rowsFrom 0 ps) (bytesOf ps) (tokensFrom 0 ps) ≡ none
-no-refusal names ps c f t =
-    let long = rows-length 0 ps in
-    let count : rowCount (rowsFrom 0 ps) ≡ literals ps = omega arith in
-    let rows = rows-sound names 0 ps c f [] [] refl (omega arith) in
-    rw (
-      table-sound 0 ps c,
-      count,
-      rows,
-      t,
-      all-printable names (rowsFrom 0 ps) 0 ps c f (omega arith) 0,
-    )
-    (all-named names 0 ps c f 0)
+-- pieces after pieces
+rows-append : (offset : ℕ) (ps qs : List Piece) → rowsFrom offset (ps ++ qs) ≡ rowsFrom offset ps ++ rowsFrom (offset + length (bytesOf ps)) qs
+unfolding rowsFrom bytesOf
+rows-append offset [] qs = let e : offset + 0 ≡ offset = omega arith in rw e
+rows-append offset (token t ∷ ps) qs = rows-append offset ps qs
+rows-append offset (literal l ∷ ps) qs =
+    let r = rowOfLiteral offset l in
+    let e : offset + length (l .bytes) + length (bytesOf ps) ≡ offset + length (l .bytes ++ bytesOf ps) = omega (arith, length-append (l .bytes) (bytesOf ps)) in
+    ap (λ (v : List ℕ). r .kind ∷ r .offset ∷ r .size ∷ r .scale ∷ r .digits ∷ v)
+    (rows-append (offset + length (l .bytes)) ps qs ∙ ap (λ (o : ℕ). rowsFrom (offset + length (l .bytes)) ps ++ rowsFrom o qs) e)
+rows-append offset (fault number ∷ ps) qs = rows-append offset ps qs
+
+bytes-append : (ps qs : List Piece) → bytesOf (ps ++ qs) ≡ bytesOf ps ++ bytesOf qs
+unfolding bytesOf
+bytes-append [] qs = refl
+bytes-append (token t ∷ ps) qs = bytes-append ps qs
+bytes-append (literal l ∷ ps) qs = ap (λ (v : List ℕ). l .bytes ++ v) (bytes-append ps qs) ∙ sym (append-assoc (l .bytes) (bytesOf ps) (bytesOf qs))
+bytes-append (fault number ∷ ps) qs = bytes-append ps qs
+
+fit-append : (ps qs : List Piece) → AllFit ps → AllFit qs → AllFit (ps ++ qs)
+fit-append [] qs f g = g
+fit-append (token t ∷ ps) qs f g = fit-append ps qs f g
+fit-append (literal l ∷ ps) qs f g = (f .0, f .1, fit-append ps qs (f .2) g)
+fit-append (fault number ∷ ps) qs f g = fit-append ps qs f g
+
+clean-append : (n m : ℕ) (ps qs : List Piece) → Clean n ps → m ≡ n + literals ps → Clean m qs → Clean n (ps ++ qs)
+clean-append n m [] qs c e d = let q : m ≡ n = omega arith in subst (λ (k : ℕ). Clean k qs) q d
+clean-append n m (token t ∷ ps) qs c e d = clean-append n m ps qs c e d
+clean-append n m (literal l ∷ ps) qs c e d = (c .0, clean-append (suc n) m ps qs (c .1) (omega arith) d)
+clean-append n m (fault number ∷ ps) qs c e d = absurd c
+
+literals-append : (ps qs : List Piece) → literals (ps ++ qs) ≡ literals ps + literals qs
+literals-append [] qs = omega arith
+literals-append (token t ∷ ps) qs = literals-append ps qs
+literals-append (literal l ∷ ps) qs = omega (arith, literals-append ps qs)
+literals-append (fault number ∷ ps) qs = literals-append ps qs
+
+-- a book that a description gave: its literals are pieces without a fault
+pub record Kept (b : Book) : Type 0 where
+  pub few : (length (b .known .items) ≤ 64) × (length (b .known .conditions) ≤ 64)
+  pub own : List Piece
+  pub own-clean : Clean 0 own
+  pub own-fit : AllFit own
+  pub own-rows : b .rows ≡ rowsFrom 0 own
+  pub own-bytes : b .bytes ≡ bytesOf own
+
+pub own-count : {b : Book} (K : Kept b) → literalsBefore b ≡ literals (K .own)
+own-count {b} K = let long = rows-length 0 (K .own) in omega (arith, ap length (K .own-rows))
+
+pub own-length : {b : Book} (K : Kept b) → length (b .rows) ≡ literalsBefore b * 5
+own-length {b} K = let long = rows-length 0 (K .own) in omega (arith, ap length (K .own-rows))
+
+-- the literals of the book and of a text
+module _ {b : Book} (K : Kept b) (ps : List Piece) (c : Clean (literalsBefore b) ps) (f : AllFine (b .known) ps) where
+  abbrev rows : List ℕ
+  rows = b .rows ++ rowsFrom (length (b .bytes)) ps
+
+  abbrev content : List ℕ
+  content = b .bytes ++ bytesOf ps
+
+  abbrev whole : List Piece
+  whole = K .own ++ ps
+
+  whole-clean : Clean 0 whole
+  whole-clean = clean-append 0 (literalsBefore b) (K .own) ps (K .own-clean) (omega (arith, own-count K)) c
+
+  whole-rows : rows ≡ rowsFrom 0 whole
+  whole-rows =
+      let e : length (bytesOf (K .own)) ≡ 0 + length (bytesOf (K .own)) = omega arith in
+      rw (K .own-bytes, K .own-rows) (ap (λ (o : ℕ). rowsFrom 0 (K .own) ++ rowsFrom o ps) e ∙ sym (rows-append 0 (K .own) ps))
+
+  whole-bytes : content ≡ bytesOf whole
+  whole-bytes = rw (K .own-bytes) (sym (bytes-append (K .own) ps))
+
+  whole-count : rowCount rows ≡ literals whole
+  whole-count = let long = rows-length 0 whole in omega (arith, ap length whole-rows)
+
+  -- 3, 4 and 6
+  pub sound-table : lengthSound rows ≡ true
+  sound-table = rw whole-rows (table-sound 0 whole whole-clean)
+
+  pub sound-rows : firstFailing (λ v. literalSound content (rowAt rows v)) LiteralRow 0 (rowCount rows) ≡ Sound
+  sound-rows =
+      rw (whole-count, whole-rows, whole-bytes)
+      (rows-sound 0 whole whole-clean (fit-append (K .own) ps (K .own-fit) (all-fit (b .known) ps f)) [] [] refl (omega arith))
+
+  pub sound-tokens : firstToken (printable (b .known) rows) 6 0 (tokensOf b ps) ≡ none
+  sound-tokens =
+      all-printable (b .known) rows (literalsBefore b) ps c f (omega (arith, own-count K, whole-count, literals-append (K .own) ps)) 0
+
+  -- the printer refuses nothing that was read
+  pub no-refusal : leb 1 (length (tokensOf b ps)) && leb (length (tokensOf b ps)) 256 ≡ true → printFault (b .known) rows content (tokensOf b ps) ≡ none
+  no-refusal t = rw (sound-table, sound-rows, t, sound-tokens) (all-named (b .known) (literalsBefore b) ps c f 0)

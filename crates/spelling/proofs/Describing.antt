@@ -1,49 +1,76 @@
--- A description has at most 64 names.
-use mathlib.Core.Path.{_≡_, refl, sym, ap, _∙_}
-use mathlib.Core.Bool.{Bool, true, false, true≢false}
-use mathlib.Core.Logic.{⊎-elim}
-use mathlib.Core.List.{List, [], _∷_, map}
-use Prim.Native.Nat.{ℕ, suc, _+_, _≤_, _<_}
+-- What a description gives a condition text: names of at most 64 items and 64 conditions, and literals that the rules accept.
+use mathlib.Core.Path.{_≡_, refl, sym, ap, ap₂, _∙_}
+use mathlib.Core.List.{List, [], _∷_, _++_, map}
+use Prim.Native.Nat.{ℕ, zero, suc, _+_, _≤_, _<_}
 use native.Mathlib.Omega.{arith}
-use lib.ListN.{length, drop}
-use lib.Dec.{leb}
-use borrow.Author.Tests.{leb-true, leb-false, le-leb}
-use Rattle.description.specs.Grammar.{Entry, Row, row, Table}
-use Rattle.description.specs.Reader.{layout, sizeOf}
-use Rattle.description.specs.Limits.{Outcome, table, refusal, over, describe}
-use Rattle.description.proofs.Groups.{lays-records}
-use Rattle.description.proofs.Verdict.{Verdict, Within, verdict}
-use Rattle.spelling.specs.Names.{leading, namesOf}
+use lib.ListN.{length, getD, drop}
+use Rattle.description.specs.Grammar.{Entry, Condition, Table, Row, row, Literal as Told, literalRow, literalRows, literalsOf, literalBytes}
+use Rattle.description.specs.Limits.{table, describe}
+use Rattle.description.proofs.Keeping.{Within, within}
+use Rattle.spelling.specs.Names.{leading, namesAt, knownOf, numbers, bookOf}
+use Rattle.spelling.specs.Keywords.{Piece, literal}
+use Rattle.spelling.specs.Reading.{rowsFrom, bytesOf}
+use Rattle.spelling.proofs.Laying.{Clean, AllFit}
+use Rattle.spelling.proofs.Given.{given, AllFitting, Free, entries-fit, parted-total, entries-short}
+use Rattle.spelling.proofs.Accepted.{Kept}
 
 pub length-map : {A B : Type 0} (f : A → B) (l : List A) → length (map f l) ≡ length l
 length-map f [] = refl
 length-map f (a ∷ l) = ap suc (length-map f l)
 
-pub layout-length : (o : ℕ) (es : List Entry) → length (layout o es) ≡ length es
-unfolding layout
-layout-length o [] = refl
-layout-length o (e ∷ es) = ap suc (layout-length (o + sizeOf (e .content)) es)
-
-within-few : (es : List Entry) (rs : List Row) → length rs ≡ length es → Within es rs → length es ≤ 64
-within-few es rs e w = by (leb (length es) 64) refl
-  where
-    by : (t : Bool) → leb (length es) 64 ≡ t → length es ≤ 64
-    by true h = leb-true _ _ h
-    by false h = let l : 64 < length es = leb-false (length es) 64 h in absurd (true≢false (w 64 (row 0 0 0 0 0) l (omega arith)))
-
-pub few-entries : (text : List ℕ) (t : Table) → describe text ≡ table t → length (t .entries) ≤ 64
-few-entries text t e = by (describe text) e (verdict text)
-  where
-    by : (o : Outcome) → o ≡ table t → Verdict text o → length (t .entries) ≤ 64
-    by (table u) q (Verdict.fine l v w) =
-        let p : u ≡ t = cc in
-        let n = ap length (lays-records (v .nested)) ∙ layout-length 0 (u .entries) in
-        rw p at (within-few (u .entries) (u .rows) n w)
-    by (refusal n) q v = let z : _≡_ {A = ℕ} 0 1 = cc in absurd (omega arith)
-
-pub names-length : (text : List ℕ) (t : Table) → length (namesOf text t) ≡ length (t .entries)
-names-length text t =
+-- as many names as rows
+pub items-length : (text : List ℕ) (t : Table) → length (knownOf text t .items) ≡ length (t .entries)
+items-length text t =
     length-map (λ (p : ℕ). leading (drop p text)) (map (λ (e : Entry). e .named) (t .entries)) ∙ length-map (λ (e : Entry). e .named) (t .entries)
 
-pub few-names : (text : List ℕ) (t : Table) → describe text ≡ table t → length (namesOf text t) ≤ 64
-few-names text t e = omega (arith, names-length text t, few-entries text t e)
+pub conditions-length : (text : List ℕ) (t : Table) → length (knownOf text t .conditions) ≡ length (t .conditions)
+conditions-length text t =
+    length-map (λ (p : ℕ). leading (drop p text)) (map (λ (c : Condition). c .named) (t .conditions)) ∙ length-map (λ (c : Condition). c .named) (t .conditions)
+
+-- the description's literals as pieces
+abbrev pieces : List Told → List Piece
+pieces [] = []
+pieces (x ∷ xs) = literal (given x) ∷ pieces xs
+
+rows-are : (o : ℕ) (xs : List Told) → numbers (literalRows o xs) ≡ rowsFrom o (pieces xs)
+unfolding numbers literalRows rowsFrom
+rows-are o [] = refl
+rows-are o (x ∷ xs) =
+    let r = literalRow o x in
+    ap (λ (v : List ℕ). r .kind ∷ r .offset ∷ r .size ∷ r .scale ∷ r .digits ∷ v) (rows-are (o + length (x .bytes)) xs)
+
+bytes-are : (xs : List Told) → literalBytes xs ≡ bytesOf (pieces xs)
+unfolding literalBytes bytesOf
+bytes-are [] = refl
+bytes-are (x ∷ xs) = ap (λ (v : List ℕ). x .bytes ++ v) (bytes-are xs)
+
+pieces-clean : (n : ℕ) (xs : List Told) → n + length xs ≤ 64 → Clean n (pieces xs)
+pieces-clean n [] h = tt
+pieces-clean n (x ∷ xs) h = (omega arith, pieces-clean (suc n) xs (omega arith))
+
+pieces-fit : (xs : List Told) → AllFitting xs → AllFit (pieces xs)
+pieces-fit [] f = tt
+pieces-fit (x ∷ xs) f = (f .0 .fits-it, f .0 .of-kind, pieces-fit xs (f .1))
+
+module _ (text : List ℕ) (t : Table) (e : describe text ≡ table t) where
+  abbrev kept-all : Within text t
+  kept-all = within text t e
+
+  pub book-kept : Kept (bookOf text t)
+  book-kept =
+      let w = kept-all in
+      let xs = literalsOf (t .conditions) in
+      record {
+        few = (omega (arith, items-length text t, w .items), omega (arith, conditions-length text t, w .names));
+        own = pieces xs;
+        own-clean = pieces-clean 0 xs (omega (arith, w .literals));
+        own-fit = pieces-fit xs (entries-fit (w .valid .described) (λ j d l. record { item-row = getD (t .rows) (getD (t .conditions) j d .item) (row 0 0 0 0 0); free = w .name-kept j d l .free }));
+        own-rows = ap numbers (w .valid .literals) ∙ rows-are 0 xs;
+        own-bytes = w .valid .bytes ∙ bytes-are xs;
+      }
+
+  -- literals are no longer than the text
+  pub few-bytes : length (t .bytes) ≤ 4096
+  few-bytes =
+      let w = kept-all in
+      omega (arith, ap length (w .valid .bytes), entries-short (w .valid .described), parted-total (w .valid .parted), w .short)

@@ -8,6 +8,7 @@ use Rattle.content.specs.Content.{all}
 use Rattle.content.specs.WrongByte.{validContent, firstFrom}
 use Rattle.description.specs.Reader.{isName}
 use Rattle.description.specs.Grammar.{Word, bytes, same, within, any, all as every}
+use Rattle.spelling.specs.Names.{Known}
 use Rattle.spelling.specs.Literals.{Literal, isText, isNumber, doubled, undoubled, withoutPoint, afterPoint}
 use Rattle.spelling.specs.Keywords.{Piece, token, literal, fault, Meaning, alone, item, value, order, equal, faulty}
 use Rattle.spelling.specs.Meanings.{lookup, meaning, next, joins, pieceOf}
@@ -15,39 +16,39 @@ use Rattle.spelling.specs.Reading.{Placed, piecesFrom}
 use Rattle.spelling.proofs.Cutting.{same-true}
 
 -- the word means this token or this literal, whatever follows
-pub data Means (names : List (List ℕ)) (w : List ℕ) : Piece → Type 0 where
-  by-itself : {t : ℕ} → meaning names w ≡ alone t → Means names w (token t)
-  by-item : {t : ℕ} → meaning names w ≡ item t → Means names w (token t)
-  by-value : {l : Literal} → meaning names w ≡ value l → Means names w (literal l)
+pub data Means (known : Known) (w : List ℕ) : Piece → Type 0 where
+  by-itself : {t : ℕ} → meaning known w ≡ alone t → Means known w (token t)
+  by-item : {t : ℕ} → meaning known w ≡ item t → Means known w (token t)
+  by-value : {l : Literal} → meaning known w ≡ value l → Means known w (literal l)
 
-pub data Spelt (names : List (List ℕ)) : List Piece → List Word → Type 0 where
-  none : Spelt names [] []
-  more : {p : Piece} {w : Word} {ps : List Piece} {ws : List Word} → Means names (w .text) p → Spelt names ps ws → Spelt names (p ∷ ps) (w ∷ ws)
+pub data Spelt (known : Known) : List Piece → List Word → Type 0 where
+  none : Spelt known [] []
+  more : {p : Piece} {w : Word} {ps : List Piece} {ws : List Word} → Means known (w .text) p → Spelt known ps ws → Spelt known (p ∷ ps) (w ∷ ws)
 
 -- IS means nothing by itself
-is-faulty : (names : List (List ℕ)) → meaning names (bytes "IS") ≡ faulty 15
+is-faulty : (known : Known) → meaning known (bytes "IS") ≡ faulty 15
 unfolding meaning lookup isText isNumber isName same within every any all validContent firstFrom doubled undoubled withoutPoint afterPoint
-is-faulty names = refl
+is-faulty known = refl
 
-not-is : {names : List (List ℕ)} {p : Piece} (w : List ℕ) → Means names w p → same w (bytes "IS") ≡ false
-not-is {names} w m = by (same w (bytes "IS")) refl m
+not-is : {known : Known} {p : Piece} (w : List ℕ) → Means known w p → same w (bytes "IS") ≡ false
+not-is {known} w m = by (same w (bytes "IS")) refl m
   where
-    wrong : {p : Piece} → w ≡ (bytes "IS") → Means names w p → ⊥
-    wrong q (by-itself e) = let f : meaning names w ≡ faulty 15 = rw q (is-faulty names) in let z : _≡_ {A = ℕ} 0 1 = cc in omega arith
-    wrong q (by-item e) = let f : meaning names w ≡ faulty 15 = rw q (is-faulty names) in let z : _≡_ {A = ℕ} 0 1 = cc in omega arith
-    wrong q (by-value e) = let f : meaning names w ≡ faulty 15 = rw q (is-faulty names) in let z : _≡_ {A = ℕ} 0 1 = cc in omega arith
+    wrong : {p : Piece} → w ≡ (bytes "IS") → Means known w p → ⊥
+    wrong q (by-itself e) = let f : meaning known w ≡ faulty 15 = rw q (is-faulty known) in let z : _≡_ {A = ℕ} 0 1 = cc in omega arith
+    wrong q (by-item e) = let f : meaning known w ≡ faulty 15 = rw q (is-faulty known) in let z : _≡_ {A = ℕ} 0 1 = cc in omega arith
+    wrong q (by-value e) = let f : meaning known w ≡ faulty 15 = rw q (is-faulty known) in let z : _≡_ {A = ℕ} 0 1 = cc in omega arith
 
-    by : {p : Piece} (b : Bool) → same w (bytes "IS") ≡ b → Means names w p → same w (bytes "IS") ≡ false
+    by : {p : Piece} (b : Bool) → same w (bytes "IS") ≡ b → Means known w p → same w (bytes "IS") ≡ false
     by true e m = absurd (wrong (same-true w (bytes "IS") e) m)
     by false e m = e
 
-not-next : {names : List (List ℕ)} {ps : List Piece} {ws : List Word} → Spelt names ps ws → next (bytes "IS") ws ≡ false
+not-next : {known : Known} {ps : List Piece} {ws : List Word} → Spelt known ps ws → next (bytes "IS") ws ≡ false
 unfolding next
 not-next none = refl
 not-next (more {w = w} m s) = not-is (w .text) m
 
-pub read-again : {names : List (List ℕ)} {ps : List Piece} {ws : List Word} → Spelt names ps ws
-    → map (λ (x : Placed). x .piece) (piecesFrom names 0 ws) ≡ ps
+pub read-again : {known : Known} {ps : List Piece} {ws : List Word} → Spelt known ps ws
+    → map (λ (x : Placed). x .piece) (piecesFrom known 0 ws) ≡ ps
 unfolding piecesFrom
 read-again none = refl
 read-again (more {p = p} (by-itself e) s) = rw e (ap (λ (ps : List Piece). p ∷ ps) (read-again s))

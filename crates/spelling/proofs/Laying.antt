@@ -9,6 +9,7 @@ use lib.Seq.{getD-append-add, getD-append-seam, drop-append-seam, take-append-se
 use lib.Dec.{ltb, eqb}
 use borrow.Author.Tests.{ltb-true, lt-ltb}
 use Rattle.tables.specs.Tokens.{isItem, isLiteral}
+use Rattle.spelling.specs.Names.{Known}
 use Rattle.spelling.specs.Literals.{Literal, fits, written, literalDigits}
 use Rattle.spelling.specs.Keywords.{Piece, token, literal, fault}
 use Rattle.spelling.specs.Reading.{Placed, Found, none, refusal, before, faultAt, after, firstFault, tokensFrom, rowsFrom, bytesOf}
@@ -55,29 +56,42 @@ clean-again n (x ∷ xs) c = go (x .piece) c (λ m. clean-again m xs)
     go (fault number) c rec = absurd c
 
 -- the word that a piece is printed as
-abbrev pub spell : List (List ℕ) → Piece → List ℕ
-spell names (token t) = wordOf names [] [] t
-spell names (literal l) = written l
-spell names (fault number) = []
+abbrev pub spell : Known → Piece → List ℕ
+spell known (token t) = wordOf known [] [] t
+spell known (literal l) = written l
+spell known (fault number) = []
 
 -- "Literal rows have kinds 2, 3 or 5 only"
 abbrev pub ofLiteralKind : Literal → Bool
 ofLiteralKind l = eqb (l .kind) 2 || eqb (l .kind) 3 || eqb (l .kind) 5
 
 -- a piece whose printed word is read as this piece, and which the printer does not refuse
-abbrev pub Fine : List (List ℕ) → Piece → Type 0
-Fine names (token t) =
-    Means names (wordOf names [] [] t) (token t)
-    × Stands (wordOf names [] [] t)
+abbrev pub Fine : Known → Piece → Type 0
+Fine known (token t) =
+    Means known (wordOf known [] [] t) (token t)
+    × Stands (wordOf known [] [] t)
     × (isLiteral t ≡ false)
-    × (printable names [] t ≡ true)
-    × (hasName names t ≡ true)
-Fine names (literal l) = Means names (written l) (literal l) × Stands (written l) × (fits l ≡ true) × (ofLiteralKind l ≡ true)
-Fine names (fault number) = Unit {0}
+    × (printable known [] t ≡ true)
+    × (hasName known t ≡ true)
+Fine known (literal l) = Means known (written l) (literal l) × Stands (written l) × (fits l ≡ true) × (ofLiteralKind l ≡ true)
+Fine known (fault number) = Unit {0}
 
-abbrev pub AllFine : List (List ℕ) → List Piece → Type 0
-AllFine names [] = Unit {0}
-AllFine names (p ∷ ps) = Fine names p × AllFine names ps
+abbrev pub AllFine : Known → List Piece → Type 0
+AllFine known [] = Unit {0}
+AllFine known (p ∷ ps) = Fine known p × AllFine known ps
+
+-- its literals are within 01's limits
+abbrev pub AllFit : List Piece → Type 0
+AllFit [] = Unit {0}
+AllFit (token t ∷ ps) = AllFit ps
+AllFit (literal l ∷ ps) = (fits l ≡ true) × (ofLiteralKind l ≡ true) × AllFit ps
+AllFit (fault number ∷ ps) = AllFit ps
+
+pub all-fit : (known : Known) (ps : List Piece) → AllFine known ps → AllFit ps
+all-fit known [] f = tt
+all-fit known (token t ∷ ps) f = all-fit known ps (f .1)
+all-fit known (literal l ∷ ps) f = (f .0 .2, f .0 .3, all-fit known ps (f .1))
+all-fit known (fault number ∷ ps) f = all-fit known ps (f .1)
 
 -- row n is the literal
 literal-again : (n : ℕ) (pre preb : List ℕ) (l : Literal) (rows bytes : List ℕ) → length pre ≡ n * 5
@@ -93,19 +107,19 @@ literal-again n pre preb l rows bytes e =
       take-append-seam (l .bytes) bytes,
     )
 
-module _ (names : List (List ℕ)) where
-  no-table : (rows bytes : List ℕ) (t : ℕ) → isLiteral t ≡ false → wordOf names rows bytes t ≡ wordOf names [] [] t
+module _ (known : Known) where
+  no-table : (rows bytes : List ℕ) (t : ℕ) → isLiteral t ≡ false → wordOf known rows bytes t ≡ wordOf known [] [] t
   no-table rows bytes t e = rw e
 
-  literal-word : (rows bytes : List ℕ) (n : ℕ) → n < 64 → wordOf names rows bytes (65536 + n) ≡ written (literalAt rows bytes n)
+  literal-word : (rows bytes : List ℕ) (n : ℕ) → n < 64 → wordOf known rows bytes (65536 + n) ≡ written (literalAt rows bytes n)
   literal-word rows bytes n h =
       let k : (65536 + n) / 65536 ≡ 1 = omega arith in
       let i : (65536 + n) % 65536 ≡ n = omega arith in
       rw (k, i)
 
   -- the words that the printer writes for pieces after n rows and the bytes `preb`
-  pub words-again : (n : ℕ) (ps : List Piece) → Clean n ps → AllFine names ps → (pre preb : List ℕ) → length pre ≡ n * 5
-      → map (wordOf names (pre ++ rowsFrom (length preb) ps) (preb ++ bytesOf ps)) (tokensFrom n ps) ≡ map (spell names) ps
+  pub words-again : (n : ℕ) (ps : List Piece) → Clean n ps → AllFine known ps → (pre preb : List ℕ) → length pre ≡ n * 5
+      → map (wordOf known (pre ++ rowsFrom (length preb) ps) (preb ++ bytesOf ps)) (tokensFrom n ps) ≡ map (spell known) ps
   unfolding tokensFrom rowsFrom bytesOf
   words-again n [] c f pre preb e = refl
   words-again n (token t ∷ ps) c f pre preb e =

@@ -4,6 +4,7 @@ pub mod Laying
 pub mod Plain
 pub mod Spelling
 pub mod Accepted
+pub mod Given
 pub mod Describing
 pub mod RoundTrip
 pub mod Taken

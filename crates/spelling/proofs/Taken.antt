@@ -1,5 +1,5 @@
 -- What was read is taken by the calls above: none of refusals 3 to 6 is left.
-use mathlib.Core.Path.{_≡_, refl, sym, ap, _∙_, subst}
+use mathlib.Core.Path.{_≡_, refl, sym, ap, _∙_}
 use mathlib.Core.Bool.{Bool, true, false, cond, not, _&&_}
 use mathlib.Core.List.{List, [], _∷_, _++_, append-assoc}
 use Prim.Native.Nat.{ℕ, zero, suc, _+_, _≤_}
@@ -8,21 +8,22 @@ use lib.ListN.{length, getD, length-append}
 use lib.Seq.{getD-append-seam}
 use Rattle.tables.specs.declared.Check.the-variants.{Sound}
 use Rattle.tables.specs.declared.Refusal.the-variants.{Token}
-use Rattle.tables.specs.Tokens.{isOff, exists, tokenThere}
-use Rattle.tables.specs.Rows.{rowCount}
+use Rattle.tables.specs.Tokens.{isOff, tokenThere}
+use Rattle.tables.specs.Rows.{rowCount, nameCount}
 use Rattle.tables.specs.Refusals.{firstFailing}
 use Rattle.tables.proofs.Tests.{both}
-use Rattle.description.specs.Grammar.{Table}
+use Rattle.description.specs.Grammar.{Condition, Table, nameRows, literals}
 use Rattle.description.specs.Limits.{Outcome, table, refusal as faulty, describe}
 use Rattle.spelling.specs.Words.{words}
-use Rattle.spelling.specs.Names.{namesOf}
+use Rattle.description.proofs.Keeping.{within}
+use Rattle.spelling.specs.Names.{Known, Book, bookOf}
 use Rattle.spelling.specs.Keywords.{Piece}
-use Rattle.spelling.specs.Reading.{Found, none, refusal, tokensFrom, rowsFrom, bytesOf, placed, pieces, reading, read, readAfter}
+use Rattle.spelling.specs.Reading.{Found, none, refusal, rowsFrom, bytesOf, literalsBefore, tokensOf, placed, pieces, reading, read, readAfter}
 use Rattle.spelling.specs.Printing.{firstToken, printable}
 use Rattle.spelling.specs.RoundTrip.{TakenOn, TakenBy}
 use Rattle.spelling.proofs.Laying.{Clean, AllFine, clean}
-use Rattle.spelling.proofs.Accepted.{literals, rows-length, table-sound, rows-sound, all-printable}
-use Rattle.spelling.proofs.Describing.{names-length, few-names}
+use Rattle.spelling.proofs.Accepted.{Kept, sound-table, sound-rows, sound-tokens}
+use Rattle.spelling.proofs.Describing.{items-length, conditions-length, book-kept}
 use Rattle.spelling.proofs.RoundTrip.{all-fine, no-fault, was-read}
 
 -- where no token fails a test, none fails a weaker one
@@ -45,26 +46,34 @@ passes test weak w number at pre (t ∷ ts) e = by (test t) refl e (passes test 
     by true h e rec = rw (here, w t h) (rw (append-assoc pre (t ∷ []) ts, long) at (rec e))
     by false h e rec = let z : _≡_ {A = ℕ} 0 1 = cc in absurd (omega arith)
 
-module _ (names : List (List ℕ)) (few : length names ≤ 64) (text tokens rows bytes items : List ℕ) (e : reading names text ≡ read tokens rows bytes)
-    (n : rowCount items ≡ length names) where
-  taken-on : TakenOn items tokens rows bytes
+module _ (b : Book) (K : Kept b) (text tokens rows bytes items names : List ℕ) (e : reading b text ≡ read tokens rows bytes)
+    (n : rowCount items ≡ length (b .known .items)) (m : nameCount names ≡ length (b .known .conditions)) where
+  taken-on : TakenOn items tokens rows bytes names
   taken-on =
-      let r = was-read names text tokens rows bytes e in
-      let ps : List Piece = pieces names text in
-      let c : Clean 0 ps = clean 0 (placed names text) (no-fault names text (r .faultless)) in
-      let f : AllFine names ps = all-fine names few 0 (words text) in
-      let long = rows-length 0 ps in
-      let count : rowCount (rowsFrom 0 ps) ≡ literals ps = omega arith in
+      let known : Known = b .known in
+      let r = was-read b text tokens rows bytes e in
+      let ps : List Piece = pieces known text in
+      let c : Clean (literalsBefore b) ps = clean (literalsBefore b) (placed known text) (no-fault known (literalsBefore b) text (r .faultless)) in
+      let f : AllFine known ps = all-fine known (K .few) 0 (words text) in
+      let all-rows : List ℕ = b .rows ++ rowsFrom (length (b .bytes)) ps in
       record {
-        table-sound = rw (r .rows-are, table-sound 0 ps c);
-        rows-sound = rw (r .rows-are, r .bytes-are, count) (rows-sound names 0 ps c f [] [] refl (omega arith));
+        table-sound = rw (r .rows-are, sound-table K ps c f);
+        rows-sound = rw (r .rows-are, r .bytes-are) (sound-rows K ps c f);
         count-sound = rw (r .tokens-are, r .counted);
         tokens-sound =
-            rw (n, r .tokens-are, r .rows-are)
-            (passes (printable names (rowsFrom 0 ps)) (λ t. tokenThere true (length names) (rowCount (rowsFrom 0 ps)) 0 t)
-            (λ t h. rw (both (exists true (length names) (rowCount (rowsFrom 0 ps)) t) (not (isOff t)) h .0)) 6 0 [] (tokensFrom 0 ps)
-            (all-printable names (rowsFrom 0 ps) 0 ps c f (omega arith) 0));
+            rw (n, m, r .tokens-are, r .rows-are)
+            (passes (printable known all-rows) (λ t. tokenThere true (length (known .items)) (rowCount all-rows) (length (known .conditions)) t)
+            (λ t h. both _ (not (isOff t)) h .0) 6 0 [] (tokensOf b ps) (sound-tokens K ps c f));
       }
 
+names-length : (k : ℕ) (cs : List Condition) → length (nameRows k cs) ≡ length cs
+unfolding nameRows
+names-length k [] = refl
+names-length k (c ∷ cs) = ap suc (names-length (k + length (literals (c .values))) cs)
+
 pub taken-by : TakenBy
-taken-by description text tokens rows bytes items t e q n = taken-on (namesOf description t) (few-names description t q) text tokens rows bytes items (sym (ap (λ (o : Outcome). readAfter description o text) q) ∙ e) (n ∙ sym (names-length description t))
+taken-by description text tokens rows bytes items names t e q n m =
+    let b = bookOf description t in
+    let as-many = conditions-length description t ∙ sym (ap length (within description t q .valid .named) ∙ names-length 0 (t .conditions)) in
+    taken-on b (book-kept description t q) text tokens rows bytes items names (sym (ap (λ (o : Outcome). readAfter description o text) q) ∙ e)
+    (n ∙ sym (items-length description t)) (m ∙ sym as-many)

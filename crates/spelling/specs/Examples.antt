@@ -4,6 +4,7 @@ use mathlib.Core.List.{List, [], _∷_}
 use Prim.Native.Nat.{ℕ}
 use Prim.Native.String.{String}
 use Rattle.description.specs.Grammar.{bytes}
+use Rattle.spelling.specs.Names.{Book, book, knownBy}
 use Rattle.spelling.specs.Reading.{Reading, read, refused, reading}
 
 pub record Example : Type 0 where
@@ -13,8 +14,18 @@ pub record Example : Type 0 where
 abbrev example : String → Reading → Example
 example text gives = record { text = text; gives = gives }
 
-abbrev pub names : List (List ℕ)
-names = bytes "A" ∷ bytes "B" ∷ bytes "SERIAL-NO" ∷ bytes "FILLER" ∷ bytes "D" ∷ bytes "D" ∷ []
+abbrev pub items : List (List ℕ)
+items = bytes "A" ∷ bytes "B" ∷ bytes "SERIAL-NO" ∷ bytes "FILLER" ∷ bytes "D" ∷ bytes "D" ∷ []
+
+-- without condition-names
+abbrev pub plain : Book
+plain = book (knownBy items []) [] []
+
+-- level 88 entries OVERDUE, BOTH twice, SERIAL-NO, which is an item's name too, and LOST; their literals are 30 and "X"
+abbrev pub named : Book
+named =
+    book (knownBy items (bytes "OVERDUE" ∷ bytes "BOTH" ∷ bytes "BOTH" ∷ bytes "SERIAL-NO" ∷ bytes "LOST" ∷ []))
+    (3 ∷ 0 ∷ 2 ∷ 0 ∷ 2 ∷ 2 ∷ 2 ∷ 1 ∷ 0 ∷ 0 ∷ []) (bytes "30X")
 
 abbrev pub examples : List Example
 examples =
@@ -43,8 +54,24 @@ examples =
     ∷ example "UPSI-8" (refused 16 0)
     ∷ example "A = COMP-3" (refused 15 4)
     ∷ example "A>B OR\"C\"" (refused 15 4)
+    ∷ example "A = VALUE" (refused 15 4)
+    ∷ example "A = THRU" (refused 15 4)
+    ∷ example "OVERDUE" (refused 16 0)
     ∷ []
 
-abbrev pub AllGive : List Example → Type 0
-AllGive [] = Unit {0}
-AllGive (e ∷ es) = (reading names (bytes (e .text)) ≡ e .gives) × AllGive es
+-- h): the same with condition-names and a description's literals
+abbrev pub namedExamples : List Example
+namedExamples =
+    example "NOT OVERDUE AND A > 0.5 OR LOST"
+    (read (262146 ∷ 327680 ∷ 262147 ∷ 0 ∷ 262149 ∷ 65538 ∷ 262148 ∷ 327684 ∷ [])
+    (3 ∷ 0 ∷ 2 ∷ 0 ∷ 2 ∷ 2 ∷ 2 ∷ 1 ∷ 0 ∷ 0 ∷ 3 ∷ 3 ∷ 2 ∷ 1 ∷ 2 ∷ []) (bytes "30X05"))
+    ∷ example "OVERDUE" (read (327680 ∷ []) (3 ∷ 0 ∷ 2 ∷ 0 ∷ 2 ∷ 2 ∷ 2 ∷ 1 ∷ 0 ∷ 0 ∷ []) (bytes "30X"))
+    ∷ example "OVERDUE IS NUMERIC" (refused 15 8)
+    ∷ example "A = BOTH" (refused 16 4)
+    ∷ example "A = SERIAL-NO" (refused 16 4)
+    ∷ example "OVERDUE- OR LOST" (refused 15 0)
+    ∷ []
+
+abbrev pub AllGive : Book → List Example → Type 0
+AllGive b [] = Unit {0}
+AllGive b (e ∷ es) = (reading b (bytes (e .text)) ≡ e .gives) × AllGive b es

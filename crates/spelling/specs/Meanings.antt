@@ -1,11 +1,12 @@
 -- Document 02, e): what a word means, and which words join it.
 use mathlib.Core.Bool.{Bool, true, false, cond, not, _&&_, _||_}
 use mathlib.Core.List.{List, [], _∷_}
-use Prim.Native.Nat.{ℕ, zero, suc, _+_}
+use Prim.Native.Nat.{ℕ, zero, suc, _+_, _-_}
 use lib.ListN.{length, drop}
-use lib.Dec.{eqb, leb}
+use lib.Dec.{eqb, leb, ltb}
 use Rattle.description.specs.Grammar.{Word, bytes, same}
 use Rattle.description.specs.Reader.{isName}
+use Rattle.spelling.specs.Names.{Known, everyName}
 use Rattle.spelling.specs.Literals.{textOf, isText, numberOf, isNumber}
 use Rattle.spelling.specs.Keywords.{Piece, token, literal, fault, Meaning, alone, item, value, order, equal, faulty, Keyword, vocabulary}
 
@@ -18,11 +19,16 @@ unfoldable pub position : List ℕ → List (List ℕ) → ℕ
 position word [] = 0
 position word (name ∷ names) = cond (same word name) 0 (suc (position word names))
 
+-- The name with number p, of which the first `items` are items': an item, or a condition-name. This is a simple condition and no
+-- operand, so that IS may not follow.
+abbrev pub called : ℕ → ℕ → Meaning
+called items p = cond (ltb p items) (item p) (alone (327680 + (p - items)))
+
 -- "an unknown or doubled name with 16"; "A faulty word .. with 15": a name is one of a), so no keyword
-abbrev pub named : List (List ℕ) → List ℕ → Meaning
-named names word =
+abbrev pub named : Known → List ℕ → Meaning
+named known word =
     cond (isName word)
-    (cond (eqb (count word names) 1) (item (position word names)) (faulty 16))
+    (cond (eqb (count word (everyName known)) 1) (called (length (known .items)) (position word (everyName known))) (faulty 16))
     (faulty 15)
 
 -- what a word of the vocabulary means, or `else` of any other word
@@ -31,11 +37,11 @@ lookup word else [] = else
 lookup word else (k ∷ ks) = cond (same word (k .bytes)) (k .meaning) (lookup word else ks)
 
 -- a literal, a word of the vocabulary, or a name
-unfoldable pub meaning : List (List ℕ) → List ℕ → Meaning
-meaning names word =
+unfoldable pub meaning : Known → List ℕ → Meaning
+meaning known word =
     cond (isText word) (value (textOf word))
     (cond (isNumber word) (value (numberOf word))
-    (lookup word (named names word) vocabulary))
+    (lookup word (named known word) vocabulary))
 
 -- the next word is this one; one word if it is
 unfoldable pub next : List ℕ → List Word → Bool

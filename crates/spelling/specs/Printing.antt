@@ -1,12 +1,12 @@
 -- Document 02, e): tokens written back, "one space between words, relations as symbols".
-use mathlib.Core.Bool.{Bool, true, cond, not, _&&_, _||_}
+use mathlib.Core.Bool.{Bool, true, cond, not, _&&_}
 use mathlib.Core.List.{List, [], _∷_, _++_, map}
 use Prim.Native.Nat.{ℕ, suc}
 use lib.ListN.{length, getD}
 use lib.Dec.{eqb}
 use Rattle.tables.specs.declared.Check.{Check}
 use Rattle.tables.specs.declared.Check.the-variants.{Sound, Refused}
-use Rattle.tables.specs.Tokens.{indexOf, isItem, isLiteral, isOn, isOff, exists}
+use Rattle.tables.specs.Tokens.{indexOf, isItem, isLiteral, isOn, isOff, isName, tokenThere}
 use Rattle.tables.specs.Rows.{rowCount, rowAt, part}
 use Rattle.tables.specs.Operands.{lend}
 use Rattle.tables.specs.Refusals.{number, place}
@@ -15,7 +15,7 @@ use Rattle.description.specs.Grammar.{bytes, same}
 use Rattle.description.specs.Limits.{Outcome, table, refusal as faulty, describe}
 use Rattle.spelling.specs.Literals.{Literal, written}
 use Rattle.spelling.specs.Keywords.{spellings, UPSI}
-use Rattle.spelling.specs.Names.{namesOf}
+use Rattle.spelling.specs.Names.{Known, everyName, knownOf}
 use Rattle.spelling.specs.Meanings.{count}
 use Rattle.spelling.specs.Reading.{Found, none, refusal, before}
 
@@ -24,11 +24,12 @@ abbrev pub literalAt : List ℕ → List ℕ → ℕ → Literal
 literalAt rows content v = record { kind = rowAt rows v .kind; scale = rowAt rows v .scale; bytes = part (rowAt rows v) content }
 
 -- the word that a token is printed as
-abbrev pub wordOf : List (List ℕ) → List ℕ → List ℕ → ℕ → List ℕ
-wordOf names rows content t =
-    cond (isItem t) (getD names (indexOf t) [])
+abbrev pub wordOf : Known → List ℕ → List ℕ → ℕ → List ℕ
+wordOf known rows content t =
+    cond (isItem t) (getD (known .items) (indexOf t) [])
     (cond (isLiteral t) (written (literalAt rows content (indexOf t)))
-    (cond (isOn t) (UPSI (indexOf t)) (getD spellings (indexOf t) [])))
+    (cond (isOn t) (UPSI (indexOf t))
+    (cond (isName t) (getD (known .conditions) (indexOf t) []) (getD spellings (indexOf t) []))))
 
 -- words with a space before each, and with one space between words
 unfoldable pub spaced : List (List ℕ) → List ℕ
@@ -39,8 +40,8 @@ unfoldable pub line : List (List ℕ) → List ℕ
 line [] = []
 line (w ∷ ws) = w ++ spaced ws
 
-abbrev pub printed : List (List ℕ) → List ℕ → List ℕ → List ℕ → List ℕ
-printed names rows content tokens = line (map (wordOf names rows content) tokens)
+abbrev pub printed : Known → List ℕ → List ℕ → List ℕ → List ℕ
+printed known rows content tokens = line (map (wordOf known rows content) tokens)
 
 -- what a line of document 01's table comes to
 abbrev pub found : Check → Found
@@ -52,23 +53,28 @@ unfoldable pub firstToken : (ℕ → Bool) → ℕ → ℕ → List ℕ → Foun
 firstToken sound number at [] = none
 firstToken sound number at (t ∷ ts) = cond (sound t) (firstToken sound number (suc at) ts) (refusal number at)
 
--- "6 for an off switch" too
-abbrev pub printable : List (List ℕ) → List ℕ → ℕ → Bool
-printable names rows t = exists true (length names) (rowCount rows) t && not (isOff t)
+-- "6 for an off switch" too; h): a condition-name beyond the name rows
+abbrev pub printable : Known → List ℕ → ℕ → Bool
+printable known rows t =
+    tokenThere true (length (known .items)) (rowCount rows) (length (known .conditions)) t && not (isOff t)
 
--- "16 for FILLER or a doubled name at its token"
-abbrev pub hasName : List (List ℕ) → ℕ → Bool
-hasName names t =
-    not (isItem t)
-    || (not (same (getD names (indexOf t) []) (bytes "FILLER")) && eqb (count (getD names (indexOf t) []) names) 1)
+-- a name that is no FILLER, and no other's
+abbrev pub uniquely : Known → List ℕ → Bool
+uniquely known name = not (same name (bytes "FILLER")) && eqb (count name (everyName known)) 1
+
+-- "16 for FILLER or a doubled name at its token"; h): names of items and of conditions are one set
+abbrev pub hasName : Known → ℕ → Bool
+hasName known t =
+    cond (isItem t) (uniquely known (getD (known .items) (indexOf t) []))
+    (cond (isName t) (uniquely known (getD (known .conditions) (indexOf t) [])) true)
 
 -- "it refuses with .. 3 to 6 (6 for an off switch), 16"
-abbrev pub printFault : List (List ℕ) → List ℕ → List ℕ → List ℕ → Found
-printFault names rows content tokens =
+abbrev pub printFault : Known → List ℕ → List ℕ → List ℕ → Found
+printFault known rows content tokens =
     before (found (literalTableCheck (lend [] rows content)))
     (before (found (literalRowCheck (lend [] rows content)))
     (before (found (tokenCountCheck tokens))
-    (before (firstToken (printable names rows) 6 0 tokens) (firstToken (hasName names) 16 0 tokens))))
+    (before (firstToken (printable known rows) 6 0 tokens) (firstToken (hasName known) 16 0 tokens))))
 
 -- what printing gives: a text, or a refusal
 pub data Print : Type 0 where
@@ -79,12 +85,12 @@ abbrev pub printResult : Found → List ℕ → Print
 printResult none t = text t
 printResult (refusal number place) t = refused number place
 
-unfoldable pub printing : List (List ℕ) → List ℕ → List ℕ → List ℕ → Print
-printing names rows content tokens = printResult (printFault names rows content tokens) (printed names rows content tokens)
+unfoldable pub printing : Known → List ℕ → List ℕ → List ℕ → Print
+printing known rows content tokens = printResult (printFault known rows content tokens) (printed known rows content tokens)
 
 -- "it refuses with 14" first
 abbrev pub printAfter : List ℕ → Outcome → List ℕ → List ℕ → List ℕ → Print
-printAfter description (table t) rows content tokens = printing (namesOf description t) rows content tokens
+printAfter description (table t) rows content tokens = printing (knownOf description t) rows content tokens
 printAfter description (faulty place) rows content tokens = refused 14 place
 
 abbrev pub printCondition : List ℕ → List ℕ → List ℕ → List ℕ → Print

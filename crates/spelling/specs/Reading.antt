@@ -6,9 +6,10 @@ use lib.ListN.{length}
 use lib.Dec.{leb, ltb}
 use Rattle.description.specs.Grammar.{Word}
 use Rattle.description.specs.Limits.{Outcome, table, refusal as faulty, describe}
+use Rattle.tables.specs.Rows.{rowCount}
 use Rattle.spelling.specs.Words.{words}
 use Rattle.spelling.specs.Literals.{Literal, rowOfLiteral, laid}
-use Rattle.spelling.specs.Names.{namesOf}
+use Rattle.spelling.specs.Names.{Known, Book, bookOf}
 use Rattle.spelling.specs.Keywords.{Piece, token, literal, fault}
 use Rattle.spelling.specs.Meanings.{meaning, joins, pieceOf}
 
@@ -18,18 +19,18 @@ pub record Placed : Type 0 where
   pub piece : Piece
 
 -- the pieces of the words; the first `skip` of them have joined the word before
-unfoldable pub piecesFrom : List (List ℕ) → ℕ → List Word → List Placed
-piecesFrom names skip [] = []
-piecesFrom names (suc skip) (w ∷ ws) = piecesFrom names skip ws
-piecesFrom names zero (w ∷ ws) =
-    record { place = w .place; piece = pieceOf (meaning names (w .text)) ws }
-    ∷ piecesFrom names (joins (meaning names (w .text)) ws) ws
+unfoldable pub piecesFrom : Known → ℕ → List Word → List Placed
+piecesFrom known skip [] = []
+piecesFrom known (suc skip) (w ∷ ws) = piecesFrom known skip ws
+piecesFrom known zero (w ∷ ws) =
+    record { place = w .place; piece = pieceOf (meaning known (w .text)) ws }
+    ∷ piecesFrom known (joins (meaning known (w .text)) ws) ws
 
-abbrev pub placed : List (List ℕ) → List ℕ → List Placed
-placed names text = piecesFrom names 0 (words text)
+abbrev pub placed : Known → List ℕ → List Placed
+placed known text = piecesFrom known 0 (words text)
 
-abbrev pub pieces : List (List ℕ) → List ℕ → List Piece
-pieces names text = map (λ x. x .piece) (placed names text)
+abbrev pub pieces : Known → List ℕ → List Piece
+pieces known text = map (λ x. x .piece) (placed known text)
 
 -- a refusal's number and place, or none
 pub data Found : Type 0 where
@@ -62,9 +63,10 @@ abbrev pub orTooLong : Found → Found
 orTooLong none = refusal 15 2048
 orTooLong (refusal number place) = cond (ltb place 2048) (refusal number place) (refusal 15 2048)
 
-abbrev pub faultOf : List (List ℕ) → List ℕ → Found
-faultOf names text =
-    cond (leb (length text) 2048) (firstFault 0 (placed names text)) (orTooLong (firstFault 0 (placed names text)))
+-- n literals stand before the text's: "its literals begin with these"
+abbrev pub faultOf : Known → ℕ → List ℕ → Found
+faultOf known n text =
+    cond (leb (length text) 2048) (firstFault n (placed known text)) (orTooLong (firstFault n (placed known text)))
 
 -- "into tokens, literal rows and literal bytes, laid in turn"; "Each literal met adds a row." Before these pieces stand n rows and
 -- `offset` bytes.
@@ -92,20 +94,27 @@ pub data Reading : Type 0 where
   read : List ℕ → List ℕ → List ℕ → Reading
   refused : ℕ → ℕ → Reading
 
--- "the smallest place wins, then 5": no token, or over 256
-abbrev pub result : Found → List Piece → Reading
-result none ps =
-    cond (leb 1 (length (tokensFrom 0 ps)) && leb (length (tokensFrom 0 ps)) 256)
-    (read (tokensFrom 0 ps) (rowsFrom 0 ps) (bytesOf ps))
-    (refused 5 0)
-result (refusal number place) ps = refused number place
+-- "its literals begin with these": rows, row numbers and offsets go on from the description's
+abbrev pub literalsBefore : Book → ℕ
+literalsBefore b = rowCount (b .rows)
 
-unfoldable pub reading : List (List ℕ) → List ℕ → Reading
-reading names text = result (faultOf names text) (pieces names text)
+abbrev pub tokensOf : Book → List Piece → List ℕ
+tokensOf b ps = tokensFrom (literalsBefore b) ps
+
+-- "the smallest place wins, then 5": no token, or over 256
+abbrev pub result : Book → Found → List Piece → Reading
+result b none ps =
+    cond (leb 1 (length (tokensOf b ps)) && leb (length (tokensOf b ps)) 256)
+    (read (tokensOf b ps) (b .rows ++ rowsFrom (length (b .bytes)) ps) (b .bytes ++ bytesOf ps))
+    (refused 5 0)
+result b (refusal number place) ps = refused number place
+
+unfoldable pub reading : Book → List ℕ → Reading
+reading b text = result b (faultOf (b .known) (literalsBefore b) text) (pieces (b .known) text)
 
 -- "Names come from text of a), its 14 first."
 abbrev pub readAfter : List ℕ → Outcome → List ℕ → Reading
-readAfter description (table t) text = reading (namesOf description t) text
+readAfter description (table t) text = reading (bookOf description t) text
 readAfter description (faulty place) text = refused 14 place
 
 abbrev pub readCondition : List ℕ → List ℕ → Reading

@@ -1,11 +1,11 @@
--- Document 02, e): what holds of every reading.
+-- Document 02, e) and h): what holds of every reading.
 use mathlib.Core.Path.{_≡_}
-use mathlib.Core.List.{List, []}
+use mathlib.Core.List.{List}
 use Prim.Native.Nat.{ℕ, _≤_}
 use lib.ListN.{length}
 use Rattle.tables.specs.declared.Check.the-variants.{Sound}
-use Rattle.tables.specs.Rows.{rowCount}
-use Rattle.tables.specs.Operands.{lend}
+use Rattle.tables.specs.Rows.{rowCount, nameCount}
+use Rattle.tables.specs.Operands.{lendNames}
 use Rattle.tables.specs.Tables.{literalTableCheck, literalRowCheck, tokenCountCheck, tokenCheck}
 use Rattle.description.specs.Grammar.{Table}
 use Rattle.description.specs.Limits.{table, describe}
@@ -25,15 +25,16 @@ RoundTrip =
     (description text tokens rows bytes : List ℕ) → readCondition description text ≡ read tokens rows bytes
     → PrintedAgain description tokens rows bytes
 
--- "Only words are judged here; their order stays with 7": with an item table of the description's rows, refusals 3 to 6 are ruled out.
-pub record TakenOn (items tokens rows bytes : List ℕ) : Type 0 where
-  pub table-sound : literalTableCheck (lend items rows bytes) ≡ Sound
-  pub rows-sound : literalRowCheck (lend items rows bytes) ≡ Sound
+-- "Only words are judged here; their order stays with 7": with an item table and a name table of the description's rows, refusals 3 to 6
+-- are ruled out.
+pub record TakenOn (items tokens rows bytes names : List ℕ) : Type 0 where
+  pub table-sound : literalTableCheck (lendNames items rows bytes names) ≡ Sound
+  pub rows-sound : literalRowCheck (lendNames items rows bytes names) ≡ Sound
   pub count-sound : tokenCountCheck tokens ≡ Sound
-  pub tokens-sound : tokenCheck (lend items rows bytes) tokens ≡ Sound
+  pub tokens-sound : tokenCheck (lendNames items rows bytes names) tokens ≡ Sound
 
 abbrev pub TakenBy : Type 0
 TakenBy =
-    (description text tokens rows bytes items : List ℕ) (t : Table) → readCondition description text ≡ read tokens rows bytes
-    → describe description ≡ table t → rowCount items ≡ length (t .entries)
-    → TakenOn items tokens rows bytes
+    (description text tokens rows bytes items names : List ℕ) (t : Table) → readCondition description text ≡ read tokens rows bytes
+    → describe description ≡ table t → rowCount items ≡ length (t .entries) → nameCount names ≡ length (t .names)
+    → TakenOn items tokens rows bytes names

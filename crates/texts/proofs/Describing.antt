@@ -1,81 +1,87 @@
--- The names of a description, from the call that reads it.
-use mathlib.Core.Path.{_≡_, refl, sym, ap, _∙_, subst}
+-- Names and literals of a description, from the call that reads it.
+use mathlib.Core.Path.{_≡_, refl, sym, ap, ap₂, _∙_, subst}
 use mathlib.Core.Bool.{Bool, true, false, cond}
-use mathlib.Core.List.{List, [], _∷_, _++_, map}
-use Prim.Native.Nat.{ℕ, suc, _+_, _*_, _≤_, _<_}
+use mathlib.Core.List.{List, [], _∷_, _++_, map, append-assoc}
+use Prim.Native.Nat.{ℕ, suc, _+_, _*_, _/_, _≤_, _<_}
 use native.Mathlib.Omega.{arith}
 use lib.Dec.{leb}
-use lib.ListN.{length, take, drop, length-append}
-use lib.Seq.{take-append-seam}
+use lib.ListN.{length, take, drop, length-append, length-drop}
+use lib.Seq.{take-append-seam, drop-append-seam, length-take-le}
 use borrow.Author.Tests.{le-leb}
-use Rattle.description.specs.Grammar.{Entry, Row, Table}
+use Rattle.description.specs.Grammar.{Entry, Condition, Row, Table, Literal as Told, literalsOf, literalRows}
 use Rattle.description.specs.Limits.{Outcome, table, refusal, describe}
-use Rattle.description.proofs.Groups.{lays-records}
-use Rattle.description.proofs.Verdict.{Verdict, verdict}
-use Rattle.layouts.specs.Layouts.{rowNumbers}
-use Rattle.descriptions.specs.declared.Described.{Described}
-use Rattle.descriptions.specs.declared.Described.the-variants.{Counts, Faulty, Room}
-use Rattle.descriptions.specs.Calls.{rowsOf, placesOf, placeOfName, room, answer, placesIn, written, DescribedBy}
-use Rattle.spelling.specs.Names.{leading, namesAt, namesOf}
-use Rattle.spelling.proofs.Describing.{length-map, layout-length, few-entries}
-use Rattle.texts.specs.declared.Named.the-variants.{Places, Faulty as Unnamed}
-use Rattle.texts.specs.Calls.{NamesFound, NamedBy}
+use Rattle.description.proofs.Keeping.{within}
+use Rattle.spelling.specs.Names.{namesAt, Known, knownBy, knownOf, numbers}
+use Rattle.spelling.proofs.Describing.{length-map, few-bytes}
+use Rattle.naming.specs.Named.{knownAt}
+use Rattle.texts.specs.declared.Book.{Book}
+use Rattle.texts.specs.Calls.{NamesFound}
 
-row-numbers : (rs : List Row) → length (rowNumbers rs) ≡ length rs * 5
-unfolding rowNumbers
-row-numbers [] = refl
-row-numbers (r ∷ rs) = omega (arith, row-numbers rs)
+abbrev itemPlaces : Table → List ℕ
+itemPlaces t = map (λ (e : Entry). e .named) (t .entries)
 
--- a valid description is not too long, and has as many rows as entries
-valid : (text : List ℕ) (t : Table) → describe text ≡ table t → (length text ≤ 4096) × (length (t .rows) ≡ length (t .entries))
-valid text t e = by (describe text) e (verdict text)
-  where
-    by : (o : Outcome) → o ≡ table t → Verdict text o → (length text ≤ 4096) × (length (t .rows) ≡ length (t .entries))
-    by (table u) q (Verdict.fine l v w) = let p : u ≡ t = cc in
-        let n : length (u .rows) ≡ length (u .entries) = ap length (lays-records (v .nested)) ∙ layout-length 0 (u .entries) in (l, rw p at n)
-    by (refusal n) q v = let z : _≡_ {A = ℕ} 0 1 = cc in absurd (omega arith)
+abbrev conditionPlaces : Table → List ℕ
+conditionPlaces t = map (λ (c : Condition). c .named) (t .conditions)
 
-module _ {text rows places : List ℕ} (r : Described) {rows-after places-after : List ℕ} (D : DescribedBy text rows places r rows-after places-after)
-    (rows-room : length rows ≡ 320) (places-room : 64 ≤ length places) where
-  -- the outcome of a valid description
-  whole : (t : Table) → describe text ≡ table t → r ≡ Counts (length (rowsOf t)) (length (placesOf t))
-  whole t e =
-      let few = few-entries text t e in
-      let n = valid text t e .1 in
-      let a : leb (length (rowsOf t)) (length rows) ≡ true = le-leb (length (rowsOf t)) (length rows) (omega (arith, row-numbers (t .rows), rows-room)) in
-      let b : leb (length (placesOf t)) (length places) ≡ true = le-leb (length (placesOf t)) (length places) (omega (arith, length-map placeOfName (t .entries))) in
-      D .answered ∙ rw (e, a, b)
+pub numbers-length : (rs : List Row) → length (numbers rs) ≡ length rs * 5
+unfolding numbers
+numbers-length [] = refl
+numbers-length (r ∷ rs) = omega (arith, numbers-length rs)
 
-  faulty : (p : ℕ) → describe text ≡ refusal p → r ≡ Faulty p
-  faulty p e = D .answered ∙ rw e
+-- as many rows as literals
+rows-length : (o : ℕ) (xs : List Told) → length (literalRows o xs) ≡ length xs
+unfolding literalRows
+rows-length o [] = refl
+rows-length o (x ∷ xs) = ap suc (rows-length (o + length (x .bytes)) xs)
 
-  pub described-places : {m n : ℕ} → r ≡ Counts m n → NamedBy text (Places n) places-after
-  described-places {m} {n} q = record { gives = by (describe text) refl }
-    where
-      by : (o : Outcome) → describe text ≡ o → NamesFound text places-after n
-      by (table t) e =
-          let k : n ≡ length (placesOf t) = let s = whole t e in cc in
-          let w : places-after ≡ placesOf t ++ drop (length (placesOf t)) places = D .places-written ∙ rw (whole t e, e) in
-          record {
-            found = t;
-            described = e;
-            names-are = rw (k, w, take-append-seam (placesOf t) (drop (length (placesOf t)) places));
-            few = omega (arith, k, length-map placeOfName (t .entries), few-entries text t e);
-            there = omega (arith, k, ap length w, length-append (placesOf t) (drop (length (placesOf t)) places));
-            short = valid text t e .0;
-          }
-      by (refusal p) e = let s = faulty p e in let z : _≡_ {A = ℕ} 0 1 = cc in absurd (omega arith)
+-- a front that was written
+pub front : (out rest : List ℕ) (n : ℕ) → n ≡ length out → take n (out ++ rest) ≡ out
+front out rest n e = rw e (take-append-seam out rest)
 
-  pub described-faulty : {p : ℕ} → r ≡ Faulty p → NamedBy text (Unnamed p) places-after
-  described-faulty {p} q = record { gives = by (describe text) refl }
-    where
-      by : (o : Outcome) → describe text ≡ o → describe text ≡ refusal p
-      by (table t) e = let s = whole t e in let z : _≡_ {A = ℕ} 0 1 = cc in absurd (omega arith)
-      by (refusal u) e = let s = faulty u e in let z : u ≡ p = cc in e ∙ ap refusal z
+module _ (text : List ℕ) (t : Table) (e : describe text ≡ table t) where
+  abbrev ps : List ℕ
+  ps = itemPlaces t
 
-  pub never-room : {k : ℕ} → r ≡ Room k → NamedBy text (Unnamed k) places-after
-  never-room {k} q = by (describe text) refl
-    where
-      by : (o : Outcome) → describe text ≡ o → NamedBy text (Unnamed k) places-after
-      by (table t) e = let s = whole t e in let z : _≡_ {A = ℕ} 0 1 = cc in absurd (omega arith)
-      by (refusal p) e = let s = faulty p e in let z : _≡_ {A = ℕ} 0 1 = cc in absurd (omega arith)
+  abbrev cs : List ℕ
+  cs = conditionPlaces t
+
+  pub few-items : length ps ≤ 64
+  few-items = omega (arith, length-map (λ (e : Entry). e .named) (t .entries), within text t e .items)
+
+  pub few-conditions : length cs ≤ 64
+  few-conditions = omega (arith, length-map (λ (c : Condition). c .named) (t .conditions), within text t e .names)
+
+  literals-count : length (t .literals) ≤ 64
+  literals-count = omega (arith, ap length (within text t e .valid .literals) ∙ rows-length 0 (literalsOf (t .conditions)), within text t e .literals)
+
+  pub few-rows : length (numbers (t .literals)) ≤ 320
+  few-rows = omega (arith, numbers-length (t .literals), literals-count)
+
+  -- places of both, one after the other
+  known-found : (rest : List ℕ) (n k : ℕ) → n ≡ length ps → k ≡ length cs → knownAt text n (take (n + k) (ps ++ (cs ++ rest))) ≡ knownOf text t
+  known-found rest n k p q =
+      let all-places : take (n + k) (ps ++ (cs ++ rest)) ≡ ps ++ cs =
+      ap (take (n + k)) (sym (append-assoc ps cs rest)) ∙ front (ps ++ cs) rest (n + k) (omega (arith, length-append ps cs)) in
+      let a : take n (ps ++ cs) ≡ ps = front ps cs n p in
+      let b : drop n (ps ++ cs) ≡ cs = rw p (drop-append-seam ps cs) in
+      ap (knownAt text n) all-places ∙ ap₂ (λ (us vs : List ℕ). knownBy (namesAt text us) (namesAt text vs)) a b
+
+  pub book-given : {places rows bytes : List ℕ} (others rows-rest bytes-rest : List ℕ) {n k v b : ℕ}
+      → n ≡ length ps → k ≡ length cs → v ≡ length (numbers (t .literals)) → b ≡ length (t .bytes)
+      → places ≡ ps ++ (cs ++ others) → rows ≡ numbers (t .literals) ++ rows-rest → bytes ≡ t .bytes ++ bytes-rest
+      → NamesFound text places rows bytes (record { items = n; places = n + k; literals = v / 5; bytes = b })
+  book-given others rows-rest bytes-rest {n} {k} {v} {b} p q r s w x y =
+      let five : v / 5 * 5 ≡ length (numbers (t .literals)) = omega (arith, numbers-length (t .literals), r) in
+      record {
+        found = t;
+        described = e;
+        known-are = rw w (known-found others n k p q);
+        rows-are = rw x (front (numbers (t .literals)) rows-rest (v / 5 * 5) five);
+        bytes-are = rw y (front (t .bytes) bytes-rest b s);
+        few-places = omega (arith, few-items, few-conditions);
+        within = omega arith;
+        there = omega (arith, ap length w, length-append ps (cs ++ others), length-append cs others);
+        few-literals = omega (arith, numbers-length (t .literals), literals-count, r);
+        few-bytes = omega (arith, few-bytes text t e);
+        short = within text t e .short;
+      }

@@ -11,31 +11,33 @@ use borrow.Author.Tests.{le-leb, lt-leb}
 use Rattle.spelling.specs.Keywords.{Piece}
 use Rattle.spelling.specs.Reading.{pieces, Found, none, refusal, faultOf, tokensFrom, rowsFrom, bytesOf, Reading, read, refused, result, reading, readAfter, readCondition}
 use Rattle.description.specs.Limits.{Outcome, table, refusal as undescribed, describe}
-use Rattle.spelling.specs.Names.{namesAt, namesOf}
+use Rattle.spelling.specs.Names.{Book, bookOf}
+use Rattle.naming.specs.Named.{Listed, knownAt}
 use Rattle.literal_words.specs.Found.{writtenOver}
 use Rattle.lexer.specs.declared.Gathered.{Gathered}
 use Rattle.lexer.specs.declared.Lexed.{Lexed}
 use Rattle.lexer.specs.declared.Lexed.the-variants.{Whole, Fault}
-use Rattle.lexer.specs.Gathers.{Holds, Lexes}
+use Rattle.lexer.specs.Gathers.{bookIn, Holds, Lexes}
 use Rattle.texts.specs.declared.Recognized.{Recognized}
 use Rattle.texts.specs.declared.Recognized.the-variants.{Counts, Description, Word, Name, TokenCount, Room}
+use Rattle.texts.specs.declared.Book.{Book as Found-book}
 use Rattle.texts.specs.declared.Named.{Named}
-use Rattle.texts.specs.declared.Named.the-variants.{Places, Faulty}
+use Rattle.texts.specs.declared.Named.the-variants.{Given, Faulty}
 use Rattle.texts.specs.Calls.{refusedAs, outputOf, counted, ReadAs, NamesFound, NamedBy}
 
 -- n tokens, v numbers of rows and k bytes
 module _ (t r b tokens literals content : List ℕ) (n v k : ℕ) (en : n ≡ length t) (ev : v ≡ length r) (ek : k ≡ length b) where
-  abbrev Given : Recognized → List ℕ → List ℕ → List ℕ → Type 0
-  Given answer x y z = ReadAs (counted t r b) tokens literals content answer x y z
+  abbrev Gives : Recognized → List ℕ → List ℕ → List ℕ → Type 0
+  Gives answer x y z = ReadAs (counted t r b) tokens literals content answer x y z
 
-  pub not-counted : leb 1 n && leb n 256 ≡ false → Given TokenCount tokens literals content
+  pub not-counted : leb 1 n && leb n 256 ≡ false → Gives TokenCount tokens literals content
   not-counted e = rw (rw en at e) record { answered = refl; tokens-written = refl; literals-written = refl; content-written = refl }
 
   module _ (e : leb 1 n && leb n 256 ≡ true) where
     counted-so : leb 1 (length t) && leb (length t) 256 ≡ true
     counted-so = rw en at e
 
-    pub no-tokens : length tokens < n → Given (Room n) tokens literals content
+    pub no-tokens : length tokens < n → Gives (Room n) tokens literals content
     no-tokens h =
         let a = lt-leb (length t) (length tokens) (omega (arith, en)) in
         rw (counted-so, en) record { answered = rw a; tokens-written = refl; literals-written = refl; content-written = refl }
@@ -44,7 +46,7 @@ module _ (t r b tokens literals content : List ℕ) (n v k : ℕ) (en : n ≡ le
       first : leb (length t) (length tokens) ≡ true
       first = le-leb (length t) (length tokens) (omega (arith, en))
 
-      pub no-rows : length literals < v → Given (Room v) tokens literals content
+      pub no-rows : length literals < v → Gives (Room v) tokens literals content
       no-rows g =
           let a = lt-leb (length r) (length literals) (omega (arith, ev)) in
           rw (counted-so, ev) record { answered = rw (first, a); tokens-written = refl; literals-written = refl; content-written = refl }
@@ -53,31 +55,31 @@ module _ (t r b tokens literals content : List ℕ) (n v k : ℕ) (en : n ≡ le
         second : leb (length r) (length literals) ≡ true
         second = le-leb (length r) (length literals) (omega (arith, ev))
 
-        pub no-bytes : length content < k → Given (Room k) tokens literals content
+        pub no-bytes : length content < k → Gives (Room k) tokens literals content
         no-bytes l =
             let a = lt-leb (length b) (length content) (omega (arith, ek)) in
             rw (counted-so, ek) record { answered = rw (first, second, a); tokens-written = refl; literals-written = refl; content-written = refl }
 
         pub all-given : {x y z : List ℕ} → k ≤ length content → x ≡ writtenOver t tokens → y ≡ writtenOver r literals → z ≡ writtenOver b content
-            → Given (Counts n v k) x y z
+            → Gives (Counts n v k) x y z
         all-given l p q s =
             let a = le-leb (length b) (length content) (omega (arith, ek)) in
             rw (counted-so, en, ev, ek) record { answered = rw (first, second, a); tokens-written = p; literals-written = q; content-written = s }
 
 -- what was gathered is the reading
-module _ {names : List (List ℕ)} {text tokens rows bytes : List ℕ} (x : Lexed) (L : Lexes names text x tokens rows bytes) where
-  pub whole-sizes : {g : Gathered} → x ≡ Whole g → (g .tokens ≤ 2048) × (g .literals ≤ 64) × (g .bytes ≤ 2048)
-  whole-sizes e = let H = subst (λ (y : Lexed). Lexes names text y tokens rows bytes) e L .gives in (H .few-tokens, H .few-literals, H .few-bytes)
+module _ {book : Book} {text tokens rows bytes : List ℕ} (x : Lexed) (L : Lexes book text x tokens rows bytes) where
+  pub whole-sizes : {g : Gathered} → x ≡ Whole g → (g .tokens ≤ 2048) × (g .literals ≤ 64) × (g .bytes ≤ 6144)
+  whole-sizes e = let H = subst (λ (y : Lexed). Lexes book text y tokens rows bytes) e L .gives in (H .few-tokens, H .few-literals, H .few-bytes)
 
-  pub whole-reading : {g : Gathered} → x ≡ Whole g → counted (take (g .tokens) tokens) (take (g .literals * 5) rows) (take (g .bytes) bytes) ≡ reading names text
+  pub whole-reading : {g : Gathered} → x ≡ Whole g → counted (take (g .tokens) tokens) (take (g .literals * 5) rows) (take (g .bytes) bytes) ≡ reading book text
   unfolding reading
   whole-reading e =
-      let H = subst (λ (y : Lexed). Lexes names text y tokens rows bytes) e L .gives in
-      rw (H .faultless, H .tokens-are, H .rows-are, H .bytes-are)
+      let H = subst (λ (y : Lexed). Lexes book text y tokens rows bytes) e L .gives in
+      rw (H .faultless, ← (H .tokens-are), ← (H .rows-are), ← (H .bytes-are))
 
-  pub fault-reading : {number place : ℕ} → x ≡ Fault number place → refused number place ≡ reading names text
+  pub fault-reading : {number place : ℕ} → x ≡ Fault number place → refused number place ≡ reading book text
   unfolding reading
-  fault-reading e = let f = subst (λ (y : Lexed). Lexes names text y tokens rows bytes) e L .gives in rw f
+  fault-reading e = let f = subst (λ (y : Lexed). Lexes book text y tokens rows bytes) e L .gives in rw f
 
 -- a refusal changes no output
 kept : (p q s : Bool) (place : ℕ) (out before : List ℕ)
@@ -101,20 +103,26 @@ refused-reading {R} {number} {place} {answer} {tokens} {literals} {content} e f 
 pub as-reading : {R S : Reading} {tokens literals content x y z : List ℕ} {answer : Recognized} → R ≡ S → ReadAs R tokens literals content answer x y z → ReadAs S tokens literals content answer x y z
 as-reading e r = rw (← e) r
 
--- the description's names are those of its table
-module _ {description : List ℕ} (d : Named) {places : List ℕ} (N : NamedBy description d places) where
-  pub places-found : {n : ℕ} → d ≡ Places n → NamesFound description places n
-  places-found e = subst (λ (y : Named). NamedBy description y places) e N .gives
+-- the description's names and literals are those of its table
+module _ {description : List ℕ} (d : Named) {places rows bytes : List ℕ} (N : NamedBy description d places rows bytes) where
+  pub book-found : {b : Found-book} → d ≡ Given b → NamesFound description places rows bytes b
+  book-found e = subst (λ (y : Named). NamedBy description y places rows bytes) e N .gives
 
-  pub named-reading : {n : ℕ} (condition : List ℕ) → d ≡ Places n → reading (namesAt description (take n places)) condition ≡ readCondition description condition
-  named-reading {n} condition e =
-      let F = places-found e in
-      ap (λ (names : List (List ℕ)). reading names condition) (F .names-are) ∙ sym (ap (λ (o : Outcome). readAfter description o condition) (F .described))
+  pub named-reading : {b : Found-book} (condition : List ℕ) → d ≡ Given b
+      → reading (bookIn (knownAt description (b .items) (take (b .places) places)) (b .literals) (b .bytes) rows bytes) condition ≡ readCondition description condition
+  named-reading {b} condition e =
+      let F = book-found e in
+      let t = F .found in
+      let same : bookIn (knownAt description (b .items) (take (b .places) places)) (b .literals) (b .bytes) rows bytes ≡ bookOf description t = rw (F .known-are, F .rows-are, F .bytes-are) in
+      ap (λ (x : Book). reading x condition) same ∙ sym (ap (λ (o : Outcome). readAfter description o condition) (F .described))
 
   pub undescribed-reading : {p : ℕ} (condition : List ℕ) → d ≡ Faulty p → refused 14 p ≡ readCondition description condition
   undescribed-reading condition e =
-      let f = subst (λ (y : Named). NamedBy description y places) e N .gives in
+      let f = subst (λ (y : Named). NamedBy description y places rows bytes) e N .gives in
       sym (ap (λ (o : Outcome). readAfter description o condition) f)
 
-  pub places-few : {n : ℕ} → d ≡ Places n → length (take n places) ≤ 64
-  places-few {n} e = let F = places-found e in omega (arith, length-take-le n places (F .there), F .few)
+  pub places-listed : {b : Found-book} → d ≡ Given b → Listed (b .items) (take (b .places) places)
+  places-listed {b} e =
+      let F = book-found e in
+      let l = length-take-le (b .places) places (F .there) in
+      record { few = omega (arith, l, F .few-places); within = omega (arith, l, F .within) }

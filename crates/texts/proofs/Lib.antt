@@ -1,3 +1,4 @@
 pub mod Describing
+pub mod Booked
 pub mod Giving
 pub mod Refusing

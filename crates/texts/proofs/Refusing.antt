@@ -2,7 +2,7 @@
 use mathlib.Core.Path.{_≡_, refl, sym, ap, ap₂, _∙_, subst}
 use mathlib.Core.Bool.{Bool, true, false, cond, not, _&&_, _||_}
 use mathlib.Core.List.{List, [], _∷_, _++_, map}
-use Prim.Native.Nat.{ℕ, zero, suc, _+_, _/_, _%_, _≤_, _<_}
+use Prim.Native.Nat.{ℕ, zero, suc, _+_, _-_, _/_, _%_, _≤_, _<_}
 use native.Mathlib.Omega.{arith}
 use native.Mathlib.Decide.{ℕ-discrete}
 use lib.Dec.{eqb, leb, ltb}
@@ -19,19 +19,22 @@ use Rattle.tables.specs.Refusals.{number, place, firstFailing, firstOf, unless}
 use Rattle.tables.specs.Tables.{lengthSound, literalSound, tableLines, literalTableCheck, literalRowCheck, tokenCountCheck}
 use Rattle.tables.proofs.Tests.{both}
 use Rattle.description.specs.Limits.{Outcome, table, refusal as undescribed, describe}
-use Rattle.spelling.specs.Names.{namesAt, namesOf}
+use Rattle.spelling.specs.Names.{Known, knownOf}
+use Rattle.naming.specs.Named.{Listed, knownAt}
 use Rattle.spelling.specs.Reading.{Found, none, refusal, before}
 use Rattle.spelling.specs.Printing.{Print, text, refused, found, firstToken, printable, hasName, printed, printFault, printResult, printing, printAfter, printCondition}
-use Rattle.naming.proofs.Finding.{names-length}
+use Rattle.naming.proofs.Finding.{items-length, conditions-length}
+use Rattle.printer.proofs.Wording.{item-row, condition-there}
 use Rattle.printable.specs.Passing.{passing, mayPrint, AllThere}
 use Rattle.printer.specs.Prints.{Printable, AllPrintable}
 use Rattle.literal_words.specs.Found.{writtenOver}
 use Rattle.texts.specs.declared.Printed.{Printed}
 use Rattle.texts.specs.declared.Printed.the-variants.{Count, Description, Refused, Name}
 use Rattle.texts.specs.declared.Named.{Named}
-use Rattle.texts.specs.declared.Named.the-variants.{Places, Faulty}
+use Rattle.texts.specs.declared.Book.{Book}
+use Rattle.texts.specs.declared.Named.the-variants.{Given, Faulty}
 use Rattle.texts.specs.Calls.{unprintedAs, lineOut, PrintedAs, Sized, Prepared, NamesFound, NamedBy}
-use Rattle.texts.proofs.Giving.{places-found}
+use Rattle.texts.proofs.Giving.{book-found}
 
 one-more : (a b : ℕ) → ltb (suc a) (suc b) ≡ ltb a b
 one-more a b = by (ltb a b) refl
@@ -94,22 +97,24 @@ row-refusal test at (suc n) r e = by (test at) e (row-refusal test (suc at) n r)
     by true e rec = rec e
     by false e rec = let z : LiteralRow at ≡ r = cc in subst (λ (x : Refusal). Refused x ≡ unprintedAs (number x) (place x)) z refl
 
-module _ (names : List (List ℕ)) (rows content tokens : List ℕ) where
+module _ (known : Known) (rows content tokens : List ℕ) where
   abbrev later : Found
-  later = before (firstToken (printable names rows) 6 0 tokens) (firstToken (hasName names) 16 0 tokens)
+  later = before (firstToken (printable known rows) 6 0 tokens) (firstToken (hasName known) 16 0 tokens)
 
   -- 3 and 4
   pub tables-refuse : {r : Refusal} → firstOf (tableLines (lend [] rows content)) ≡ Fails r
-      → (printing names rows content tokens ≡ refused (number r) (place r)) × (Refused r ≡ unprintedAs (number r) (place r))
+      → (printing known rows content tokens ≡ refused (number r) (place r)) × (Refused r ≡ unprintedAs (number r) (place r))
   unfolding printing firstOf firstFailing
   tables-refuse {r} e = by (lengthSound rows) refl (literalRowCheck (lend [] rows content)) refl e
     where
       by : (b : Bool) → lengthSound rows ≡ b → (c : Check) → literalRowCheck (lend [] rows content) ≡ c
           → firstOf (unless b LiteralTable ∷ c ∷ []) ≡ Fails r
-          → (printResult (before (found (unless (lengthSound rows) LiteralTable)) (before (found (literalRowCheck (lend [] rows content))) (before (found (tokenCountCheck tokens)) later))) (printed names rows content tokens)
+          → (printResult (before (found (unless (lengthSound rows) LiteralTable)) (before (found (literalRowCheck (lend [] rows content))) (before (found
+          (tokenCountCheck tokens)) later))) (printed known rows content tokens)
           ≡ refused (number r) (place r)) × (Refused r ≡ unprintedAs (number r) (place r))
       by false l c q e = let z : LiteralTable ≡ r = cc in subst (λ (x : Refusal).
-          (printResult (before (found (unless (lengthSound rows) LiteralTable)) (before (found (literalRowCheck (lend [] rows content))) (before (found (tokenCountCheck tokens)) later))) (printed names rows content tokens)
+          (printResult (before (found (unless (lengthSound rows) LiteralTable)) (before (found (literalRowCheck (lend [] rows content))) (before (found
+          (tokenCountCheck tokens)) later))) (printed known rows content tokens)
           ≡ refused (number x) (place x)) × (Refused x ≡ unprintedAs (number x) (place x))) z (rw l, refl)
       by true l Sound q e = let z : _≡_ {A = ℕ} 0 1 = cc in absurd (omega arith)
       by true l (Fails x) q e =
@@ -130,7 +135,7 @@ module _ (names : List (List ℕ)) (rows content tokens : List ℕ) where
   module _ (table-fine : literalTableCheck (lend [] rows content) ≡ Sound) (rows-fine : literalRowCheck (lend [] rows content) ≡ Sound) where
     -- 5
     pub count-refuses : {r : Refusal} → tokenCountCheck tokens ≡ Fails r
-        → (printing names rows content tokens ≡ refused (number r) (place r)) × (Refused r ≡ unprintedAs (number r) (place r))
+        → (printing known rows content tokens ≡ refused (number r) (place r)) × (Refused r ≡ unprintedAs (number r) (place r))
     unfolding printing
     count-refuses {r} e = (rw (table-fine, rows-fine, e), by (leb 1 (length tokens) && leb (length tokens) 256) e)
       where
@@ -140,29 +145,29 @@ module _ (names : List (List ℕ)) (rows content tokens : List ℕ) where
 
     module _ (count-fine : tokenCountCheck tokens ≡ Sound) where
       -- 6
-      pub token-refuses : passing (printable names rows) tokens < length tokens
-          → printing names rows content tokens ≡ refused 6 (passing (printable names rows) tokens)
+      pub token-refuses : passing (printable known rows) tokens < length tokens
+          → printing known rows content tokens ≡ refused 6 (passing (printable known rows) tokens)
       unfolding printing
-      token-refuses h = rw (table-fine, rows-fine, count-fine, some-fails (printable names rows) 6 tokens h)
+      token-refuses h = rw (table-fine, rows-fine, count-fine, some-fails (printable known rows) 6 tokens h)
 
-      module _ (there : length tokens ≤ passing (printable names rows) tokens) where
+      module _ (there : length tokens ≤ passing (printable known rows) tokens) where
         -- 16
-        pub name-refuses : passing (hasName names) tokens < length tokens
-            → printing names rows content tokens ≡ refused 16 (passing (hasName names) tokens)
+        pub name-refuses : passing (hasName known) tokens < length tokens
+            → printing known rows content tokens ≡ refused 16 (passing (hasName known) tokens)
         unfolding printing
         name-refuses h =
-            rw (table-fine, rows-fine, count-fine, none-fails (printable names rows) 6 tokens there, some-fails (hasName names) 16 tokens h)
+            rw (table-fine, rows-fine, count-fine, none-fails (printable known rows) 6 tokens there, some-fails (hasName known) 16 tokens h)
 
-        pub prints : length tokens ≤ passing (hasName names) tokens → printing names rows content tokens ≡ text (printed names rows content tokens)
+        pub prints : length tokens ≤ passing (hasName known) tokens → printing known rows content tokens ≡ text (printed known rows content tokens)
         unfolding printing
         prints h =
-            rw (table-fine, rows-fine, count-fine, none-fails (printable names rows) 6 tokens there, none-fails (hasName names) 16 tokens h)
+            rw (table-fine, rows-fine, count-fine, none-fails (printable known rows) 6 tokens there, none-fails (hasName known) 16 tokens h)
 
 -- tokens that the printer may write
-module _ {description places rows content tokens : List ℕ} (S : Sized description places rows content tokens)
-    (there : length tokens ≤ passing (printable (namesAt description places) rows) tokens) where
-  abbrev names : List (List ℕ)
-  names = namesAt description places
+module _ {description : List ℕ} {items : ℕ} {places rows content tokens : List ℕ} (S : Sized description items places rows content tokens)
+    (there : length tokens ≤ passing (printable (knownAt description items places) rows) tokens) where
+  abbrev known : Known
+  known = knownAt description items places
 
   pub some-tokens : (1 ≤ length tokens) × (length tokens ≤ 256)
   some-tokens = by (leb 1 (length tokens)) refl (leb (length tokens) 256) refl (S .count-sound)
@@ -172,40 +177,36 @@ module _ {description places rows content tokens : List ℕ} (S : Sized descript
       by true p false q e = let z : _≡_ {A = ℕ} 0 1 = cc in absurd (omega arith)
       by false p b q e = let z : _≡_ {A = ℕ} 0 1 = cc in absurd (omega arith)
 
-  pub all-printable : AllPrintable description names rows content tokens
-  all-printable =
+  printable-at : (i : ℕ) → i < length tokens → Printable description items places rows content (getD tokens i 0)
+  printable-at i h =
       record {
-        short = S .short;
-        few = some-tokens .1;
-        each =
-            λ i h.
-            record {
-              there = passes-each (printable names rows) tokens there i h;
-              sound = λ v l. each-sound (λ v. literalSound content (rowAt rows v)) LiteralRow 0 (rowCount rows) (S .rows-sound) v (omega arith) (omega arith);
-            };
+        there = passes-each (printable known rows) tokens there i h;
+        sound = λ v l. each-sound (λ v. literalSound content (rowAt rows v)) LiteralRow 0 (rowCount rows) (S .rows-sound) v (omega arith) (omega arith);
+        listed = S .listed .within;
       }
 
-  -- an item token has a row
-  pub items-there : AllThere (length places) tokens
-  items-there i h k =
-      let t : ℕ = getD tokens i 0 in
-      let e = both (exists true (length names) (rowCount rows) t) (not (isOff t)) (passes-each (printable names rows) tokens there i h) .0 in
-      let f : (true && ltb (t % 65536) (length names)) || false || false || false ≡ true = rw k at e in
-      omega (arith, ltb-true (t % 65536) (length names) (alone (ltb (t % 65536) (length names)) f), names-length description places)
-    where
-      alone : (b : Bool) → (true && b) || false || false || false ≡ true → b ≡ true
-      alone true e = refl
-      alone false e = e
+  pub all-printable : AllPrintable description items places rows content tokens
+  all-printable = record { short = S .short; few = some-tokens .1; each = printable-at }
 
--- by the number of names
-pub missing-same : (description places rows tokens : List ℕ) → passing (mayPrint (length places) (length rows / 5)) tokens ≡ passing (printable (namesAt description places) rows) tokens
-missing-same description places rows tokens = ap (λ (n : ℕ). passing (mayPrint n (length rows / 5)) tokens) (sym (names-length description places))
+  -- the token of a name has a place
+  pub names-there : AllThere items places tokens
+  names-there i h =
+      let t : ℕ = getD tokens i 0 in
+      let P = printable-at i h in
+      record { item = item-row description items places rows content t P; condition = condition-there description items places rows content t P }
+
+-- by the numbers of names
+pub missing-same : (description : List ℕ) (items : ℕ) (places rows tokens : List ℕ) → items ≤ length places
+    → passing (mayPrint items (length rows / 5) (length places - items)) tokens ≡ passing (printable (knownAt description items places) rows) tokens
+missing-same description items places rows tokens h =
+    ap₂ (λ (n m : ℕ). passing (mayPrint n (length rows / 5) m) tokens) (sym (items-length description items places h)) (sym (conditions-length description items places))
 
 -- answers
 pub refused-print : {P : Print} {n p : ℕ} {answer : Printed} {before : List ℕ} → P ≡ refused n p → answer ≡ unprintedAs n p → PrintedAs P before answer before
 refused-print {P} {n} {p} {answer} {before} e f = rw (e, f) record { answered = refl; written = kept (eqb n 14) (eqb n 16) }
   where
-    kept : (a b : Bool) → before ≡ lineOut (cond a (Description p) (cond b (Name p) (Refused (cond (eqb n 3) LiteralTable (cond (eqb n 4) (LiteralRow p) (cond (eqb n 5) WrongCount (Token p))))))) [] before
+    kept : (a b : Bool) → before ≡ lineOut (cond a (Description p) (cond b (Name p) (Refused (cond (eqb n 3) LiteralTable (cond (eqb n 4) (LiteralRow p) (cond (eqb n 5) WrongCount
+        (Token p))))))) [] before
     kept true b = refl
     kept false true = refl
     kept false false = refl
@@ -224,14 +225,15 @@ module _ {P : Print} {t out : List ℕ} (e : P ≡ text t) {size : ℕ} (q : siz
 pub as-print : {P Q : Print} {out after : List ℕ} {answer : Printed} → P ≡ Q → PrintedAs P out answer after → PrintedAs Q out answer after
 as-print e r = rw (← e) r
 
-module _ {description : List ℕ} (d : Named) {places : List ℕ} (N : NamedBy description d places) (rows content tokens : List ℕ) where
-  pub named-print : {n : ℕ} → d ≡ Places n → printing (namesAt description (take n places)) rows content tokens ≡ printCondition description rows content tokens
-  named-print {n} e =
-      let F = places-found d N e in
-      ap (λ (names : List (List ℕ)). printing names rows content tokens) (F .names-are)
+module _ {description : List ℕ} (d : Named) {places table-rows table-bytes : List ℕ} (N : NamedBy description d places table-rows table-bytes) (rows content tokens : List ℕ) where
+  pub named-print : {b : Book} → d ≡ Given b
+      → printing (knownAt description (b .items) (take (b .places) places)) rows content tokens ≡ printCondition description rows content tokens
+  named-print {b} e =
+      let F = book-found d N e in
+      ap (λ (known : Known). printing known rows content tokens) (F .known-are)
       ∙ sym (ap (λ (o : Outcome). printAfter description o rows content tokens) (F .described))
 
   pub undescribed-print : {p : ℕ} → d ≡ Faulty p → printCondition description rows content tokens ≡ refused 14 p
   undescribed-print e =
-      let f = subst (λ (y : Named). NamedBy description y places) e N .gives in
+      let f = subst (λ (y : Named). NamedBy description y places table-rows table-bytes) e N .gives in
       ap (λ (o : Outcome). printAfter description o rows content tokens) f

@@ -2,7 +2,7 @@
 use mathlib.Core.Path.{_≡_}
 use mathlib.Core.Bool.{Bool, true, false, cond, _&&_}
 use mathlib.Core.List.{List, [], _∷_, _++_}
-use Prim.Native.Nat.{ℕ, _≤_}
+use Prim.Native.Nat.{ℕ, _*_, _≤_}
 use lib.Dec.{eqb, leb}
 use lib.ListN.{length, take, drop}
 use Rattle.tables.specs.declared.Refusal.{Refusal}
@@ -13,7 +13,8 @@ use Rattle.tables.specs.Refusals as Refusals
 use Rattle.tables.specs.Tables.{literalTableCheck, literalRowCheck, tokenCountCheck}
 use Rattle.description.specs.Grammar.{Table}
 use Rattle.description.specs.Limits.{table, refusal, describe}
-use Rattle.spelling.specs.Names.{namesAt, namesOf}
+use Rattle.spelling.specs.Names.{knownOf, numbers}
+use Rattle.naming.specs.Named.{Listed, knownAt}
 use Rattle.spelling.specs.Reading.{Reading, read, refused}
 use Rattle.spelling.specs.Printing.{Print, text, refused as unprinted, printable, hasName}
 use Rattle.printable.specs.Passing.{passing}
@@ -21,8 +22,9 @@ use Rattle.texts.specs.declared.Recognized.{Recognized}
 use Rattle.texts.specs.declared.Recognized.the-variants.{Counts, Description, Word, Name, TokenCount, Room}
 use Rattle.texts.specs.declared.Printed.{Printed}
 use Rattle.texts.specs.declared.Printed.the-variants.{Count, Description as Undescribed, Refused, Name as Unnamed}
+use Rattle.texts.specs.declared.Book.{Book}
 use Rattle.texts.specs.declared.Named.{Named}
-use Rattle.texts.specs.declared.Named.the-variants.{Places, Faulty}
+use Rattle.texts.specs.declared.Named.the-variants.{Given, Faulty}
 
 -- "Numbers from 14 join 01's table": the number and the place of a refusal of `read`
 abbrev pub readNumber : Recognized → ℕ
@@ -121,21 +123,26 @@ pub record PrintedAs (print : Print) (before : List ℕ) (r : Printed) (after : 
   pub answered : r ≡ printAnswer print (length before)
   pub written : after ≡ lineOut r (lineOf print) before
 
--- What private functions promise. The places of a description's names.
-pub record NamesFound (description places : List ℕ) (n : ℕ) : Type 0 where
+-- What private functions promise. The places of a description's names, and its literals.
+pub record NamesFound (description places rows bytes : List ℕ) (b : Book) : Type 0 where
   pub found : Table
   pub described : describe description ≡ table found
-  pub names-are : namesAt description (take n places) ≡ namesOf description found
-  pub few : n ≤ 64
-  pub there : n ≤ length places
+  pub known-are : knownAt description (b .items) (take (b .places) places) ≡ knownOf description found
+  pub rows-are : take (b .literals * 5) rows ≡ numbers (found .literals)
+  pub bytes-are : take (b .bytes) bytes ≡ found .bytes
+  pub few-places : b .places ≤ 128
+  pub within : b .items ≤ b .places
+  pub there : b .places ≤ length places
+  pub few-literals : b .literals ≤ 64
+  pub few-bytes : b .bytes ≤ 4096
   pub short : length description ≤ 4096
 
-abbrev pub NamedGives : List ℕ → List ℕ → Named → Type 0
-NamedGives description places (Places n) = NamesFound description places n
-NamedGives description places (Faulty p) = describe description ≡ refusal p
+abbrev pub NamedGives : List ℕ → List ℕ → List ℕ → List ℕ → Named → Type 0
+NamedGives description places rows bytes (Given b) = NamesFound description places rows bytes b
+NamedGives description places rows bytes (Faulty p) = describe description ≡ refusal p
 
-pub record NamedBy (description : List ℕ) (r : Named) (places : List ℕ) : Type 0 where
-  pub gives : NamedGives description places r
+pub record NamedBy (description : List ℕ) (r : Named) (places rows bytes : List ℕ) : Type 0 where
+  pub gives : NamedGives description places rows bytes r
 
 -- tokens, rows and bytes that a reading found, given where there is room
 abbrev pub counted : List ℕ → List ℕ → List ℕ → Reading
@@ -146,15 +153,15 @@ Gives t r b tokens literals content answer tokens-after literals-after content-a
     ReadAs (counted t r b) tokens literals content answer tokens-after literals-after content-after
 
 -- what 14 and 3 to 5 leave
-pub record Sized (description places rows content tokens : List ℕ) : Type 0 where
+pub record Sized (description : List ℕ) (items : ℕ) (places rows content tokens : List ℕ) : Type 0 where
   pub short : length description ≤ 4096
-  pub few-names : length places ≤ 64
+  pub listed : Listed items places
   pub table-sound : literalTableCheck (lend [] rows content) ≡ Sound
   pub rows-sound : literalRowCheck (lend [] rows content) ≡ Sound
   pub count-sound : tokenCountCheck tokens ≡ Sound
 
 -- and 6 and 16
-pub record Prepared (description places rows content tokens : List ℕ) : Type 0 where
-  pub sized : Sized description places rows content tokens
-  pub all-there : length tokens ≤ passing (printable (namesAt description places) rows) tokens
-  pub all-named : length tokens ≤ passing (hasName (namesAt description places)) tokens
+pub record Prepared (description : List ℕ) (items : ℕ) (places rows content tokens : List ℕ) : Type 0 where
+  pub sized : Sized description items places rows content tokens
+  pub all-there : length tokens ≤ passing (printable (knownAt description items places) rows) tokens
+  pub all-named : length tokens ≤ passing (hasName (knownAt description items places)) tokens

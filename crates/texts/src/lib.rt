@@ -1,8 +1,8 @@
 // Conditions as printed: the calls.
 
 pub mod calls; // the calls that users make
-mod names; // the names of a description
-mod outputs; // what is given where there is room
+mod names; // names and literals of a description
+mod given; // what is given where there is room
 
 use tables::Refusal;
 
@@ -26,8 +26,17 @@ pub enum Printed {
     Name(usize),
 }
 
-// The places of a description's names, so many; or the place of 14.
+// What a description gives a condition text: how many places of items' names there are, and of all names; and how many
+// literals and literal bytes.
+pub struct Book {
+    pub items: usize,
+    pub places: usize,
+    pub literals: usize,
+    pub bytes: usize,
+}
+
+// With the places, rows and bytes themselves in lent outputs; or the place of 14.
 pub enum Named {
-    Places(usize),
+    Given(Book),
     Faulty(usize),
 }

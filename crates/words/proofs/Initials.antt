@@ -89,15 +89,20 @@ unfolding within same
 starts-U [] h e = absurd (omega arith)
 starts-U (a ∷ v) h e = rw e
 
+pub starts-V : (w : List ℕ) → 0 < length w → getD w 0 0 ≡ 0x56 → within w (bytes "VALUE" ∷ []) ≡ within w keywords
+unfolding within same
+starts-V [] h e = absurd (omega arith)
+starts-V (a ∷ v) h e = rw e
+
 pub starts-Z : (w : List ℕ) → 0 < length w → getD w 0 0 ≡ 0x5a → within w (bytes "ZERO" ∷ []) ≡ within w keywords
 unfolding within same
 starts-Z [] h e = absurd (omega arith)
 starts-Z (a ∷ v) h e = rw e
 
-pub starts-other : (w : List ℕ) → ¬ (getD w 0 0 ≡ 0x41) → ¬ (getD w 0 0 ≡ 0x43) → ¬ (getD w 0 0 ≡ 0x45) → ¬ (getD w 0 0 ≡ 0x46) → ¬ (getD w 0 0 ≡ 0x47) → ¬ (getD w 0 0 ≡ 0x49) → ¬ (getD w 0 0 ≡ 0x4c) → ¬ (getD w 0 0 ≡ 0x4e) → ¬ (getD w 0 0 ≡ 0x4f) → ¬ (getD w 0 0 ≡ 0x50) → ¬ (getD w 0 0 ≡ 0x53) → ¬ (getD w 0 0 ≡ 0x54) → ¬ (getD w 0 0 ≡ 0x55) → ¬ (getD w 0 0 ≡ 0x5a) → false ≡ within w keywords
+pub starts-other : (w : List ℕ) → ¬ (getD w 0 0 ≡ 0x41) → ¬ (getD w 0 0 ≡ 0x43) → ¬ (getD w 0 0 ≡ 0x45) → ¬ (getD w 0 0 ≡ 0x46) → ¬ (getD w 0 0 ≡ 0x47) → ¬ (getD w 0 0 ≡ 0x49) → ¬ (getD w 0 0 ≡ 0x4c) → ¬ (getD w 0 0 ≡ 0x4e) → ¬ (getD w 0 0 ≡ 0x4f) → ¬ (getD w 0 0 ≡ 0x50) → ¬ (getD w 0 0 ≡ 0x53) → ¬ (getD w 0 0 ≡ 0x54) → ¬ (getD w 0 0 ≡ 0x55) → ¬ (getD w 0 0 ≡ 0x56) → ¬ (getD w 0 0 ≡ 0x5a) → false ≡ within w keywords
 unfolding within same
-starts-other [] hA hC hE hF hG hI hL hN hO hP hS hT hU hZ = refl
-starts-other (a ∷ v) hA hC hE hF hG hI hL hN hO hP hS hT hU hZ =
+starts-other [] hA hC hE hF hG hI hL hN hO hP hS hT hU hV hZ = refl
+starts-other (a ∷ v) hA hC hE hF hG hI hL hN hO hP hS hT hU hV hZ =
     rw (
       eqb-no a 0x41 hA,
       eqb-no a 0x43 hC,
@@ -112,5 +117,6 @@ starts-other (a ∷ v) hA hC hE hF hG hI hL hN hO hP hS hT hU hZ =
       eqb-no a 0x53 hS,
       eqb-no a 0x54 hT,
       eqb-no a 0x55 hU,
+      eqb-no a 0x56 hV,
       eqb-no a 0x5a hZ,
     )

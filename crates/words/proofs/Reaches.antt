@@ -11,7 +11,9 @@ use lib.ListN.{length, getD, take, drop, length-append, drop-of-length-le, List�
 use lib.Seq.{append-snoc, drop-cons}
 use Rattle.description.specs.Grammar.{same, all, any, isLetter, isHyphen, isNameByte, within, keywords}
 use Rattle.description.specs.Reader.{isName, isCalled, hasRoom, beginsName}
-use Rattle.description.specs.Stages.{reach, inked, isPeriod, nameReach, nameFrom, nameAt, calledAt}
+use Rattle.description.specs.Stages.{reach, inked, isPeriod, nameReach, nameFrom, nameAt, calledAt, labelAt}
+use Rattle.description.specs.declared.Reached.{Reached}
+use Rattle.description.specs.declared.Reached.the-variants as Reached
 use Rattle.description.specs.declared.Called.{Called}
 use Rattle.description.specs.declared.Called.the-variants as Called
 use Rattle.description.proofs.Bytes.{apart, eqb-same, eqb-no, leb-so, leb-no}
@@ -229,3 +231,21 @@ module _ (l : ℕ) (text : List ℕ) (n p m : ℕ) (e : p ≡ inked text n) (f :
 
   pub name-item : isCalled (take ((p + m) - p) (drop p text)) ≡ true → isPeriod text (p + m) && leb l 48 ≡ false → Called.Item (p + m) ≡ nameAt l text n
   name-item h k = sym (name-is h k)
+
+-- The name of a level 88 entry.
+pub label-none : (text : List ℕ) (n p : ℕ) → p ≡ inked text n → p ≡ n → Reached.Fault n ≡ labelAt text n
+label-none text n p e h = let i : inked text n ≡ n = sym e ∙ h in rw (i, eqb-same n)
+
+module _ (text : List ℕ) (n p m : ℕ) (e : p ≡ inked text n) (f : ¬ (p ≡ n)) (g : m ≡ reach beginsName [] (take (length text - p) (drop p text))) where
+  label-is : {t : Bool} → isName (take ((p + m) - p) (drop p text)) ≡ t → labelAt text n ≡ cond t (Reached.Word (p + m)) (Reached.Fault (p + m))
+  label-is h =
+      let z : m ≡ nameReach text p = g ∙ ap (reach beginsName []) (part-from text p) in
+      let y : (p + m) - p ≡ m = omega arith in
+      let i : isName (take m (drop p text)) ≡ _ = rw y at h in
+      rw (← e, eqb-no p n f, ← z, i)
+
+  pub label-word : isName (take ((p + m) - p) (drop p text)) ≡ true → Reached.Word (p + m) ≡ labelAt text n
+  label-word h = sym (label-is h)
+
+  pub label-fault : isName (take ((p + m) - p) (drop p text)) ≡ false → Reached.Fault (p + m) ≡ labelAt text n
+  label-fault h = sym (label-is h)

@@ -19,7 +19,7 @@ abbrev pub wordsS : List (List ℕ)
 wordsS = bytes "SIGN" ∷ bytes "SEPARATE" ∷ []
 
 abbrev pub wordsT : List (List ℕ)
-wordsT = bytes "TRAILING" ∷ bytes "THAN" ∷ bytes "TO" ∷ []
+wordsT = bytes "TRAILING" ∷ bytes "THRU" ∷ bytes "THAN" ∷ bytes "TO" ∷ []
 
 abbrev pub wordsU : List (List ℕ)
 wordsU = bytes "UPSI-0" ∷ bytes "UPSI-1" ∷ bytes "UPSI-2" ∷ bytes "UPSI-3" ∷ bytes "UPSI-4" ∷ bytes "UPSI-5" ∷ bytes "UPSI-6" ∷ bytes "UPSI-7" ∷ []

@@ -41,6 +41,7 @@ pub fn is_keyword(w: &[u8]) -> bool
         b'S' => keyword_s(w),
         b'T' => keyword_t(w),
         b'U' => keyword_u(w),
+        b'V' => same_bytes(w, b"VALUE"),
         b'Z' => same_bytes(w, b"ZERO"),
         _ => false,
     }
@@ -81,7 +82,8 @@ fn keyword_s(w: &[u8]) -> bool
 fn keyword_t(w: &[u8]) -> bool
     ensures { λ r. ⌜ r ≡ within (now (w .entry)) wordsT ⌝ }
 {
-    same_bytes(w, b"TRAILING") | (same_bytes(w, b"THAN") | same_bytes(w, b"TO"))
+    same_bytes(w, b"TRAILING")
+        | (same_bytes(w, b"THRU") | (same_bytes(w, b"THAN") | same_bytes(w, b"TO")))
 }
 
 fn keyword_u(w: &[u8]) -> bool

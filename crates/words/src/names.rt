@@ -5,7 +5,7 @@ ghost use Prim.Native.Nat.{_≤_};
 ghost use lib.ListN.{length};
 ghost use Rattle.description.specs.Grammar.{all, any, isLetter, isNameByte};
 ghost use Rattle.description.specs.Reader.{isName, isCalled, beginsName};
-ghost use Rattle.description.specs.Stages.{reach, isPeriod, nameAt};
+ghost use Rattle.description.specs.Stages.{reach, isPeriod, nameAt, labelAt};
 ghost use Rattle.words.specs.Runs.{nameRun};
 use crate::blanks::next_ink;
 use crate::bytes::is_letter;
@@ -13,6 +13,7 @@ use crate::bytes::is_name_byte;
 use crate::keywords::is_keyword;
 use crate::keywords::same_bytes;
 use description::Called;
+use description::Reached;
 
 fn all_name_bytes(w: &[u8]) -> bool
     ensures { λ r. ⌜ r ≡ all isNameByte (now (w .entry)) ⌝ }
@@ -130,4 +131,21 @@ pub fn name_at(level: u32, text: &[u8], n: usize) -> Called
     } else {
         Called::Item(k)
     }
+}
+
+// The name of a level 88 entry, after a blank at n: no FILLER, no period.
+pub fn label_at(text: &[u8], n: usize) -> Reached
+    requires { ⌜ n ≤ length (now text) ⌝ }
+    ensures { λ r. ⌜ r ≡ labelAt (now (text .entry)) n ⌝ }
+{
+    let p = next_ink(text, n);
+    if p == n {
+        return Reached::Fault(n);
+    }
+    let m = name_reach(&text[p..]);
+    let k = p + m;
+    if is_name(&text[p..k]) {
+        return Reached::Word(k);
+    }
+    Reached::Fault(k)
 }

@@ -12,6 +12,7 @@ pub mod convert;
 pub mod descriptions;
 pub mod differ;
 pub mod generate;
+pub mod literals;
 pub mod looked;
 pub mod mend;
 pub mod merge;

@@ -9,7 +9,6 @@ pub mod case;
 pub mod compare;
 pub mod generate;
 mod joining;
-mod literals;
 mod names;
 mod printing;
 #[cfg(test)]
@@ -17,9 +16,9 @@ mod tests;
 mod words;
 
 use crate::descriptions;
-use crate::rules::{check_room, Refusal};
+use crate::literals::Literals;
+use crate::rules::{check_room, Refusal, Tables};
 use joining::Joined;
-use literals::Literals;
 use names::Names;
 
 /// "Byte 2,048 is refused".
@@ -34,7 +33,7 @@ pub struct Condition {
 }
 
 /// "Read condition text in upper-case COBOL into tokens, literal rows and literal
-/// bytes, laid in turn." Refusals 14, then 15 and 16, then 5, then 10.
+/// bytes, laid in turn", beginning with the description's (02, h). Refusals 14, then 15 and 16, then 5, then 10.
 pub fn read(
     description: &[u8],
     text: &[u8],
@@ -68,7 +67,14 @@ pub fn print(
 ) -> Result<[u32; 1], Refusal> {
     let described = descriptions::read(description)?;
     let names = Names::of(description, &described);
-    let text = printing::text(&names, literals, bytes, tokens)?;
+    let tables = Tables {
+        items: &described.rows,
+        literals,
+        bytes,
+        names: &described.names,
+        ..Tables::default()
+    };
+    let text = printing::text(&names, &tables, tokens)?;
     check_room(output.len(), text.len())?;
     output[..text.len()].copy_from_slice(&text);
     Ok([text.len() as u32])
@@ -81,7 +87,7 @@ pub fn print(
 fn condition(description: &[u8], text: &[u8]) -> Result<Condition, Refusal> {
     let described = descriptions::read(description)?;
     let names = Names::of(description, &described);
-    let words = said(&names, text);
+    let words = said(&names, described.literals, text);
     let too_long = (text.len() > LONGEST).then(|| Refusal::at(15, LONGEST as u32));
     let faults = words.as_ref().err().copied().into_iter().chain(too_long);
     if let Some(first) = faults.min_by_key(|fault| (fault.place, fault.number)) {
@@ -94,11 +100,11 @@ fn condition(description: &[u8], text: &[u8]) -> Result<Condition, Refusal> {
     Ok(condition)
 }
 
-/// The words in turn, up to the first that is refused.
-fn said(names: &Names, text: &[u8]) -> Result<Condition, Refusal> {
-    let mut literals = Literals::default();
+/// The words in turn, up to the first that is refused; "its literals begin with
+/// these" of the description (02, h).
+fn said(names: &Names, mut literals: Literals, text: &[u8]) -> Result<Condition, Refusal> {
     let mut tokens = Vec::new();
-    for word in joining::joined(text) {
+    for word in joining::joined(names, text) {
         let refuse = |number| Err(Refusal::at(number, word.start as u32));
         tokens.push(match word.means {
             Joined::Token(token) => token,

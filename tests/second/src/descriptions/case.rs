@@ -1,25 +1,25 @@
-//! A case of the reader, its binary form, and its answer as a line: the text, the
-//! room of the rows and the room of the places.
+//! A case of the reader, its binary form, and its answer as a line: the text, and
+//! the rooms of the six outputs in their order.
 
-use super::{describe, generate};
-use crate::answers::{checksum, fresh_output};
+use super::{describe, generate, Outputs};
+use crate::answers::{checksum, checksum_of_bytes, fresh_bytes, fresh_output};
 use crate::rules::Refusal;
-use crate::subject::{take_short, take_text, Raw, Subject};
+use crate::subject::{take_short, take_text, told, Raw, Subject};
 use std::fmt;
 use std::io::{self, Read};
 
 #[derive(Clone, Debug, Default, PartialEq, Eq)]
 pub struct Case {
     pub text: Vec<u8>,
-    pub rows_room: usize,
-    pub places_room: usize,
+    pub rooms: [usize; 6],
 }
 
 /// What describe gave, and the outputs after the call.
 #[derive(Clone, Debug, PartialEq, Eq)]
 pub struct Answer {
-    pub result: Result<[u32; 2], Refusal>,
-    pub outputs: [Vec<u32>; 2],
+    pub result: Result<[u32; 6], Refusal>,
+    pub numbers: [Vec<u32>; 5],
+    pub bytes: Vec<u8>,
 }
 
 impl Subject for Case {
@@ -29,16 +29,16 @@ impl Subject for Case {
 
     fn put(&self, raw: &mut Raw) {
         raw.text(&self.text);
-        raw.short(self.rows_room);
-        raw.short(self.places_room);
+        self.rooms.iter().for_each(|&room| raw.short(room));
     }
 
     fn take(input: &mut impl Read) -> io::Result<Case> {
-        Ok(Case {
-            text: take_text(input)?,
-            rows_room: take_short(input)?,
-            places_room: take_short(input)?,
-        })
+        let text = take_text(input)?;
+        let mut rooms = [0; 6];
+        for room in &mut rooms {
+            *room = take_short(input)?;
+        }
+        Ok(Case { text, rooms })
     }
 
     fn line(&self) -> String {
@@ -48,40 +48,38 @@ impl Subject for Case {
 
 impl Case {
     pub fn answer(&self) -> Answer {
-        let mut outputs = [fresh_output(self.rows_room), fresh_output(self.places_room)];
-        let [rows, places] = &mut outputs;
-        let result = describe(&self.text, rows, places);
-        Answer { result, outputs }
+        let [rows, places, names, name_places, literals, bytes] = self.rooms;
+        let mut numbers = [rows, places, names, name_places, literals].map(fresh_output);
+        let mut bytes = fresh_bytes(bytes);
+        let outputs = Outputs {
+            numbers: numbers.each_mut().map(Vec::as_mut_slice),
+            bytes: &mut bytes,
+        };
+        let result = describe(&self.text, outputs);
+        Answer {
+            result,
+            numbers,
+            bytes,
+        }
     }
 }
 
 impl fmt::Display for Answer {
     fn fmt(&self, f: &mut fmt::Formatter) -> fmt::Result {
-        let (number, place, counts) = match self.result {
-            Ok(counts) => (0, 0, counts),
-            Err(refusal) => (refusal.number, refusal.place, [0; 2]),
-        };
-        write!(f, "{number} {place}")?;
-        for (count, output) in counts.iter().zip(&self.outputs) {
+        let counts = self.result.unwrap_or_default();
+        write!(f, "{}", told(self.result))?;
+        for (count, output) in counts.iter().zip(&self.numbers) {
             write!(f, " {count} {}", checksum(output))?;
         }
-        Ok(())
+        write!(f, " {} {}", counts[5], checksum_of_bytes(&self.bytes))
     }
 }
 
 impl fmt::Display for Case {
     fn fmt(&self, f: &mut fmt::Formatter) -> fmt::Result {
-        writeln!(
-            f,
-            "{} bytes: \"{}\"",
-            self.text.len(),
-            self.text.escape_ascii()
-        )?;
-        writeln!(
-            f,
-            "room: rows {}, places {}",
-            self.rows_room, self.places_room
-        )
+        let text = self.text.escape_ascii();
+        writeln!(f, "{} bytes: \"{text}\"", self.text.len())?;
+        writeln!(f, "room: {:?}", self.rooms)
     }
 }
 
@@ -97,19 +95,36 @@ mod tests {
     #[test]
     fn lines() {
         let mut case = Case {
-            text: b"01 A. 02 B PIC X.".to_vec(),
-            rows_room: 11,
-            places_room: 2,
+            text: b"01 A. 02 B PIC X. 88 C VALUE \"D\".".to_vec(),
+            rooms: [11, 2, 18, 1, 5, 1],
         };
         let rows = checksum(&[7, 0, 1, 0, 0, 2, 0, 1, 0, 0, 3_000_000_010]);
-        let line = format!("0 0 10 {rows} 2 {}", checksum(&[3, 9]));
-        assert_eq!(case.answer().to_string(), line);
-        case.places_room = 1;
-        let untouched = checksum(&fresh_output(11));
-        let line = format!("10 2 0 {untouched} 0 {}", checksum(&[3_000_000_000]));
-        assert_eq!(case.answer().to_string(), line);
+        let name = checksum(&[&[1, 1][..], &[0; 16]].concat());
+        let sums = [
+            (10, rows),
+            (2, checksum(&[3, 9])),
+            (18, name),
+            (1, checksum(&[21])),
+            (5, checksum(&[2, 0, 1, 0, 0])),
+            (1, checksum(&[u32::from(b'D')])),
+        ];
+        let line = |begins: &str, sums: &[(u32, u32)]| {
+            let shown = sums.iter().map(|(count, sum)| format!(" {count} {sum}"));
+            format!("{begins}{}", shown.collect::<String>())
+        };
+        assert_eq!(case.answer().to_string(), line("0 0", &sums));
+        case.rooms[3] = 0;
+        let untouched = |case: &Case| {
+            let [numbers @ .., bytes] = &case.rooms;
+            let mut sums: Vec<(u32, u32)> = numbers
+                .iter()
+                .map(|&room| (0, checksum(&fresh_output(room))))
+                .collect();
+            sums.push((0, checksum_of_bytes(&fresh_bytes(*bytes))));
+            sums
+        };
+        assert_eq!(case.answer().to_string(), line("10 1", &untouched(&case)));
         case.text.pop();
-        let line = format!("14 16 0 {untouched} 0 {}", checksum(&[3_000_000_000]));
-        assert_eq!(case.answer().to_string(), line);
+        assert_eq!(case.answer().to_string(), line("14 32", &untouched(&case)));
     }
 }

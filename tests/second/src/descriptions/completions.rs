@@ -12,12 +12,20 @@ use super::entries::is_valid;
 ///   a letter and the rest, tried as the tail that begins with A;
 /// - behind an entry, with or without a blank: nothing, or a member of the group
 ///   that has none, at level 49, which every group but one of 49 can have;
+/// - in a level 88 entry, which may be that of a group without a member yet: what
+///   is left of it, in quotes a closing one, and then that member or not;
 /// - in a picture: a symbol, a count's digit, its bracket, the period;
 /// - in a SIGN clause or in COMP-3: what is left of it.
 fn endings() -> Vec<Vec<u8>> {
     let mut endings = vec![Vec::new()];
+    let member = " 49 A PIC X.";
+    for condition in [" 88 A VALUE 5.", " THRU 5.", "\"."] {
+        endings.extend(tails(condition));
+        let begun = tails(condition);
+        endings.extend(begun.map(|tail| [&tail, member.as_bytes()].concat()));
+    }
     for whole in [
-        " 49 A PIC X.",
+        member,
         "01 A PIC X.",
         " SIGN LEADING SEPARATE.",
         " SIGN TRAILING SEPARATE.",

@@ -1,6 +1,7 @@
 //! Entries, and what makes a text of entries valid.
 
 use super::pictures::{self, Sort};
+use super::values::{values, Value};
 use super::words::{is_name, level, words, Word, Words};
 use std::ops::Range;
 
@@ -21,16 +22,25 @@ pub enum Form {
         kind: u32,
         picture: Range<usize>,
     },
+    /// A level 88 entry, which is no item's (02, h).
+    Condition {
+        values: Vec<Value>,
+    },
 }
 
 impl Entry {
     fn is_group(&self) -> bool {
         matches!(self.form, Form::Group)
     }
+
+    pub fn is_item(&self) -> bool {
+        !matches!(self.form, Form::Condition { .. })
+    }
 }
 
 /// Whether a whole text is as 02 says, its length and row limits aside: "one or
-/// more" entries, nothing behind the last period.
+/// more" entries, nothing behind the last period. "After an item's entry, a) takes
+/// level 88 entries" (02, h): they may stand anywhere but first.
 pub fn is_valid(text: &[u8]) -> bool {
     let mut words = words(text);
     let mut entries = Vec::new();
@@ -40,7 +50,9 @@ pub fn is_valid(text: &[u8]) -> bool {
             None => return false,
         }
     }
-    !entries.is_empty() && are_records(&entries)
+    let begins = entries.first().is_some_and(Entry::is_item);
+    entries.retain(Entry::is_item);
+    begins && are_records(&entries)
 }
 
 /// The complete entries of a beginning that some valid text shares.
@@ -49,19 +61,20 @@ pub fn complete(beginning: &[u8]) -> Vec<Entry> {
     std::iter::from_fn(|| entry(&mut words)).collect()
 }
 
-/// One entry: level, name, PIC and picture, SIGN clause, as many as there are up
-/// to "a period, no blank before it".
+/// One entry: level, name, PIC and picture, SIGN clause, or VALUE and literals, as
+/// many as there are up to "a period, no blank before it".
 fn entry(words: &mut Words) -> Option<Entry> {
     let level_word = words.next().filter(|word| !word.last)?;
     let level = level(level_word.text)?;
     let name = words.next()?;
-    if name.text != b"FILLER" && !is_name(name.text) {
+    if !is_name(name.text) && (name.text != b"FILLER" || level == 88) {
         return None;
     }
-    let form = if name.last {
-        Form::Group
-    } else {
-        elementary(words)?
+    let form = match (level, name.last) {
+        (88, true) => return None,
+        (88, false) => condition(words)?,
+        (_, true) => Form::Group,
+        (_, false) => elementary(words)?,
     };
     Some(Entry {
         start: level_word.start,
@@ -69,6 +82,12 @@ fn entry(words: &mut Words) -> Option<Entry> {
         name: name.range(),
         form,
     })
+}
+
+fn condition(words: &mut Words) -> Option<Form> {
+    expect(words, "VALUE")?;
+    let values = values(words)?;
+    Some(Form::Condition { values })
 }
 
 fn elementary(words: &mut Words) -> Option<Form> {

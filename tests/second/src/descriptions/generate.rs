@@ -1,12 +1,13 @@
 //! Random texts of record descriptions, the same for the same seed and index:
 //! valid ones, damaged ones, and texts at every limit.
 
+mod conditions;
 mod damage;
 mod limits;
 mod writer;
 
 use super::case::Case;
-use super::describe;
+use super::read;
 use crate::random::Random;
 use writer::Writer;
 
@@ -52,18 +53,23 @@ pub fn valid(random: &mut Random) -> Vec<u8> {
 
 /// Room for the outputs, around what is needed.
 fn choose_rooms(random: &mut Random, case: &mut Case) {
-    let needed = describe(&case.text, &mut [0; 320], &mut [0; 64]);
-    let [rows, places] = needed.unwrap_or_else(|_| [random.below(9), random.below(3)]);
-    case.rows_room = room(random, rows);
-    case.places_room = room(random, places);
+    let needed = match read(&case.text) {
+        Ok(described) => described.counts(),
+        Err(_) => [9, 3, 19, 2, 6, 4].map(|most| random.below(most)),
+    };
+    let all = random.chance(500);
+    case.rooms = needed.map(|needed| match all {
+        true => needed as usize,
+        false => room(random, needed),
+    });
 }
 
 fn room(random: &mut Random, needed: u32) -> usize {
     let room = match random.below(100) {
-        0..=59 => needed,
-        60..=69 => needed.saturating_sub(1),
-        70..=92 => needed + random.between(1, 6),
-        93..=96 => random.below(needed + 1),
+        0..=64 => needed,
+        65..=71 => needed.saturating_sub(1),
+        72..=95 => needed + random.between(1, 6),
+        96..=98 => random.below(needed + 1),
         _ => 0,
     };
     room as usize

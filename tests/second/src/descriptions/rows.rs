@@ -14,7 +14,7 @@ pub struct Row {
     digits: Big,
 }
 
-/// One row for each entry, in their order. "Levels 01 and 77 start at the next
+/// One row for each item's entry, in their order; no other entry is given. "Levels 01 and 77 start at the next
 /// free offset", and so does everything inside them.
 pub fn rows(text: &[u8], entries: &[Entry]) -> Vec<Row> {
     let mut free = Big::default();
@@ -31,6 +31,7 @@ pub fn rows(text: &[u8], entries: &[Entry]) -> Vec<Row> {
             Form::Elementary { kind, picture } => {
                 elementary(*kind, &text[picture.clone()], free.clone())
             }
+            Form::Condition { .. } => continue,
         };
         free = free.plus(&row.size);
         rows.push(row);
@@ -80,11 +81,8 @@ fn elementary_members(entries: &[Entry], group: usize) -> Vec<usize> {
         .collect()
 }
 
-/// The first "whose row passes an upper limit of 01 [...], or is its table's
-/// 65th".
-pub fn first_beyond_limits(rows: &[Row]) -> Option<usize> {
-    (0..rows.len()).find(|&place| place >= 64 || rows[place].is_beyond_limits())
-}
+/// A table's rows; one that is the 65th passes a limit.
+pub const MOST_ROWS: usize = 64;
 
 impl Row {
     /// Described with S: "kind 7, a group with no signed item at any depth [...].
@@ -98,7 +96,7 @@ impl Row {
     /// count is "1 to 18 for numeric kinds" (02, f), which bounds their sizes:
     /// 19 packed digits lie in as many bytes as 18. A scale is never above its
     /// digits.
-    fn is_beyond_limits(&self) -> bool {
+    pub fn is_beyond_limits(&self) -> bool {
         let largest = match self.kind {
             1 | 2 => 256,
             _ => 65_535,

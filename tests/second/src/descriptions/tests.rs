@@ -1,25 +1,13 @@
 //! The places of the reading of document 02, and rows, limits and rooms.
 
 mod beginnings;
+mod conditions;
 
 use super::*;
 
+/// Rows and places of a text, whose other outputs are not asked for.
 fn read(text: &[u8]) -> Result<(Vec<u32>, Vec<u32>), Refusal> {
-    let (mut rows, mut places) = ([7; 325], [7; 65]);
-    match describe(text, &mut rows, &mut places) {
-        Ok([numbers, names]) => {
-            let (numbers, names) = (numbers as usize, names as usize);
-            assert!(rows[numbers..]
-                .iter()
-                .chain(&places[names..])
-                .all(|&n| n == 7));
-            Ok((rows[..numbers].to_vec(), places[..names].to_vec()))
-        }
-        Err(refusal) => {
-            assert!(rows.iter().chain(&places).all(|&number| number == 7));
-            Err(refusal)
-        }
-    }
+    super::read(text).map(|described| (described.rows, described.places))
 }
 
 fn check(text: &str, rows: &[u32], places: &[u32]) {
@@ -347,19 +335,42 @@ fn bytes_4095_and_4096() {
 
 #[test]
 fn rooms() {
-    let text = b"01 A. 02 B PIC X.";
-    let mut output = [7; 14];
-    let (rows, places) = output.split_at_mut(10);
-    let short = |needed| Err(Refusal::at(10, needed));
-    assert_eq!(describe(text, &mut rows[..9], places), short(10));
-    assert_eq!(describe(text, &mut rows[..0], &mut places[..0]), short(10));
-    assert_eq!(describe(text, rows, &mut places[..1]), short(2));
-    assert_eq!(
-        describe(&text[..16], rows, &mut []),
-        Err(Refusal::at(14, 16))
-    );
-    assert_eq!(output, [7; 14]);
-    let (rows, places) = output.split_at_mut(10);
-    assert_eq!(describe(text, rows, &mut places[..2]), Ok([10, 2]));
-    assert_eq!(output, [7, 0, 1, 0, 0, 2, 0, 1, 0, 0, 3, 9, 7, 7]);
+    const NEEDED: [usize; 6] = [10, 2, 18, 1, 10, 3];
+    let text = b"01 A. 02 B PIC X. 88 C VALUE \"D\" THRU \"FF\".";
+    let call = |text: &[u8], rooms: [usize; 6]| {
+        let mut numbers = [rooms[0], rooms[1], rooms[2], rooms[3], rooms[4]].map(|n| vec![7; n]);
+        let mut bytes = vec![7; rooms[5]];
+        let outputs = Outputs {
+            numbers: numbers.each_mut().map(Vec::as_mut_slice),
+            bytes: &mut bytes,
+        };
+        let result = describe(text, outputs);
+        (result, numbers.concat(), bytes)
+    };
+    for output in 0..6 {
+        // This one and all behind it too short: the first such is named.
+        let mut rooms = NEEDED.map(|needed| needed + 1);
+        for short in output..6 {
+            rooms[short] = if short == output {
+                NEEDED[short] - 1
+            } else {
+                0
+            };
+        }
+        let (result, numbers, bytes) = call(text, rooms);
+        assert_eq!(result, Err(Refusal::at(10, NEEDED[output] as u32)));
+        assert!(numbers.iter().all(|&n| n == 7) && bytes.iter().all(|&n| n == 7));
+    }
+    let last = text.len() - 1;
+    let (result, ..) = call(&text[..last], [0; 6]);
+    assert_eq!(result, Err(Refusal::at(14, last as u32)));
+    let (result, numbers, bytes) = call(text, NEEDED.map(|needed| needed + 1));
+    assert_eq!(result, Ok([10, 2, 18, 1, 10, 3]));
+    let written = [
+        &[7, 0, 1, 0, 0, 2, 0, 1, 0, 0, 7, 3, 9, 7, 1, 1, 0, 1][..],
+        &[0; 14],
+        &[7, 21, 7, 2, 0, 1, 0, 0, 2, 1, 2, 0, 0, 7],
+    ];
+    assert_eq!(numbers, written.concat());
+    assert_eq!(bytes, b"DFF\x07");
 }

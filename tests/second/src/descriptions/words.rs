@@ -1,4 +1,5 @@
-//! "Words parted by spaces or line feeds", and what a word may be.
+//! "Words parted by spaces or line feeds", and what a word may be. A word that
+//! begins with a quote is parted only outside quotes (02, h: "literals of e)").
 
 use std::ops::Range;
 
@@ -38,8 +39,7 @@ impl<'a> Iterator for Words<'a> {
         let rest = &self.text[self.at..];
         let start = self.at + rest.iter().position(|&byte| !is_blank(byte))?;
         let rest = &self.text[start..];
-        let length = rest.iter().position(|&byte| is_blank(byte));
-        let whole = &rest[..length.unwrap_or(rest.len())];
+        let whole = &rest[..length(rest)];
         self.at = start + whole.len();
         let (text, last) = match whole {
             [text @ .., b'.'] => (text, true),
@@ -49,10 +49,24 @@ impl<'a> Iterator for Words<'a> {
     }
 }
 
+/// Up to the first blank; of a word that begins with a quote, to the first with an
+/// even number of quotes before it.
+fn length(rest: &[u8]) -> usize {
+    let quoted = rest.starts_with(b"\"");
+    let mut outside = true;
+    let ends = |&byte: &u8| {
+        outside ^= quoted && byte == b'"';
+        outside && is_blank(byte)
+    };
+    rest.iter().position(ends).unwrap_or(rest.len())
+}
+
 /// "No keyword (any here, 01's words, IS, THAN, TO, UPSI-0 to UPSI-7)"; "COMP-3,
-/// a keyword now" (02, f).
-const KEYWORDS: [&str; 31] = [
+/// a keyword now" (02, f); "VALUE and THRU are keywords" (02, h).
+pub const KEYWORDS: [&str; 33] = [
     "COMP-3",
+    "VALUE",
+    "THRU",
     "FILLER",
     "PIC",
     "SIGN",
@@ -101,12 +115,13 @@ pub fn is_name(word: &[u8]) -> bool {
         && !is_keyword(word)
 }
 
-/// "A two-digit level, 01 or 77 [...] outside groups, 02 to 49 within".
+/// "A two-digit level, 01 or 77 [...] outside groups, 02 to 49 within"; "level 88
+/// entries" (02, h).
 pub fn level(word: &[u8]) -> Option<u32> {
     match *word {
         [tens @ b'0'..=b'9', ones @ b'0'..=b'9'] => {
             let level = u32::from(tens - b'0') * 10 + u32::from(ones - b'0');
-            matches!(level, 1..=49 | 77).then_some(level)
+            matches!(level, 1..=49 | 77 | 88).then_some(level)
         }
         _ => None,
     }

@@ -8,6 +8,7 @@ mod writer;
 use super::case::Case;
 use super::names::Names;
 use super::{condition, print};
+use crate::case::Case as Tables;
 use crate::descriptions;
 use crate::generate::over_tables;
 use crate::random::Random;
@@ -17,13 +18,7 @@ pub fn case(seed: u64, index: u64) -> Case {
     let mut random = Random::new(seed ^ 0x5BE1_1000, index);
     let description = description(&mut random);
     let text = text(&mut random, &description);
-    let printed = over_tables(
-        &mut random,
-        crate::case::Case {
-            items: items(&description),
-            ..Default::default()
-        },
-    );
+    let printed = over_tables(&mut random, tables(&description));
     let mut case = Case {
         description,
         text,
@@ -48,14 +43,24 @@ fn description(random: &mut Random) -> Vec<u8> {
             return text;
         }
     }
-    b"01 A. 02 B PIC 9(4). 02 C PIC X(3). 02 D PIC S9V9 COMP-3. 77 E PIC A.".to_vec()
+    b"01 A. 02 B PIC 9(4). 88 F VALUE 1 THRU 9. 02 C PIC X(3). 02 D PIC S9V9 COMP-3. 77 E PIC A."
+        .to_vec()
 }
 
-/// The rows of a description, or some where it is faulty.
-fn items(description: &[u8]) -> Vec<u32> {
+/// The tables of a description, or some where it is faulty.
+fn tables(description: &[u8]) -> Tables {
     match descriptions::read(description) {
-        Ok(described) => described.rows,
-        Err(_) => vec![3, 0, 1, 0, 1],
+        Ok(described) => Tables {
+            items: described.rows,
+            names: described.names,
+            literals: described.literals.rows,
+            bytes: described.literals.bytes,
+            ..Tables::default()
+        },
+        Err(_) => Tables {
+            items: vec![3, 0, 1, 0, 1],
+            ..Tables::default()
+        },
     }
 }
 
@@ -80,14 +85,17 @@ fn only_named(random: &mut Random, case: &mut Case) {
         return;
     };
     let names = Names::of(&case.description, &described);
-    let rows = described.places.len() as u32;
-    let named: Vec<u32> = (0..rows).filter(|&row| names.name(row).is_some()).collect();
+    let (items, conditions) = (described.places.len(), described.name_places.len());
+    let named = names.tokens();
     if random.chance(250) || named.is_empty() {
         return;
     }
     for token in &mut case.tokens {
+        let v = (*token & 0xFFFF) as usize;
+        let own = names.name(*token).is_some();
         match *token >> 16 {
-            0 if names.name(*token).is_none() && *token < rows => *token = random.pick(&named),
+            0 if !own && v < items => *token = random.pick(&named),
+            5 if !own && v < conditions => *token = random.pick(&named),
             3 if random.chance(900) => *token -= 65_536,
             _ => {}
         }

@@ -1,7 +1,9 @@
 //! Words that belong together: which of them give a token, which only stand
 //! beside one, and which stand where they may not.
 
+use super::names::Names;
 use super::words::{sort, words, Sort, Word};
+use crate::rules::tokens::{kind_of, WORD};
 
 /// What a word says, in its place.
 pub struct Said<'a> {
@@ -21,21 +23,28 @@ pub enum Joined {
 
 /// A token is kind × 65,536 + v.
 const SWITCH_ON: u32 = 2 * 65_536;
-const WORD: u32 = 4 * 65_536;
 
 const OR: Sort = Sort::Word(4);
 const EQUAL: Sort = Sort::Word(7);
 
 /// The words of a text that give a token or are faulty, in turn.
-pub fn joined<'a>(text: &'a [u8]) -> Vec<Said<'a>> {
+pub fn joined<'a>(names: &Names, text: &'a [u8]) -> Vec<Said<'a>> {
     let words = words(text);
-    let sorts: Vec<Sort> = words.iter().map(|word| sort(word.text)).collect();
+    let sorts: Vec<Sort> = words.iter().map(|word| among(names, word.text)).collect();
     let said = |(place, word): (usize, Word<'a>)| {
         let means = means(&sorts, place)?;
         let Word { text, start } = word;
         Some(Said { text, start, means })
     };
     words.iter().copied().enumerate().filter_map(said).collect()
+}
+
+/// A name of a condition is no operand.
+fn among(names: &Names, word: &[u8]) -> Sort {
+    match (sort(word), names.token(word)) {
+        (Sort::Name, Some(token)) if kind_of(token) == 5 => Sort::Condition,
+        (sort, _) => sort,
+    }
 }
 
 /// None for a word that says nothing by itself. "IS may follow an operand, THAN
@@ -55,7 +64,7 @@ fn means(sorts: &[Sort], place: usize) -> Option<Joined> {
         }
         Sort::Word(word) | Sort::Symbol(word) => Some(Joined::Token(WORD + word)),
         Sort::Switch(number) => Some(Joined::Token(SWITCH_ON + number)),
-        Sort::Name => Some(Joined::Name),
+        Sort::Name | Sort::Condition => Some(Joined::Name),
         Sort::Literal => Some(Joined::Literal),
         Sort::Other => Some(Joined::Faulty),
     }

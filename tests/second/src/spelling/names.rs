@@ -1,29 +1,29 @@
-//! "Names come from text of a)".
+//! "Names come from text of a)"; "e) learns such names" of conditions (02, h).
 
 use crate::descriptions::Described;
+use crate::rules::tokens::NAME;
 
-/// The name of each row, or FILLER.
+/// The name of each item's row, or FILLER, and of each condition's row, with the
+/// token that it gives.
 pub struct Names<'a> {
-    rows: Vec<&'a [u8]>,
-    pub items: Vec<u32>,
+    rows: Vec<(u32, &'a [u8])>,
 }
 
 impl<'a> Names<'a> {
     pub fn of(description: &'a [u8], described: &Described) -> Names<'a> {
         let word = |&place: &u32| word_at(description, place as usize);
-        Names {
-            rows: described.places.iter().map(word).collect(),
-            items: described.rows.clone(),
-        }
+        let items = (0..).zip(described.places.iter().map(word));
+        let conditions = (NAME..).zip(described.name_places.iter().map(word));
+        let rows = items.chain(conditions).collect();
+        Names { rows }
     }
 
-    /// The token of the item that a name names; None for "an unknown or doubled
-    /// name".
+    /// The token of the item or condition that a name names; None for "an unknown or
+    /// doubled name". Names of items and of conditions are one set.
     pub fn token(&self, name: &[u8]) -> Option<u32> {
-        let rows = self.rows.iter().enumerate();
-        let mut named = rows.filter(|(_, &row)| row == name);
+        let mut named = self.rows.iter().filter(|(_, row)| *row == name);
         match (named.next(), named.next()) {
-            (Some((row, _)), None) => Some(row as u32),
+            (Some(&(token, _)), None) => Some(token),
             _ => None,
         }
     }
@@ -31,8 +31,14 @@ impl<'a> Names<'a> {
     /// The name that is read as a row's token again: none for FILLER, which is no
     /// name, or a doubled one.
     pub fn name(&self, token: u32) -> Option<&'a [u8]> {
-        let name = *self.rows.get(token as usize)?;
+        let &(_, name) = self.rows.iter().find(|(row, _)| *row == token)?;
         (name != b"FILLER" && self.token(name) == Some(token)).then_some(name)
+    }
+
+    /// The tokens that have a name of their own.
+    pub fn tokens(&self) -> Vec<u32> {
+        let tokens = self.rows.iter().map(|&(token, _)| token);
+        tokens.filter(|&token| self.name(token).is_some()).collect()
     }
 }
 

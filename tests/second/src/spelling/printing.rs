@@ -8,26 +8,12 @@ use crate::show::WORDS;
 
 /// The text, or refusals 3 to 6 and 16: "6 for an off switch, 16 for FILLER or a
 /// doubled name at its token".
-pub fn text(
-    names: &Names,
-    literals: &[u32],
-    bytes: &[u8],
-    tokens: &[u32],
-) -> Result<Vec<u8>, Refusal> {
-    let tables = Tables {
-        items: &names.items,
-        literals,
-        bytes,
-        names: &[],
-        edition: Default::default(),
-    };
-    check_literals(&tables)?;
-    check_each_token(tokens, |token| {
-        exists(&tables, token) && kind_of(token) != 3
-    })?;
+pub fn text(names: &Names, tables: &Tables, tokens: &[u32]) -> Result<Vec<u8>, Refusal> {
+    check_literals(tables)?;
+    check_each_token(tokens, |token| exists(tables, token) && kind_of(token) != 3)?;
     let mut words = Vec::new();
     for (place, &token) in tokens.iter().enumerate() {
-        match word(names, &tables, token) {
+        match word(names, tables, token) {
             Some(word) => words.push(word),
             None => return Err(Refusal::at(16, place as u32)),
         }
@@ -39,7 +25,7 @@ pub fn text(
 fn word(names: &Names, tables: &Tables, token: u32) -> Option<Vec<u8>> {
     let v = token & 0xFFFF;
     match kind_of(token) {
-        0 => names.name(token).map(<[u8]>::to_vec),
+        0 | 5 => names.name(token).map(<[u8]>::to_vec),
         1 => Some(literal(tables, v as usize)),
         2 => Some(format!("UPSI-{v}").into_bytes()),
         _ => Some(WORDS[v as usize].as_bytes().to_vec()),

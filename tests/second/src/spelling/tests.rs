@@ -1,6 +1,7 @@
 //! The reading of document 02, e), examples of documents 000 and 003, and what
 //! random texts hold.
 
+mod conditions;
 mod random;
 
 use super::*;
@@ -143,6 +144,8 @@ fn words_of_no_sort() {
         "FILLER",
         "PIC",
         "COMP-3",
+        "VALUE",
+        "THRU",
         "SEPARATE",
         "\"A",
         "\"",
@@ -165,8 +168,6 @@ fn words_of_no_sort() {
     }
     for name in [
         "UPSI-8",
-        "VALUE",
-        "THRU",
         "Z",
         "N23456789012345678901234567890",
         "5A",

@@ -1,6 +1,7 @@
 //! "A word runs to the next space, line feed, bracket or symbol outside quotes."
 
 use crate::descriptions::words::{is_blank, is_name};
+use crate::literals::is_literal;
 
 /// A word with its place.
 #[derive(Clone, Copy, Debug)]
@@ -60,6 +61,8 @@ pub enum Sort {
     To,
     Switch(u32),
     Name,
+    /// A name that the description gives to a condition (02, h).
+    Condition,
     /// A numeric or nonnumeric literal, its limits aside.
     Literal,
     Other,
@@ -95,33 +98,8 @@ pub fn sort(word: &[u8]) -> Sort {
         [b'U', b'P', b'S', b'I', b'-', number @ b'0'..=b'7'] => {
             Sort::Switch(u32::from(number - b'0'))
         }
-        [b'"', ..] if is_quoted(word) => Sort::Literal,
-        _ if is_numeric(word) => Sort::Literal,
+        _ if is_literal(word) => Sort::Literal,
         _ if is_name(word) => Sort::Name,
         _ => Sort::Other,
     }
-}
-
-/// "Nonnumeric ones stand in \", any bytes, a \" inside doubled": parted at its
-/// quotes, every second part is what stands between two that double each other.
-fn is_quoted(word: &[u8]) -> bool {
-    let [b'"', inside @ .., b'"'] = word else {
-        return false;
-    };
-    let parts: Vec<&[u8]> = inside.split(|&byte| byte == b'"').collect();
-    let mut between = parts.iter().skip(1).step_by(2);
-    parts.len() % 2 == 1 && between.all(|part| part.is_empty())
-}
-
-/// "Numeric literals may be signed and hold one point, not last".
-fn is_numeric(word: &[u8]) -> bool {
-    let unsigned = match word {
-        [b'+' | b'-', rest @ ..] => rest,
-        _ => word,
-    };
-    let points = unsigned.iter().filter(|&&byte| byte == b'.').count();
-    let digits = unsigned.iter().filter(|byte| byte.is_ascii_digit()).count();
-    points <= 1
-        && points + digits == unsigned.len()
-        && unsigned.last().is_some_and(u8::is_ascii_digit)
 }

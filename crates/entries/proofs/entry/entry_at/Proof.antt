@@ -30,6 +30,7 @@ named-at-requires c κs = (
   level-inside (groupsOf (now (c .before .before .before .before .before .before .before .before .before .before .args .stack))
       (c .before .before .before .before .before .before .before .before .before .before .args .depth)
       (c .before .before .before .before .before .before .before .before .before .before .args .waiting))
+      (c .before .before .before .before .before .before .before .before .before .before .args .named)
       (now (c .before .before .before .before .before .before .before .before .before .before .args .text))
       (c .before .before .before .before .before .before .before .before .before .before .args .p) _
       (sym (c .before .before .before .before .before .before .before .level-at .ensures)
@@ -39,6 +40,9 @@ named-at-requires c κs = (
 
 enum-told : tie.Need-enum-told
 enum-told c = search needs
+
+enum-told-2 : tie.Need-enum-told-2
+enum-told-2 c = search needs
 
 enum-known-k : tie.Need-enum-known-k
 enum-known-k c = search needs
@@ -70,6 +74,11 @@ returns-2 c = via (λ x. capEntry
 
 returns-3 : tie.Need-returns-3
 returns-3 c = via (λ x. capEntry
+    (leveledAt (now (c .before .before .before .before .before .args .stack)) (c .before .before .before .before .before .args .depth) (c .before .before .before .before .before .args .waiting) (now (c .before .before .before .before .before .args .text)) (c .before .before .before .before .before .args .p) x))
+    (c .before .before .level-at .ensures) (c .enum-told2 .given .1) refl
+
+returns-4 : tie.Need-returns-4
+returns-4 c = via (λ x. capEntry
     (leveledAt (now (c .before .before .before .before .before .before .args .stack)) (c .before .before .before .before .before .before .args .depth)
     (c .before .before .before .before .before .before .args .waiting) (now (c .before .before .before .before .before .before .args .text))
     (c .before .before .before .before .before .before .args .p) x)) (c .before .before .before .level-at .ensures) (c .before .k .given .1) refl
@@ -84,7 +93,9 @@ entry-at-spec =
     enum-known-d
     named-at-requires
     enum-told
+    enum-told-2
     enum-known-k
     returns
     returns-2
-    returns-3)
+    returns-3
+    returns-4)

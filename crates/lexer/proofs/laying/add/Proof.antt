@@ -14,13 +14,15 @@ enum-known-met : tie.Need-enum-known-met
 enum-known-met c = search needs
 
 add-token-requires : tie.Need-add-token-requires
-add-token-requires c κs = omega (arith, c .before .before .before .before .before .before .before .before .before .before .pre .0 .gathers .few-tokens, c .before .before .before .before .before .before .before .before .before .before .pre .0 .soon, c .before .before .before .before .before .before .before .before .before .before .pre .0 .rooms .tokens-room)
+add-token-requires c κs = omega
+    (arith, c .before .before .before .before .before .before .before .before .before .before .pre .0 .bounds .few-tokens, c .before .before .before .before .before .before .before .before .before .before .pre .0 .soon, c .before .before .before .before .before .before .before .before .before .before .pre .0 .rooms .tokens-room)
 
 enum-known-met-2 : tie.Need-enum-known-met-2
 enum-known-met-2 c = search needs
 
 returns : tie.Need-returns
-returns c = full-step (c .before .before .before .before .before .before .before .before .before .before .before .pre .0) (c .before .before .before .before .before .before .before .before .before .before .before .pre .1) (c .before .before .before .met2 .given .1) (c .if1 .taken)
+returns c = full-step (c .before .before .before .before .before .before .before .before .before .before .before .pre .0)
+    (c .before .before .before .before .before .before .before .before .before .before .before .pre .1) (c .before .before .before .met2 .given .1) (c .if1 .taken)
 
 sub-add-literal : tie.Need-sub-add-literal
 sub-add-literal c = omega (arith, c .before .before .before .before .before .before .before .before .before .before .before .pre .1 .some)
@@ -29,10 +31,13 @@ part-add-literal-start : tie.Need-part-add-literal-start
 part-add-literal-start c = omega (arith, c .before .before .before .before .before .before .before .before .before .before .before .pre .1 .some)
 
 part-add-literal-end : tie.Need-part-add-literal-end
-part-add-literal-end c = omega (arith, c .before .before .before .before .before .before .before .before .before .before .before .pre .1 .inside, c .before .before .before .before .before .before .before .before .before .before .before .pre .1 .within)
+part-add-literal-end c = omega
+    (arith, c .before .before .before .before .before .before .before .before .before .before .before .pre .1 .inside, c .before .before .before .before .before .before .before .before .before .before .before .pre .1 .within)
 
 add-literal-requires : tie.Need-add-literal-requires
-add-literal-requires c κs = literal-room (c .before .before .before .before .before .before .before .before .before .before .before .before .before .before .before .pre .0) (c .before .before .before .before .before .before .before .before .before .before .before .before .before .before .before .pre .1) (c .before .before .before .before .before .before .before .met2 .given .1) (c .before .before .before .before .if1 .left)
+add-literal-requires c κs = literal-room (c .before .before .before .before .before .before .before .before .before .before .before .before .before .before .before .pre .0)
+    (c .before .before .before .before .before .before .before .before .before .before .before .before .before .before .before .pre .1)
+    (c .before .before .before .before .before .before .before .met2 .given .1) (c .before .before .before .before .if1 .left)
 
 enum-known-met-3 : tie.Need-enum-known-met-3
 enum-known-met-3 c = search needs
@@ -41,7 +46,9 @@ same-length : tie.Need-same-length
 same-length c = search needs
 
 returns-2 : tie.Need-returns-2
-returns-2 c = token-step (c .before .before .before .before .before .before .before .before .before .before .before .before .before .pre .0) (c .before .before .before .before .before .before .before .before .before .before .before .before .before .pre .1) (c .before .before .before .before .before .met .given .1) (c .before .before .add-token .ensures .0) (c .before .before .add-token .ensures .1)
+returns-2 c = token-step (c .before .before .before .before .before .before .before .before .before .before .before .before .before .pre .0)
+    (c .before .before .before .before .before .before .before .before .before .before .before .before .before .pre .1) (c .before .before .before .before .before .met .given .1)
+    (c .before .before .add-token .ensures .0) (c .before .before .add-token .ensures .1)
 
 same-length-2 : tie.Need-same-length-2
 same-length-2 c = search needs
@@ -53,10 +60,15 @@ same-length-4 : tie.Need-same-length-4
 same-length-4 c = search needs
 
 returns-3 : tie.Need-returns-3
-returns-3 c = literal-step (c .before .before .before .before .before .before .before .before .before .before .before .before .before .before .before .before .before .before .before .before .before .before .pre .0) (c .before .before .before .before .before .before .before .before .before .before .before .before .before .before .before .before .before .before .before .before .before .before .pre .1) (c .before .before .before .before .before .before .before .before .before .before .before .before .before .before .met2 .given .1) (c .before .before .before .before .before .before .before .before .before .before .before .if1 .left) (c .before .before .before .before .before .before .add-literal .ensures)
+returns-3 c = literal-step
+    (c .before .before .before .before .before .before .before .before .before .before .before .before .before .before .before .before .before .before .before .before .before .before .pre .0)
+    (c .before .before .before .before .before .before .before .before .before .before .before .before .before .before .before .before .before .before .before .before .before .before .pre .1)
+    (c .before .before .before .before .before .before .before .before .before .before .before .before .before .before .met2 .given .1)
+    (c .before .before .before .before .before .before .before .before .before .before .before .if1 .left) (c .before .before .before .before .before .before .add-literal .ensures)
 
 returns-4 : tie.Need-returns-4
-returns-4 c = fault-step (c .before .before .before .before .before .before .before .before .before .pre .0) (c .before .before .before .before .before .before .before .before .before .pre .1) (c .before .met3 .given .1)
+returns-4 c = fault-step (c .before .before .before .before .before .before .before .before .before .pre .0)
+    (c .before .before .before .before .before .before .before .before .before .pre .1) (c .before .met3 .given .1)
 
 pub add-spec : {M : Type 1} → statement M
 add-spec =

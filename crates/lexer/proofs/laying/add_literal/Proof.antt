@@ -38,7 +38,13 @@ part-copy-literal-end : tie.Need-part-copy-literal-end
 part-copy-literal-end c = search needs
 
 copy-literal-requires : tie.Need-copy-literal-requires
-copy-literal-requires c κs = (c .before .before .before .before .before .before .before .before .before .pre .quoted, rw (rest-length (c .before .before .before .before .before .before .before .before .before .args .held .bytes) (now (c .before .before .before .before .before .before .before .before .before .args .bytes))) (omega (arith, c .before .before .before .before .before .before .before .before .before .pre .size, c .before .before .before .before .before .before .before .before .before .pre .room)))
+copy-literal-requires c κs = (
+  c .before .before .before .before .before .before .before .before .before .pre .quoted,
+  rw (rest-length
+      (c .before .before .before .before .before .before .before .before .before .args .held .bytes) (now
+      (c .before .before .before .before .before .before .before .before .before .args .bytes))) (omega
+      (arith, c .before .before .before .before .before .before .before .before .before .pre .size, c .before .before .before .before .before .before .before .before .before .pre .room)),
+)
 
 add-t13 : tie.Need-add-t13
 add-t13 c = search needs
@@ -63,12 +69,19 @@ same-length-3 c = search needs
 
 returns : tie.Need-returns
 returns c = record {
-  counts = ap (λ n. withLiteral (c .before .before .before .before .before .before .before .before .before .before .before .before .before .args .held) n (c .before .before .before .before .before .before .before .before .before .before .before .before .before .args .past)) (c .wide .ensures);
+  counts = ap (λ n. withLiteral (c .before .before .before .before .before .before .before .before .before .before .before .before .before .args .held) n
+      (c .before .before .before .before .before .before .before .before .before .before .before .before .before .args .past)) (c .wide .ensures);
   token-laid = refl;
   row-laid = c .before .before .before .before .before .before .before .lay-row .ensures;
   bytes-laid =
-      bytes-over (c .before .before .before .before .before .before .before .before .before .before .before .before .before .args .held .bytes) (literalBy (c .before .before .before .before .before .before .before .before .before .before .before .before .before .args .row .kind) (now (c .before .before .before .before .before .before .before .before .before .before .before .before .before .args .word)) .bytes) (now (c .before .before .before .before .before .before .before .before .before .before .before .before .before .args .bytes)) (c .before .before .before .copy-literal .last .1 .1 .0)
-      (omega (arith, c .before .before .before .before .before .before .before .before .before .before .before .before .before .pre .size, c .before .before .before .before .before .before .before .before .before .before .before .before .before .pre .room)) (c .before .before .before .copy-literal .ensures);
+      bytes-over (c .before .before .before .before .before .before .before .before .before .before .before .before .before .args .held .bytes) (literalBy
+      (c .before .before .before .before .before .before .before .before .before .before .before .before .before .args .row .kind) (now
+      (c .before .before .before .before .before .before .before .before .before .before .before .before .before .args .word)) .bytes) (now
+      (c .before .before .before .before .before .before .before .before .before .before .before .before .before .args .bytes))
+      (c .before .before .before .copy-literal .last .1 .1 .0)
+      (omega
+      (arith, c .before .before .before .before .before .before .before .before .before .before .before .before .before .pre .size, c .before .before .before .before .before .before .before .before .before .before .before .before .before .pre .room))
+      (c .before .before .before .copy-literal .ensures);
 }
 
 pub add-literal-spec : {M : Type 1} → statement M

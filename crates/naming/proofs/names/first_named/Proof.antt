@@ -37,8 +37,17 @@ same-name-requires : tie.Need-same-name-requires Inv-loop μ-loop
 same-name-requires c κs = c .before .before .before .before .before .before .before .pre .0
 
 returns : tie.Need-returns Inv-loop μ-loop
-returns c = let here = found-here (now (c .before .before .before .before .before .before .before .before .before .args .description)) (now (c .before .before .before .before .before .before .before .before .before .args .places)) (now (c .before .before .before .before .before .before .before .before .before .args .word)) (c .before .before .before .before .before .loop .k) (c .before .before .before .before .loop-test .taken) in
-    omega (arith, c .before .before .before .before .before .loop .inv .1, here (sym (ap (λ v. same (now (c .before .before .before .before .before .before .before .before .before .args .word)) (leading v)) (c .before .before .rest-from .ensures)) ∙ sym (c .before .same-name .ensures) ∙ c .if1 .taken))
+returns c = let here = found-here (now (c .before .before .before .before .before .before .before .before .before .args .description)) (now
+    (c .before .before .before .before .before .before .before .before .before .args .places)) (now
+    (c .before .before .before .before .before .before .before .before .before .args .word)) (c .before .before .before .before .before .loop .k)
+    (c .before .before .before .before .loop-test .taken) in
+    omega (
+      arith,
+      c .before .before .before .before .before .loop .inv .1,
+      here (sym (ap (λ v. same (now
+          (c .before .before .before .before .before .before .before .before .before .args .word)) (leading v)) (c .before .before .rest-from .ensures)) ∙ sym
+          (c .before .same-name .ensures) ∙ c .if1 .taken),
+    )
 
 add-k : tie.Need-add-k Inv-loop μ-loop
 add-k c = search needs
@@ -47,11 +56,27 @@ loop-less : tie.Need-loop-less Inv-loop μ-loop
 loop-less c = search needs
 
 loop-again : tie.Need-loop-again Inv-loop μ-loop
-loop-again c = let later = found-later (now (c .before .before .before .before .before .before .before .before .before .args .description)) (now (c .before .before .before .before .before .before .before .before .before .args .places)) (now (c .before .before .before .before .before .before .before .before .before .args .word)) (c .before .before .before .before .before .loop .k) (c .before .before .before .before .loop-test .taken) in
-    (omega arith, omega (arith, c .before .before .before .before .before .loop .inv .1, later (sym (ap (λ v. same (now (c .before .before .before .before .before .before .before .before .before .args .word)) (leading v)) (c .before .before .rest-from .ensures)) ∙ sym (c .before .same-name .ensures) ∙ c .if1 .left)))
+loop-again c = let later = found-later (now (c .before .before .before .before .before .before .before .before .before .args .description)) (now
+    (c .before .before .before .before .before .before .before .before .before .args .places)) (now
+    (c .before .before .before .before .before .before .before .before .before .args .word)) (c .before .before .before .before .before .loop .k)
+    (c .before .before .before .before .loop-test .taken) in (
+      omega arith,
+      omega (
+        arith,
+        c .before .before .before .before .before .loop .inv .1,
+        later (sym (ap (λ v. same (now
+            (c .before .before .before .before .before .before .before .before .before .args .word)) (leading v)) (c .before .before .rest-from .ensures)) ∙ sym
+            (c .before .same-name .ensures) ∙ c .if1 .left),
+      ),
+    )
 
 returns-2 : tie.Need-returns-2 Inv-loop μ-loop
-returns-2 c = omega (arith, c .before .loop .inv .1, none-left (now (c .before .before .before .before .before .args .description)) (now (c .before .before .before .before .before .args .places)) (now (c .before .before .before .before .before .args .word)) (c .before .loop .k) (c .loop-test .left))
+returns-2 c = omega (
+  arith,
+  c .before .loop .inv .1,
+  none-left (now (c .before .before .before .before .before .args .description)) (now
+      (c .before .before .before .before .before .args .places)) (now (c .before .before .before .before .before .args .word)) (c .before .loop .k) (c .loop-test .left),
+)
 
 pub first-named-spec : {M : Type 1} → statement M
 first-named-spec =

@@ -29,7 +29,12 @@ is-name-byte-requires : tie.Need-is-name-byte-requires Inv-loop μ-loop
 is-name-byte-requires c κs = search needs
 
 returns : tie.Need-returns Inv-loop μ-loop
-returns c = omega (arith, c .before .before .before .before .loop .inv .1, ap length (leading-stopped (now (c .before .before .before .before .before .before .args .rest)) (c .before .before .before .before .loop .k) (c .before .before .before .loop-test .taken) (sym (c .before .is-name-byte .ensures) ∙ not-true _ (c .if1 .taken))))
+returns c = omega (
+  arith,
+  c .before .before .before .before .loop .inv .1,
+  ap length (leading-stopped (now (c .before .before .before .before .before .before .args .rest))
+      (c .before .before .before .before .loop .k) (c .before .before .before .loop-test .taken) (sym (c .before .is-name-byte .ensures) ∙ not-true _ (c .if1 .taken))),
+)
 
 add-k : tie.Need-add-k Inv-loop μ-loop
 add-k c = search needs
@@ -38,7 +43,16 @@ loop-less : tie.Need-loop-less Inv-loop μ-loop
 loop-less c = search needs
 
 loop-again : tie.Need-loop-again Inv-loop μ-loop
-loop-again c = (omega arith, rw add-one (omega (arith, c .before .before .before .before .loop .inv .1, ap length (leading-on (now (c .before .before .before .before .before .before .args .rest)) (c .before .before .before .before .loop .k) (c .before .before .before .loop-test .taken) (sym (c .before .is-name-byte .ensures) ∙ not-false _ (c .if1 .left))))))
+loop-again c = (
+  omega arith,
+  rw add-one (omega (
+    arith,
+    c .before .before .before .before .loop .inv .1,
+    ap length (leading-on (now
+        (c .before .before .before .before .before .before .args .rest)) (c .before .before .before .before .loop .k) (c .before .before .before .loop-test .taken) (sym
+        (c .before .is-name-byte .ensures) ∙ not-false _ (c .if1 .left))),
+  )),
+)
 
 returns-2 : tie.Need-returns-2 Inv-loop μ-loop
 returns-2 c = omega (arith, c .before .loop .inv .1, ap length (leading-ended (now (c .before .before .before .args .rest)) (c .before .loop .k) (c .loop-test .left)))

@@ -22,7 +22,8 @@ name-length-requires : tie.Need-name-length-requires
 name-length-requires c κs = search needs
 
 slice-aggregate-result : tie.Need-slice-aggregate-result
-slice-aggregate-result c = sym (length-take-le (c .before .name-length .result) (now (c .before .before .rest-from .result)) (part-within (now (c .before .before .rest-from .result)) (c .before .name-length .result) (c .before .name-length .ensures)))
+slice-aggregate-result c = sym (length-take-le (c .before .name-length .result) (now (c .before .before .rest-from .result)) (part-within (now
+    (c .before .before .rest-from .result)) (c .before .name-length .result) (c .before .name-length .ensures)))
 
 returns : tie.Need-returns
 returns c = part-is (now (c .before .before .rest-from .result)) (c .before .name-length .result) (c .before .name-length .ensures) ∙ ap leading (c .before .before .rest-from .ensures)

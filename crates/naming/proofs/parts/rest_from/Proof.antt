@@ -37,7 +37,9 @@ part-result-end-2 : tie.Need-part-result-end-2
 part-result-end-2 c = search needs
 
 returns-2 : tie.Need-returns-2
-returns-2 c = part-from (now (c .before .before .before .before .args .text)) _ ∙ drop-of-length-le (now (c .before .before .before .before .args .text)) {i = length (now (c .before .before .before .before .args .text))} (omega arith) ∙ sym (drop-of-length-le (now (c .before .before .before .before .args .text)) {i = c .before .before .before .before .args .place} (omega (arith, c .before .before .wide .ensures, c .before .if1 .left)))
+returns-2 c = part-from (now (c .before .before .before .before .args .text)) _ ∙ drop-of-length-le (now (c .before .before .before .before .args .text)) {i = length (now
+    (c .before .before .before .before .args .text))} (omega arith) ∙ sym (drop-of-length-le (now
+    (c .before .before .before .before .args .text)) {i = c .before .before .before .before .args .place} (omega (arith, c .before .before .wide .ensures, c .before .if1 .left)))
 
 pub rest-from-spec : {M : Type 1} → statement M
 rest-from-spec =

@@ -18,19 +18,33 @@ row-part-requires : tie.Need-row-part-requires
 row-part-requires c κs = lies (c .before .args .row) (now (c .before .args .bytes)) (c .before .pre)
 
 quoted-size-requires : tie.Need-quoted-size-requires
-quoted-size-requires c κs = omega (arith, ap length (c .before .before .row-part .ensures), small (c .before .before .before .before .args .row) (now (c .before .before .before .before .args .bytes)) (c .before .before .before .before .pre))
+quoted-size-requires c κs = omega (
+  arith,
+  ap length (c .before .before .row-part .ensures),
+  small (c .before .before .before .before .args .row) (now
+      (c .before .before .before .before .args .bytes)) (c .before .before .before .before .pre),
+)
 
 returns : tie.Need-returns
-returns c = c .quoted-size .ensures ∙ ap (λ (v : List ℕ). length (quoted v)) (c .before .before .before .row-part .ensures) ∙ sym (ap length (in-quotes (c .before .before .before .before .before .args .row) (now (c .before .before .before .before .before .args .bytes)) (c .before .before .before .before .before .pre) (c .before .if1 .taken)))
+returns c = c .quoted-size .ensures ∙ ap (λ (v : List ℕ). length (quoted v)) (c .before .before .before .row-part .ensures) ∙ sym (ap length (in-quotes
+    (c .before .before .before .before .before .args .row) (now (c .before .before .before .before .before .args .bytes)) (c .before .before .before .before .before .pre)
+    (c .before .if1 .taken)))
 
 wide-requires : tie.Need-wide-requires
 wide-requires c κs = search needs
 
 pointed-size-requires : tie.Need-pointed-size-requires
-pointed-size-requires c κs = rw (c .wide .ensures, c .before .before .before .row-part .ensures) (scaled (c .before .before .before .before .before .args .row) (now (c .before .before .before .before .before .args .bytes)) (c .before .before .before .before .before .pre), small (c .before .before .before .before .before .args .row) (now (c .before .before .before .before .before .args .bytes)) (c .before .before .before .before .before .pre))
+pointed-size-requires c κs = rw (c .wide .ensures, c .before .before .before .row-part .ensures) (
+  scaled (c .before .before .before .before .before .args .row) (now
+      (c .before .before .before .before .before .args .bytes)) (c .before .before .before .before .before .pre),
+  small (c .before .before .before .before .before .args .row) (now
+      (c .before .before .before .before .before .args .bytes)) (c .before .before .before .before .before .pre),
+)
 
 returns-2 : tie.Need-returns-2
-returns-2 c = c .pointed-size .ensures ∙ rw (c .before .wide .ensures, c .before .before .before .before .row-part .ensures) (sym (ap length (with-point (c .before .before .before .before .before .before .args .row) (now (c .before .before .before .before .before .before .args .bytes)) (c .before .before .before .before .before .before .pre) (c .before .before .if1 .left))))
+returns-2 c = c .pointed-size .ensures ∙ rw (c .before .wide .ensures, c .before .before .before .before .row-part .ensures) (sym (ap length (with-point
+    (c .before .before .before .before .before .before .args .row) (now (c .before .before .before .before .before .before .args .bytes))
+    (c .before .before .before .before .before .before .pre) (c .before .before .if1 .left))))
 
 pub literal-size-spec : {M : Type 1} → statement M
 literal-size-spec =

@@ -18,25 +18,55 @@ row-part-requires : tie.Need-row-part-requires
 row-part-requires c κs = lies (c .before .before .args .row) (now (c .before .before .args .bytes)) (c .before .before .pre .0)
 
 put-quoted-requires : tie.Need-put-quoted-requires
-put-quoted-requires c κs = rw (c .before .before .before .row-part .ensures) (small (c .before .before .before .before .before .before .args .row) (now (c .before .before .before .before .before .before .args .bytes)) (c .before .before .before .before .before .before .pre .0), omega (arith, ap length (in-quotes (c .before .before .before .before .before .before .args .row) (now (c .before .before .before .before .before .before .args .bytes)) (c .before .before .before .before .before .before .pre .0) (c .before .if1 .taken)), c .before .before .before .before .before .before .pre .1))
+put-quoted-requires c κs = rw (c .before .before .before .row-part .ensures) (
+  small (c .before .before .before .before .before .before .args .row) (now
+      (c .before .before .before .before .before .before .args .bytes)) (c .before .before .before .before .before .before .pre .0),
+  omega (
+    arith,
+    ap length (in-quotes
+        (c .before .before .before .before .before .before .args .row) (now (c .before .before .before .before .before .before .args .bytes))
+        (c .before .before .before .before .before .before .pre .0) (c .before .if1 .taken)),
+    c .before .before .before .before .before .before .pre .1,
+  ),
+)
 
 same-length : tie.Need-same-length
 same-length c = search needs
 
 returns : tie.Need-returns
-returns c = c .before .before .put-quoted .ensures ∙ ap (λ (v : List ℕ). writtenOver v (now (c .before .before .before .before .before .before .before .before .before .args .out))) (ap quoted (c .before .before .before .before .before .before .row-part .ensures) ∙ sym (in-quotes (c .before .before .before .before .before .before .before .before .before .args .row) (now (c .before .before .before .before .before .before .before .before .before .args .bytes)) (c .before .before .before .before .before .before .before .before .before .pre .0) (c .before .before .before .before .if1 .taken)))
+returns c = c .before .before .put-quoted .ensures ∙ ap (λ (v : List ℕ). writtenOver v (now (c .before .before .before .before .before .before .before .before .before .args .out)))
+    (ap quoted (c .before .before .before .before .before .before .row-part .ensures) ∙ sym (in-quotes
+    (c .before .before .before .before .before .before .before .before .before .args .row) (now
+    (c .before .before .before .before .before .before .before .before .before .args .bytes)) (c .before .before .before .before .before .before .before .before .before .pre .0)
+    (c .before .before .before .before .if1 .taken)))
 
 wide-requires : tie.Need-wide-requires
 wide-requires c κs = search needs
 
 put-pointed-requires : tie.Need-put-pointed-requires
-put-pointed-requires c κs = rw (c .before .wide .ensures, c .before .before .before .before .row-part .ensures) (scaled (c .before .before .before .before .before .before .before .args .row) (now (c .before .before .before .before .before .before .before .args .bytes)) (c .before .before .before .before .before .before .before .pre .0), omega (arith, ap length (with-point (c .before .before .before .before .before .before .before .args .row) (now (c .before .before .before .before .before .before .before .args .bytes)) (c .before .before .before .before .before .before .before .pre .0) (c .before .before .if1 .left)), c .before .before .before .before .before .before .before .pre .1))
+put-pointed-requires c κs = rw (c .before .wide .ensures, c .before .before .before .before .row-part .ensures) (
+  scaled
+      (c .before .before .before .before .before .before .before .args .row) (now (c .before .before .before .before .before .before .before .args .bytes))
+      (c .before .before .before .before .before .before .before .pre .0),
+  omega (
+    arith,
+    ap length (with-point (c .before .before .before .before .before .before .before .args .row)
+        (now (c .before .before .before .before .before .before .before .args .bytes)) (c .before .before .before .before .before .before .before .pre .0)
+        (c .before .before .if1 .left)),
+    c .before .before .before .before .before .before .before .pre .1,
+  ),
+)
 
 same-length-2 : tie.Need-same-length-2
 same-length-2 c = search needs
 
 returns-2 : tie.Need-returns-2
-returns-2 c = c .before .before .put-pointed .ensures ∙ rw (c .before .before .before .before .wide .ensures, c .before .before .before .before .before .before .before .row-part .ensures) (ap (λ (v : List ℕ). writtenOver v (now (c .before .before .before .before .before .before .before .before .before .before .args .out))) (sym (with-point (c .before .before .before .before .before .before .before .before .before .before .args .row) (now (c .before .before .before .before .before .before .before .before .before .before .args .bytes)) (c .before .before .before .before .before .before .before .before .before .before .pre .0) (c .before .before .before .before .before .if1 .left))))
+returns-2 c = c .before .before .put-pointed .ensures ∙ rw
+    (c .before .before .before .before .wide .ensures, c .before .before .before .before .before .before .before .row-part .ensures) (ap (λ (v : List ℕ). writtenOver v (now
+    (c .before .before .before .before .before .before .before .before .before .before .args .out))) (sym (with-point
+    (c .before .before .before .before .before .before .before .before .before .before .args .row) (now
+    (c .before .before .before .before .before .before .before .before .before .before .args .bytes))
+    (c .before .before .before .before .before .before .before .before .before .before .pre .0) (c .before .before .before .before .before .if1 .left))))
 
 pub put-literal-spec : {M : Type 1} → statement M
 put-literal-spec =

@@ -21,7 +21,8 @@ same-length : tie.Need-same-length
 same-length c = search needs
 
 returns : tie.Need-returns
-returns c = c .before .before .copy-bytes .ensures ∙ ap (λ (v : List ℕ). writtenOver v (now (c .before .before .before .before .before .before .before .args .out))) (c .before .before .before .before .name-part .ensures)
+returns c = c .before .before .copy-bytes .ensures ∙ ap (λ (v : List ℕ). writtenOver v (now (c .before .before .before .before .before .before .before .args .out)))
+    (c .before .before .before .before .name-part .ensures)
 
 pub put-name-spec : {M : Type 1} → statement M
 put-name-spec = tie.close (tie.spec name-part-requires copy-bytes-requires same-length returns)

@@ -22,10 +22,12 @@ skip-or-equal-requires : tie.Need-skip-or-equal-requires
 skip-or-equal-requires c κs = c .skip-word .ensures .within
 
 returns : tie.Need-returns
-returns c = order-piece (c .before .before .skip-word .ensures) (c .before .skip-or-equal .ensures) false (le-ltb (c .before .before .skip-word .result) (c .before .skip-or-equal .result) (omega (arith, c .if1 .taken)))
+returns c = order-piece (c .before .before .skip-word .ensures) (c .before .skip-or-equal .ensures) false (le-ltb (c .before .before .skip-word .result)
+    (c .before .skip-or-equal .result) (omega (arith, c .if1 .taken)))
 
 returns-2 : tie.Need-returns-2
-returns-2 c = order-piece (c .before .before .skip-word .ensures) (c .before .skip-or-equal .ensures) true (lt-ltb (c .before .before .skip-word .result) (c .before .skip-or-equal .result) (omega (arith, c .before .skip-or-equal .ensures .passed, c .if1 .left)))
+returns-2 c = order-piece (c .before .before .skip-word .ensures) (c .before .skip-or-equal .ensures) true (lt-ltb (c .before .before .skip-word .result)
+    (c .before .skip-or-equal .result) (omega (arith, c .before .skip-or-equal .ensures .passed, c .if1 .left)))
 
 pub order-at-spec : {M : Type 1} → statement M
 order-at-spec =

@@ -6,7 +6,7 @@ use native.Mathlib.Omega.{arith}
 use lib.ListN.{length, getD, drop}
 use denote.Ref.{now}
 use borrow.Author.Needs.{needs}
-use Rattle.spelling.specs.Names.{namesAt}
+use Rattle.naming.specs.Named.{knownAt}
 use Rattle.spelling.specs.Meanings.{meaning}
 use Rattle.splitter.specs.Splits.{between}
 use Rattle.senses.proofs.Joined.{token-piece, fault-piece, item-piece, literal-piece, equal-piece, ordered}
@@ -57,22 +57,49 @@ enum-known-sense-5 : tie.Need-enum-known-sense-5
 enum-known-sense-5 c = search needs
 
 returns : tie.Need-returns
-returns c = token-piece (meaning (namesAt (now (c .before .before .before .before .before .before .before .before .args .description)) (now (c .before .before .before .before .before .before .before .before .args .places))) (between (now (c .before .before .before .before .before .before .before .before .args .text)) (c .before .before .before .before .before .before .before .before .args .at) (c .before .before .before .before .before .before .before .before .args .end))) (c .before .before .before .before .before .before .before .before .pre .2) (sym (c .before .before .before .sense-of .ensures) ∙ c .before .sense .given .1)
+returns c = token-piece (meaning (knownAt (now (c .before .before .before .before .before .before .before .before .args .description))
+    (c .before .before .before .before .before .before .before .before .args .items) (now (c .before .before .before .before .before .before .before .before .args .places)))
+    (between (now (c .before .before .before .before .before .before .before .before .args .text)) (c .before .before .before .before .before .before .before .before .args .at)
+    (c .before .before .before .before .before .before .before .before .args .end))) (c .before .before .before .before .before .before .before .before .pre .2) (sym
+    (c .before .before .before .sense-of .ensures) ∙ c .before .sense .given .1)
 
 returns-2 : tie.Need-returns-2
-returns-2 c = item-piece (meaning (namesAt (now (c .before .before .before .before .before .before .before .before .before .args .description)) (now (c .before .before .before .before .before .before .before .before .before .args .places))) (between (now (c .before .before .before .before .before .before .before .before .before .args .text)) (c .before .before .before .before .before .before .before .before .before .args .at) (c .before .before .before .before .before .before .before .before .before .args .end))) (sym (c .before .before .before .before .sense-of .ensures) ∙ c .before .before .sense2 .given .1) (c .operand-at .ensures)
+returns-2 c = item-piece (meaning (knownAt (now (c .before .before .before .before .before .before .before .before .before .args .description))
+    (c .before .before .before .before .before .before .before .before .before .args .items) (now
+    (c .before .before .before .before .before .before .before .before .before .args .places))) (between (now
+    (c .before .before .before .before .before .before .before .before .before .args .text)) (c .before .before .before .before .before .before .before .before .before .args .at)
+    (c .before .before .before .before .before .before .before .before .before .args .end))) (sym (c .before .before .before .before .sense-of .ensures)
+    ∙ c .before .before .sense2 .given .1) (c .operand-at .ensures)
 
 returns-3 : tie.Need-returns-3
-returns-3 c = literal-piece (meaning (namesAt (now (c .before .before .before .before .before .before .before .before .before .args .description)) (now (c .before .before .before .before .before .before .before .before .before .args .places))) (between (now (c .before .before .before .before .before .before .before .before .before .args .text)) (c .before .before .before .before .before .before .before .before .before .args .at) (c .before .before .before .before .before .before .before .before .before .args .end))) (sym (c .before .before .before .before .sense-of .ensures) ∙ c .before .before .sense3 .given .1) (c .operand-at2 .ensures)
+returns-3 c = literal-piece (meaning (knownAt (now (c .before .before .before .before .before .before .before .before .before .args .description))
+    (c .before .before .before .before .before .before .before .before .before .args .items) (now
+    (c .before .before .before .before .before .before .before .before .before .args .places))) (between (now
+    (c .before .before .before .before .before .before .before .before .before .args .text)) (c .before .before .before .before .before .before .before .before .before .args .at)
+    (c .before .before .before .before .before .before .before .before .before .args .end))) (sym (c .before .before .before .before .sense-of .ensures)
+    ∙ c .before .before .sense3 .given .1) (c .operand-at2 .ensures)
 
 returns-4 : tie.Need-returns-4
-returns-4 c = ordered (meaning (namesAt (now (c .before .before .before .before .before .before .before .before .before .args .description)) (now (c .before .before .before .before .before .before .before .before .before .args .places))) (between (now (c .before .before .before .before .before .before .before .before .before .args .text)) (c .before .before .before .before .before .before .before .before .before .args .at) (c .before .before .before .before .before .before .before .before .before .args .end))) (sym (c .before .before .before .before .sense-of .ensures) ∙ c .before .before .sense4 .given .1) (c .order-at .ensures)
+returns-4 c = ordered (meaning (knownAt (now (c .before .before .before .before .before .before .before .before .before .args .description))
+    (c .before .before .before .before .before .before .before .before .before .args .items) (now
+    (c .before .before .before .before .before .before .before .before .before .args .places))) (between (now
+    (c .before .before .before .before .before .before .before .before .before .args .text)) (c .before .before .before .before .before .before .before .before .before .args .at)
+    (c .before .before .before .before .before .before .before .before .before .args .end))) (sym (c .before .before .before .before .sense-of .ensures)
+    ∙ c .before .before .sense4 .given .1) (c .order-at .ensures)
 
 returns-5 : tie.Need-returns-5
-returns-5 c = equal-piece (meaning (namesAt (now (c .before .before .before .before .before .before .before .before .args .description)) (now (c .before .before .before .before .before .before .before .before .args .places))) (between (now (c .before .before .before .before .before .before .before .before .args .text)) (c .before .before .before .before .before .before .before .before .args .at) (c .before .before .before .before .before .before .before .before .args .end))) (sym (c .before .before .before .sense-of .ensures) ∙ c .before .enum-told .given .1) (c .equal-at .ensures)
+returns-5 c = equal-piece (meaning (knownAt (now (c .before .before .before .before .before .before .before .before .args .description))
+    (c .before .before .before .before .before .before .before .before .args .items) (now (c .before .before .before .before .before .before .before .before .args .places)))
+    (between (now (c .before .before .before .before .before .before .before .before .args .text)) (c .before .before .before .before .before .before .before .before .args .at)
+    (c .before .before .before .before .before .before .before .before .args .end))) (sym (c .before .before .before .sense-of .ensures) ∙ c .before .enum-told .given .1)
+    (c .equal-at .ensures)
 
 returns-6 : tie.Need-returns-6
-returns-6 c = fault-piece (meaning (namesAt (now (c .before .before .before .before .before .before .before .before .args .description)) (now (c .before .before .before .before .before .before .before .before .args .places))) (between (now (c .before .before .before .before .before .before .before .before .args .text)) (c .before .before .before .before .before .before .before .before .args .at) (c .before .before .before .before .before .before .before .before .args .end))) (c .before .before .before .before .before .before .before .before .pre .2) (sym (c .before .before .before .sense-of .ensures) ∙ c .before .sense5 .given .1)
+returns-6 c = fault-piece (meaning (knownAt (now (c .before .before .before .before .before .before .before .before .args .description))
+    (c .before .before .before .before .before .before .before .before .args .items) (now (c .before .before .before .before .before .before .before .before .args .places)))
+    (between (now (c .before .before .before .before .before .before .before .before .args .text)) (c .before .before .before .before .before .before .before .before .args .at)
+    (c .before .before .before .before .before .before .before .before .args .end))) (c .before .before .before .before .before .before .before .before .pre .2) (sym
+    (c .before .before .before .sense-of .ensures) ∙ c .before .sense5 .given .1)
 
 pub piece-at-spec : {M : Type 1} → statement M
 piece-at-spec =

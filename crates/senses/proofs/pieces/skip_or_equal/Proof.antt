@@ -27,7 +27,8 @@ skip-word-requires-2 : tie.Need-skip-word-requires-2
 skip-word-requires-2 c κs = c .before .before .skip-word .ensures .within
 
 returns-2 : tie.Need-returns-2
-returns-2 c = no-equal (c .before .before .before .before .before .before .before .pre) (c .before .before .before .before .skip-word .ensures) (c .before .before .before .if1 .left) (c .before .skip-word2 .ensures) (c .if2 .taken)
+returns-2 c = no-equal (c .before .before .before .before .before .before .before .pre) (c .before .before .before .before .skip-word .ensures)
+    (c .before .before .before .if1 .left) (c .before .skip-word2 .ensures) (c .if2 .taken)
 
 slice-aggregate-skip-word-3 : tie.Need-slice-aggregate-skip-word-3
 slice-aggregate-skip-word-3 c = search needs
@@ -36,7 +37,8 @@ skip-word-requires-3 : tie.Need-skip-word-requires-3
 skip-word-requires-3 c κs = c .before .before .skip-word2 .ensures .within
 
 returns-3 : tie.Need-returns-3
-returns-3 c = or-equal (c .before .before .before .before .before .before .before .before .before .pre) (c .before .before .before .before .before .before .skip-word .ensures) (c .before .before .before .before .before .if1 .left) (c .before .before .before .skip-word2 .ensures) (c .before .before .if2 .left) (c .skip-word3 .ensures)
+returns-3 c = or-equal (c .before .before .before .before .before .before .before .before .before .pre) (c .before .before .before .before .before .before .skip-word .ensures)
+    (c .before .before .before .before .before .if1 .left) (c .before .before .before .skip-word2 .ensures) (c .before .before .if2 .left) (c .skip-word3 .ensures)
 
 pub skip-or-equal-spec : {M : Type 1} → statement M
 skip-or-equal-spec =

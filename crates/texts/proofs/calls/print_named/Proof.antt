@@ -1,13 +1,12 @@
 -- `print_named` meets its contract.
 use mathlib.Core.Path.{_≡_, refl, sym, ap, _∙_}
-use Prim.Native.Nat.{ℕ, _+_, _-_, _*_, _≤_, _<_}
+use Prim.Native.Nat.{_+_, _-_, _*_, _≤_, _<_}
 use native.Mathlib.Omega.{arith}
 use lib.ListN.{length, getD, take, drop}
 use denote.Ref.{now}
 use borrow.Author.Needs.{needs}
-use Rattle.spelling.specs.Names.{namesAt}
+use Rattle.naming.specs.Named.{knownAt}
 use Rattle.texts.proofs.Refusing.{tables-refuse, tables-sound, count-refuses, refused-print}
-use borrow.Author.Needs.{needs}
 use Rattle.texts.proofs.calls.print_named.Statement.{statement}
 use Rattle.texts.proofs.calls.print_named.Tie as tie
 
@@ -21,7 +20,13 @@ enum-known-tables : tie.Need-enum-known-tables
 enum-known-tables c = search needs
 
 returns : tie.Need-returns
-returns c = let f = tables-refuse (namesAt (now (c .before .before .before .before .before .before .before .before .before .before .before .args .description)) (now (c .before .before .before .before .before .before .before .before .before .before .before .args .places))) (now (c .before .before .before .before .before .before .before .before .before .before .before .args .literals)) (now (c .before .before .before .before .before .before .before .before .before .before .before .args .bytes)) (now (c .before .before .before .before .before .before .before .before .before .before .before .args .tokens)) (sym (c .before .before .before .check-tables .ensures) ∙ c .before .tables .given .1) in refused-print (f .0) (f .1)
+returns c = let f = tables-refuse (knownAt (now (c .before .before .before .before .before .before .before .before .before .before .before .args .description))
+    (c .before .before .before .before .before .before .before .before .before .before .before .args .items) (now
+    (c .before .before .before .before .before .before .before .before .before .before .before .args .places))) (now
+    (c .before .before .before .before .before .before .before .before .before .before .before .args .literals)) (now
+    (c .before .before .before .before .before .before .before .before .before .before .before .args .bytes)) (now
+    (c .before .before .before .before .before .before .before .before .before .before .before .args .tokens)) (sym
+    (c .before .before .before .check-tables .ensures) ∙ c .before .tables .given .1) in refused-print (f .0) (f .1)
 
 enum-told : tie.Need-enum-told
 enum-told c = search needs
@@ -33,13 +38,41 @@ enum-known-count : tie.Need-enum-known-count
 enum-known-count c = search needs
 
 returns-2 : tie.Need-returns-2
-returns-2 c = let s = (tables-sound (namesAt (now (c .before .before .before .before .before .before .before .before .before .before .before .before .before .before .args .description)) (now (c .before .before .before .before .before .before .before .before .before .before .before .before .before .before .args .places))) (now (c .before .before .before .before .before .before .before .before .before .before .before .before .before .before .args .literals)) (now (c .before .before .before .before .before .before .before .before .before .before .before .before .before .before .args .bytes)) (now (c .before .before .before .before .before .before .before .before .before .before .before .before .before .before .args .tokens)) (sym (c .before .before .before .before .before .before .check-tables .ensures) ∙ c .before .before .before .before .enum-told .given .1)) in let f = count-refuses (namesAt (now (c .before .before .before .before .before .before .before .before .before .before .before .before .before .before .args .description)) (now (c .before .before .before .before .before .before .before .before .before .before .before .before .before .before .args .places))) (now (c .before .before .before .before .before .before .before .before .before .before .before .before .before .before .args .literals)) (now (c .before .before .before .before .before .before .before .before .before .before .before .before .before .before .args .bytes)) (now (c .before .before .before .before .before .before .before .before .before .before .before .before .before .before .args .tokens)) (s .0) (s .1) (sym (c .before .before .before .check-token-count .ensures) ∙ c .before .count .given .1) in refused-print (f .0) (f .1)
+returns-2 c = let s = tables-sound (knownAt (now
+    (c .before .before .before .before .before .before .before .before .before .before .before .before .before .before .args .description))
+    (c .before .before .before .before .before .before .before .before .before .before .before .before .before .before .args .items) (now
+    (c .before .before .before .before .before .before .before .before .before .before .before .before .before .before .args .places))) (now
+    (c .before .before .before .before .before .before .before .before .before .before .before .before .before .before .args .literals)) (now
+    (c .before .before .before .before .before .before .before .before .before .before .before .before .before .before .args .bytes)) (now
+    (c .before .before .before .before .before .before .before .before .before .before .before .before .before .before .args .tokens)) (sym
+    (c .before .before .before .before .before .before .check-tables .ensures) ∙ c .before .before .before .before .enum-told .given .1) in let f = count-refuses (knownAt (now
+    (c .before .before .before .before .before .before .before .before .before .before .before .before .before .before .args .description))
+    (c .before .before .before .before .before .before .before .before .before .before .before .before .before .before .args .items) (now
+    (c .before .before .before .before .before .before .before .before .before .before .before .before .before .before .args .places))) (now
+    (c .before .before .before .before .before .before .before .before .before .before .before .before .before .before .args .literals)) (now
+    (c .before .before .before .before .before .before .before .before .before .before .before .before .before .before .args .bytes)) (now
+    (c .before .before .before .before .before .before .before .before .before .before .before .before .before .before .args .tokens)) (s .0) (s .1) (sym
+    (c .before .before .before .check-token-count .ensures) ∙ c .before .count .given .1) in refused-print (f .0) (f .1)
 
 enum-told-2 : tie.Need-enum-told-2
 enum-told-2 c = search needs
 
 print-there-requires : tie.Need-print-there-requires
-print-there-requires c κs = let s = (tables-sound (namesAt (now (c .before .before .before .before .before .before .before .before .before .before .before .before .before .before .args .description)) (now (c .before .before .before .before .before .before .before .before .before .before .before .before .before .before .args .places))) (now (c .before .before .before .before .before .before .before .before .before .before .before .before .before .before .args .literals)) (now (c .before .before .before .before .before .before .before .before .before .before .before .before .before .before .args .bytes)) (now (c .before .before .before .before .before .before .before .before .before .before .before .before .before .before .args .tokens)) (sym (c .before .before .before .before .before .before .check-tables .ensures) ∙ c .before .before .before .before .enum-told .given .1)) in record { short = c .before .before .before .before .before .before .before .before .before .before .before .before .before .before .pre .0; few-names = c .before .before .before .before .before .before .before .before .before .before .before .before .before .before .pre .1; table-sound = s .0; rows-sound = s .1; count-sound = sym (c .before .before .before .check-token-count .ensures) ∙ c .before .enum-told2 .given .1 }
+print-there-requires c κs = let s = tables-sound (knownAt (now
+    (c .before .before .before .before .before .before .before .before .before .before .before .before .before .before .args .description))
+    (c .before .before .before .before .before .before .before .before .before .before .before .before .before .before .args .items) (now
+    (c .before .before .before .before .before .before .before .before .before .before .before .before .before .before .args .places))) (now
+    (c .before .before .before .before .before .before .before .before .before .before .before .before .before .before .args .literals)) (now
+    (c .before .before .before .before .before .before .before .before .before .before .before .before .before .before .args .bytes)) (now
+    (c .before .before .before .before .before .before .before .before .before .before .before .before .before .before .args .tokens)) (sym
+    (c .before .before .before .before .before .before .check-tables .ensures) ∙ c .before .before .before .before .enum-told .given .1) in record {
+      short = c .before .before .before .before .before .before .before .before .before .before .before .before .before .before .pre .0;
+      listed = c .before .before .before .before .before .before .before .before .before .before .before .before .before .before .pre .1;
+      table-sound = s .0;
+      rows-sound = s .1;
+      count-sound = sym
+          (c .before .before .before .check-token-count .ensures) ∙ c .before .enum-told2 .given .1;
+    }
 
 same-length : tie.Need-same-length
 same-length c = search needs

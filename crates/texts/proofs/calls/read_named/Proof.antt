@@ -1,27 +1,20 @@
 -- `read_named` meets its contract.
 use mathlib.Core.Path.{_≡_, refl, sym, ap, _∙_}
-use Prim.Native.Nat.{ℕ, _+_, _-_, _*_, _≤_, _<_}
+use Prim.Native.Nat.{_+_, _-_, _*_, _≤_, _<_}
 use native.Mathlib.Omega.{arith}
 use lib.ListN.{length, getD, take, drop}
 use denote.Ref.{now}
 use borrow.Author.Needs.{needs}
-use Rattle.lexer.specs.Gathers.{Rooms}
-use Rattle.texts.proofs.Giving.{whole-sizes, whole-reading, fault-reading, refused-reading, as-reading}
-use borrow.Author.Needs.{needs}
+use Rattle.texts.proofs.Giving.{whole-sizes, whole-reading, fault-reading, as-reading, refused-reading}
 use Rattle.texts.proofs.calls.read_named.Statement.{statement}
 use Rattle.texts.proofs.calls.read_named.Tie as tie
 
 slice-aggregate-gather : tie.Need-slice-aggregate-gather
 slice-aggregate-gather c = search needs
 
-slice-aggregate-gather-2 : tie.Need-slice-aggregate-gather-2
-slice-aggregate-gather-2 c = search needs
-
-slice-aggregate-gather-3 : tie.Need-slice-aggregate-gather-3
-slice-aggregate-gather-3 c = search needs
-
 gather-requires : tie.Need-gather-requires
-gather-requires c κs = (c .before .before .before .before .before .before .before .before .before .pre, record { tokens-room = omega arith; rows-room = omega arith; bytes-room = omega arith })
+gather-requires c κs =
+    (c .before .before .before .before .before .before .before .before .before .before .before .pre .0, record { tokens-room = omega arith; rows-room = c .before .before .before .before .before .before .before .before .before .before .before .pre .1; bytes-room = c .before .before .before .before .before .before .before .before .before .before .before .pre .2 }, c .before .before .before .before .before .before .before .before .before .before .before .pre .3, c .before .before .before .before .before .before .before .before .before .before .before .pre .4)
 
 enum-known-lexed : tie.Need-enum-known-lexed
 enum-known-lexed c = search needs
@@ -29,14 +22,11 @@ enum-known-lexed c = search needs
 slice-aggregate-give : tie.Need-slice-aggregate-give
 slice-aggregate-give c = search needs
 
-slice-aggregate-give-2 : tie.Need-slice-aggregate-give-2
-slice-aggregate-give-2 c = search needs
-
-slice-aggregate-give-3 : tie.Need-slice-aggregate-give-3
-slice-aggregate-give-3 c = search needs
-
 give-requires : tie.Need-give-requires
-give-requires c κs = let s = whole-sizes (c .before .before .before .before .before .before .before .before .before .before .before .before .gather .result) (c .before .before .before .before .before .before .before .before .before .before .before .before .gather .ensures) (c .before .before .before .before .before .before .before .lexed .given .1) in omega (arith, s .0, s .1, s .2)
+give-requires c κs = let s = whole-sizes (c .before .before .before .before .before .before .before .before .before .before .before .before .before .before .gather .result)
+    (c .before .before .before .before .before .before .before .before .before .before .before .before .before .before .gather .ensures)
+    (c .before .before .before .before .before .before .before .lexed .given .1) in omega
+    (arith, s .0, s .1, s .2, c .before .before .before .before .before .before .before .before .before .before .before .before .before .before .before .before .before .before .before .before .before .before .before .before .before .before .pre .1, c .before .before .before .before .before .before .before .before .before .before .before .before .before .before .before .before .before .before .before .before .before .before .before .before .before .before .pre .2, c .before .before .before .before .before .before .before .before .before .before .before .before .before .before .gather .kept)
 
 enum-known-lexed-2 : tie.Need-enum-known-lexed-2
 enum-known-lexed-2 c = search needs
@@ -53,29 +43,46 @@ same-length-2 c = search needs
 same-length-3 : tie.Need-same-length-3
 same-length-3 c = search needs
 
+same-length-4 : tie.Need-same-length-4
+same-length-4 c = search needs
+
+same-length-5 : tie.Need-same-length-5
+same-length-5 c = search needs
+
 returns : tie.Need-returns
-returns c = as-reading (whole-reading (c .before .before .before .before .before .before .before .before .before .before .before .before .before .before .before .before .before .before .before .gather .result) (c .before .before .before .before .before .before .before .before .before .before .before .before .before .before .before .before .before .before .before .gather .ensures) (c .before .before .before .before .before .before .before .before .before .before .before .before .before .before .lexed .given .1)) (c .before .before .before .before .before .before .give .ensures)
+returns c = as-reading (whole-reading
+    (c .before .before .before .before .before .before .before .before .before .before .before .before .before .before .before .before .before .before .before .before .before .gather .result)
+    (c .before .before .before .before .before .before .before .before .before .before .before .before .before .before .before .before .before .before .before .before .before .gather .ensures)
+    (c .before .before .before .before .before .before .before .before .before .before .before .before .before .before .lexed .given .1))
+    (c .before .before .before .before .before .before .give .ensures)
+
+same-length-6 : tie.Need-same-length-6
+same-length-6 c = search needs
+
+same-length-7 : tie.Need-same-length-7
+same-length-7 c = search needs
 
 returns-2 : tie.Need-returns-2
-returns-2 c = refused-reading (fault-reading (c .before .before .before .before .before .before .before .gather .result) (c .before .before .before .before .before .before .before .gather .ensures) (c .before .before .lexed2 .given .1)) (c .refused .ensures)
+returns-2 c = refused-reading (fault-reading (c .before .before .before .before .before .before .before .before .before .gather .result)
+    (c .before .before .before .before .before .before .before .before .before .gather .ensures) (c .before .before .lexed2 .given .1)) (c .refused .ensures)
 
 pub read-named-spec : {M : Type 1} → statement M
 read-named-spec =
     tie.close
     (tie.spec
     slice-aggregate-gather
-    slice-aggregate-gather-2
-    slice-aggregate-gather-3
     gather-requires
     enum-known-lexed
     slice-aggregate-give
-    slice-aggregate-give-2
-    slice-aggregate-give-3
     give-requires
     enum-known-lexed-2
     refused-requires
     same-length
     same-length-2
     same-length-3
+    same-length-4
+    same-length-5
     returns
+    same-length-6
+    same-length-7
     returns-2)

@@ -2,7 +2,7 @@
 use denote.Ref.{now}
 use mathlib.Core.Path.{_∙_}
 use native.Mathlib.Omega.{arith}
-use Rattle.words.proofs.Initials.{no-letters, one-word, starts-other, starts-A, starts-C, starts-E, starts-F, starts-G, starts-I, starts-L, starts-N, starts-O, starts-P, starts-S, starts-T, starts-U, starts-Z}
+use Rattle.words.proofs.Initials.{no-letters, one-word, starts-other, starts-A, starts-C, starts-E, starts-F, starts-G, starts-I, starts-L, starts-N, starts-O, starts-P, starts-S, starts-T, starts-U, starts-V, starts-Z}
 use borrow.Author.Needs.{needs}
 use Rattle.words.proofs.keywords.is_keyword.Statement.{statement}
 use Rattle.words.proofs.keywords.is_keyword.Tie as tie
@@ -76,6 +76,12 @@ slice-aggregate-same-bytes-7 c = search needs
 same-bytes-requires-7 : tie.Need-same-bytes-requires-7
 same-bytes-requires-7 c κs = search needs
 
+slice-aggregate-same-bytes-8 : tie.Need-slice-aggregate-same-bytes-8
+slice-aggregate-same-bytes-8 c = search needs
+
+same-bytes-requires-8 : tie.Need-same-bytes-requires-8
+same-bytes-requires-8 c κs = search needs
+
 returns-2 : tie.Need-returns-2
 returns-2 c = c .keyword-a .ensures ∙ starts-A (now (c .before .before .before .before .before .args .w)) (omega arith) (c .before .match .keys1)
 
@@ -122,11 +128,31 @@ returns-14 : tie.Need-returns-14
 returns-14 c = c .keyword-u .ensures ∙ starts-U (now (c .before .before .before .before .before .args .w)) (omega arith) (c .before .match .keys13)
 
 returns-15 : tie.Need-returns-15
-returns-15 c = one-word (now (c .before .before .before .before .before .before .args .w)) _ (c .same-bytes7 .result) (c .same-bytes7 .ensures) ∙ starts-Z
+returns-15 c = one-word (now (c .before .before .before .before .before .before .args .w)) _ (c .same-bytes7 .result) (c .same-bytes7 .ensures) ∙ starts-V
     (now (c .before .before .before .before .before .before .args .w)) (omega arith) (c .before .before .match .keys14)
 
 returns-16 : tie.Need-returns-16
-returns-16 c = starts-other (now (c .before .before .before .before .args .w)) (c .match .rest .0 .0 .0 .0 .0 .0 .0 .0 .0 .0 .0 .0 .0 .1) (c .match .rest .0 .0 .0 .0 .0 .0 .0 .0 .0 .0 .0 .0 .1) (c .match .rest .0 .0 .0 .0 .0 .0 .0 .0 .0 .0 .0 .1) (c .match .rest .0 .0 .0 .0 .0 .0 .0 .0 .0 .0 .1) (c .match .rest .0 .0 .0 .0 .0 .0 .0 .0 .0 .1) (c .match .rest .0 .0 .0 .0 .0 .0 .0 .0 .1) (c .match .rest .0 .0 .0 .0 .0 .0 .0 .1) (c .match .rest .0 .0 .0 .0 .0 .0 .1) (c .match .rest .0 .0 .0 .0 .0 .1) (c .match .rest .0 .0 .0 .0 .1) (c .match .rest .0 .0 .0 .1) (c .match .rest .0 .0 .1) (c .match .rest .0 .1) (c .match .rest .1)
+returns-16 c = one-word (now (c .before .before .before .before .before .before .args .w)) _ (c .same-bytes8 .result) (c .same-bytes8 .ensures) ∙ starts-Z
+    (now (c .before .before .before .before .before .before .args .w)) (omega arith) (c .before .before .match .keys15)
+
+returns-17 : tie.Need-returns-17
+returns-17 c =
+    starts-other (now (c .before .before .before .before .args .w))
+    (c .match .rest .0 .0 .0 .0 .0 .0 .0 .0 .0 .0 .0 .0 .0 .0 .1)
+    (c .match .rest .0 .0 .0 .0 .0 .0 .0 .0 .0 .0 .0 .0 .0 .1)
+    (c .match .rest .0 .0 .0 .0 .0 .0 .0 .0 .0 .0 .0 .0 .1)
+    (c .match .rest .0 .0 .0 .0 .0 .0 .0 .0 .0 .0 .0 .1)
+    (c .match .rest .0 .0 .0 .0 .0 .0 .0 .0 .0 .0 .1)
+    (c .match .rest .0 .0 .0 .0 .0 .0 .0 .0 .0 .1)
+    (c .match .rest .0 .0 .0 .0 .0 .0 .0 .0 .1)
+    (c .match .rest .0 .0 .0 .0 .0 .0 .0 .1)
+    (c .match .rest .0 .0 .0 .0 .0 .0 .1)
+    (c .match .rest .0 .0 .0 .0 .0 .1)
+    (c .match .rest .0 .0 .0 .0 .1)
+    (c .match .rest .0 .0 .0 .1)
+    (c .match .rest .0 .0 .1)
+    (c .match .rest .0 .1)
+    (c .match .rest .1)
 
 pub is-keyword-spec : {M : Type 1} → statement M
 is-keyword-spec =
@@ -155,6 +181,8 @@ is-keyword-spec =
     keyword-u-requires
     slice-aggregate-same-bytes-7
     same-bytes-requires-7
+    slice-aggregate-same-bytes-8
+    same-bytes-requires-8
     returns-2
     returns-3
     returns-4
@@ -169,4 +197,5 @@ is-keyword-spec =
     returns-13
     returns-14
     returns-15
-    returns-16)
+    returns-16
+    returns-17)

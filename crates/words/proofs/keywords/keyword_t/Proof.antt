@@ -23,11 +23,20 @@ slice-aggregate-same-bytes-3 c = search needs
 same-bytes-requires-3 : tie.Need-same-bytes-requires-3
 same-bytes-requires-3 c κs = search needs
 
+slice-aggregate-same-bytes-4 : tie.Need-slice-aggregate-same-bytes-4
+slice-aggregate-same-bytes-4 c = search needs
+
+same-bytes-requires-4 : tie.Need-same-bytes-requires-4
+same-bytes-requires-4 c κs = search needs
+
 returns : tie.Need-returns
-returns c = word-more (now (c .before .before .before .before .before .before .before .args .w)) _ _ (c .before .before .before .before .same-bytes .result) _
-    (c .before .before .before .before .same-bytes .ensures)
-    (word-more (now (c .before .before .before .before .before .before .before .args .w)) _ _ (c .before .before .same-bytes2 .result) _ (c .before .before .same-bytes2 .ensures)
-    (one-word (now (c .before .before .before .before .before .before .before .args .w)) _ (c .same-bytes3 .result) (c .same-bytes3 .ensures)))
+returns c = word-more (now (c .before .before .before .before .before .before .before .before .before .args .w)) _ _
+    (c .before .before .before .before .before .before .same-bytes .result) _ (c .before .before .before .before .before .before .same-bytes .ensures)
+    (word-more (now (c .before .before .before .before .before .before .before .before .before .args .w)) _ _ (c .before .before .before .before .same-bytes2 .result) _
+    (c .before .before .before .before .same-bytes2 .ensures)
+    (word-more (now (c .before .before .before .before .before .before .before .before .before .args .w)) _ _ (c .before .before .same-bytes3 .result) _
+    (c .before .before .same-bytes3 .ensures)
+    (one-word (now (c .before .before .before .before .before .before .before .before .before .args .w)) _ (c .same-bytes4 .result) (c .same-bytes4 .ensures))))
 
 pub keyword-t-spec : {M : Type 1} → statement M
 keyword-t-spec =
@@ -39,4 +48,6 @@ keyword-t-spec =
     same-bytes-requires-2
     slice-aggregate-same-bytes-3
     same-bytes-requires-3
+    slice-aggregate-same-bytes-4
+    same-bytes-requires-4
     returns)

@@ -1,15 +1,18 @@
-//! Texts at the limits: sizes, sums, rows, bytes, names, counts of many digits.
+//! Texts at the limits: sizes, sums, rows, bytes, names, counts of many digits,
+//! condition-names and their values.
 
 use super::writer::Writer;
 use crate::random::Random;
 
 pub fn text(random: &mut Random) -> Vec<u8> {
-    match random.below(12) {
+    match random.below(18) {
         0..=2 => sizes(random),
         3..=5 => sums(random),
         6..=7 => many_rows(random),
-        8..=9 => long_text(random),
+        8..=9 | 17 => long_text(random),
         10 => long_counts(random),
+        12..=13 => many_conditions(random),
+        14..=16 => conditions(random),
         _ => levels(random),
     }
 }
@@ -191,4 +194,66 @@ fn levels(random: &mut Random) -> Vec<u8> {
         writer.elementary(if off { (level + 1).min(49) } else { level });
     }
     writer.finish()
+}
+
+/// 63 to 66 condition-names with one value each, mostly, or as many literals in
+/// fewer names, behind one item or several.
+fn many_conditions(random: &mut Random) -> Vec<u8> {
+    let literals = random.chance(400);
+    let names = match literals {
+        true => random.between(8, 9),
+        false => random.between(63, 66),
+    };
+    let mut writer = Writer::new(random);
+    writer.named = 0;
+    for number in 0..names {
+        if number == 0 || writer.random.chance(20) {
+            writer.put("77 A PIC 9. ");
+        }
+        let values: &[&str] = match (literals, writer.random.below(200)) {
+            (false, 0) => &["1", "2"],
+            (false, _) => &["1"],
+            (true, 0..=9) => &["1 THRU 2"; 4],
+            (true, 10..=19) => &["1"; 7],
+            (true, _) => &["1"; 8],
+        };
+        writer.put(&format!("88 B{number} VALUE {}. ", values.join(" ")));
+    }
+    writer.finish()
+}
+
+/// One level 88 entry around its limits, behind an item of any sort.
+fn conditions(random: &mut Random) -> Vec<u8> {
+    let item = random.pick(&[
+        "77 A PIC 9.",
+        "77 A PIC 9V9.",
+        "77 A PIC S9(4)V99.",
+        "77 A PIC S9 COMP-3.",
+        "77 A PIC X(3).",
+        "77 A PIC A(3).",
+        "01 A. 02 B PIC S9.",
+        "01 A. 88 C VALUE \"XY\". 02 B PIC X.",
+    ]);
+    let literal = random.pick(&[
+        "1", "1.0", ".5", "+1", "-1.5", "\"1\"", "\"\"", "\"\"\"\"", "\"A B.\"", "0", "-0",
+    ]);
+    let other = random.pick(&["2", "1", "-2", "\"2\"", "\" \"", "0.5", "1.50", "\"10\""]);
+    let values = match random.below(6) {
+        0..=1 => literal.to_string(),
+        2..=3 => format!("{literal} THRU {other}"),
+        4 => vec![literal; random.between(7, 9) as usize].join(" "),
+        _ => format!("{literal} {other} THRU {literal}"),
+    };
+    let behind = random.pick(&[
+        "",
+        "",
+        " ",
+        "X",
+        "5",
+        "5.",
+        " 77 D PIC X.",
+        " 02 E PIC 9.",
+        "\"",
+    ]);
+    format!("{item} 88 D VALUE {values}.{behind}").into_bytes()
 }

@@ -27,6 +27,9 @@ pub const WORDS: &[&str] = &[
     "PICTURE",
     "COMP-3",
     "COMP-",
+    "VALUE",
+    "THRU",
+    "VALUES",
     "SIG",
     "X",
     "9",
@@ -36,7 +39,20 @@ pub const WORDS: &[&str] = &[
     "01",
     "77",
     "02",
+    "88",
+    "5",
+    "-5.5",
+    "\"A\"",
 ];
+
+/// What may be compared with an item: texts and whole numbers, all numbers, or
+/// both.
+#[derive(Clone, Copy, PartialEq, Eq)]
+pub enum Sort {
+    Text,
+    Numeric,
+    Whole,
+}
 
 pub struct Writer<'a> {
     pub random: &'a mut Random,
@@ -47,6 +63,8 @@ pub struct Writer<'a> {
     groups: u32,
     /// Entries still to be written; a group's first member comes anyway.
     left: u32,
+    /// Items with condition-names, in a thousand.
+    pub named: u32,
 }
 
 impl Writer<'_> {
@@ -59,6 +77,7 @@ impl Writer<'_> {
             16..=18 => random.between(3, 10),
             _ => random.between(10, 50),
         };
+        let named = random.pick(&[0, 0, 200, 500, 900]);
         let text = Vec::new();
         let mut writer = Writer {
             random,
@@ -66,6 +85,7 @@ impl Writer<'_> {
             wide,
             groups,
             left,
+            named,
         };
         if writer.random.chance(150) {
             writer.blank();
@@ -117,6 +137,7 @@ impl Writer<'_> {
         self.begin(level);
         self.text.push(b'.');
         self.blank();
+        self.conditions(Sort::Text);
         let shared = match self.random.below(10) {
             0 => 49,
             1..=5 => (level + self.random.between(1, 5)).min(49),
@@ -149,15 +170,20 @@ impl Writer<'_> {
         self.blank();
         self.put("PIC");
         self.blank();
-        self.picture();
+        let sort = self.picture();
         self.text.push(b'.');
         self.blank();
+        self.conditions(sort);
     }
 
     fn name(&mut self) -> String {
         if self.random.chance(120) {
             return "FILLER".to_string();
         }
+        self.own_name()
+    }
+
+    pub fn own_name(&mut self) -> String {
         loop {
             let name = self.nearly_a_name();
             if is_name(name.as_bytes()) {
@@ -192,19 +218,19 @@ impl Writer<'_> {
         }
     }
 
-    pub fn picture(&mut self) {
+    pub fn picture(&mut self) -> Sort {
         match self.random.below(12) {
             0..=2 => self.repeated("X", 300),
             3..=4 => self.repeated("A", 300),
-            5..=6 => self.nines(),
+            5..=6 => return self.nines(),
             7 => {
                 self.put("S");
-                self.nines();
+                return self.nines();
             }
-            8..=9 => self.packed(),
+            8..=9 => return self.packed(),
             _ => {
                 self.put("S");
-                self.nines();
+                let sort = self.nines();
                 self.blank();
                 self.put("SIGN");
                 self.blank();
@@ -212,12 +238,14 @@ impl Writer<'_> {
                 self.put(side);
                 self.blank();
                 self.put("SEPARATE");
+                return sort;
             }
         }
+        Sort::Text
     }
 
     /// With S or without, every digit count now and then.
-    fn packed(&mut self) {
+    fn packed(&mut self) -> Sort {
         if self.random.chance(500) {
             self.put("S");
         }
@@ -229,6 +257,7 @@ impl Writer<'_> {
         }
         self.blank();
         self.put("COMP-3");
+        Sort::Numeric
     }
 
     /// The symbol one to three times, with counts up to so many.
@@ -256,9 +285,12 @@ impl Writer<'_> {
         self.put(&format!("({}{count})", "0".repeat(zeros as usize)));
     }
 
-    fn nines(&mut self) {
+    fn nines(&mut self) -> Sort {
         match self.random.below(8) {
-            0..=4 => self.repeated("9", 6),
+            0..=4 => {
+                self.repeated("9", 6);
+                return Sort::Whole;
+            }
             5 => {
                 self.put("V");
                 self.repeated("9", 6);
@@ -273,6 +305,7 @@ impl Writer<'_> {
                 self.repeated("9", 6);
             }
         }
+        Sort::Numeric
     }
 }
 

@@ -1,8 +1,8 @@
 //! Whether the endings that are tried suffice, and what random texts hold.
 
 use crate::descriptions::completions::{longest_shared_beginning, Trier};
-use crate::descriptions::entries::is_valid;
-use crate::descriptions::{describe, generate};
+use crate::descriptions::entries::{complete, is_valid, Form};
+use crate::descriptions::{generate, read};
 use crate::random::Random;
 use crate::rules::Refusal;
 use std::collections::HashMap;
@@ -31,7 +31,7 @@ fn beginnings_of_valid_texts() {
 /// endings did not suffice for a beginning, a longer one would show it.
 #[test]
 fn no_beginning_is_missed() {
-    let likely = b" \n.()-0123456789ABCDEFGHIJKLMNOPQRSTUVWXYZ";
+    let likely = b" \n.()-+\"0123456789ABCDEFGHIJKLMNOPQRSTUVWXYZ";
     let mut random = Random::new(37, 0);
     let mut refused = 0;
     let mut trier = Trier::new();
@@ -73,8 +73,9 @@ fn halving_finds_the_first_fault() {
     }
 }
 
-/// Random cases hold every sort of answer: success, each output too short,
-/// faults inside and at the end, limits, the 65th row, byte 4,096.
+/// Random cases hold every sort of answer: success with and without names, each
+/// output too short, faults inside and at the end, limits of items and of names,
+/// the 65th of every table, byte 4,096.
 #[test]
 fn sorts_of_answers() {
     let mut seen: HashMap<&str, u32> = HashMap::new();
@@ -86,10 +87,24 @@ fn sorts_of_answers() {
             .result
             .map_or_else(|refusal| refusal.place as usize, |_| 0);
         let sort = match answer.result {
-            Ok([_, 64]) => "64 rows",
-            Ok(_) => "read",
-            Err(Refusal { number: 10, .. }) if place > case.rows_room => "rows too short",
-            Err(Refusal { number: 10, .. }) => "places too short",
+            Ok([_, 64, ..]) => "64 rows",
+            Ok([_, _, _, 64, ..]) => "64 names",
+            Ok([_, _, _, _, 320, _]) => "64 literals",
+            Ok([_, _, 0, ..]) => "read",
+            Ok(_) => "read with names",
+            Err(Refusal { number: 10, .. }) => {
+                const SHORT: [&str; 6] = [
+                    "rows short",
+                    "places short",
+                    "names short",
+                    "name places short",
+                    "literals short",
+                    "bytes short",
+                ];
+                let needed = read(&case.text).unwrap().counts();
+                let short = (0..6).find(|&output| case.rooms[output] < needed[output] as usize);
+                SHORT[short.unwrap()]
+            }
             Err(_) if place == 4_096 => "byte 4,096",
             Err(_) if place == case.text.len() => "fault at the end",
             Err(_) if !trier.is_shared(&case.text[..place + 1]) => "fault inside",
@@ -98,33 +113,46 @@ fn sorts_of_answers() {
         *seen.entry(sort).or_default() += 1;
     }
     for (sort, least) in [
-        ("read", 5_000),
+        ("read", 3_000),
+        ("read with names", 2_000),
         ("64 rows", 30),
-        ("rows too short", 700),
-        ("places too short", 300),
+        ("64 names", 15),
+        ("64 literals", 30),
+        ("rows short", 400),
+        ("places short", 300),
+        ("names short", 100),
+        ("name places short", 70),
+        ("literals short", 70),
+        ("bytes short", 70),
         ("byte 4,096", 100),
         ("fault at the end", 700),
         ("fault inside", 3_000),
-        ("limit", 700),
-        ("65th row", 100),
+        ("limit of an item", 500),
+        ("limit of a name", 500),
+        ("65th row", 70),
+        ("65th name", 30),
+        ("65th literal", 30),
     ] {
         let found = seen.get(sort).copied().unwrap_or(0);
-        assert!(found >= least, "{sort}: {found}");
+        assert!(found >= least, "{sort}: {found}, {seen:?}");
     }
     assert_eq!(seen.values().sum::<u32>(), 20_000);
 }
 
-/// Which limit an entry at a place passes: without its beginning the 65th is fine.
+/// Which limit an entry at a place passes, by what stands before it.
 fn limit(text: &[u8], place: usize) -> &'static str {
-    let entry: Vec<u8> = text[place..].iter().take(60).copied().collect();
-    let end = entry
-        .iter()
-        .position(|&byte| byte == b'.')
-        .map_or(0, |at| at + 1);
-    let alone = [b"01", &entry[2.min(end)..end]].concat();
-    let before = text[..place].iter().filter(|&&byte| byte == b'.').count();
-    match describe(&alone, &mut [0; 5], &mut [0; 1]) {
-        Ok(_) if before == 64 => "65th row",
-        _ => "limit",
+    let before = complete(&text[..place]);
+    let items = before.iter().filter(|entry| entry.is_item()).count();
+    let names = before.len() - items;
+    let values = before.iter().map(|entry| match &entry.form {
+        Form::Condition { values } => values.len(),
+        _ => 0,
+    });
+    match text[place] {
+        b'8' if names == 64 => "65th name",
+        b'8' if values.sum::<usize>() > 55 => "65th literal",
+        b'8' => "limit of a name",
+        _ if items == 64 => "65th row",
+        _ => "limit of an item",
     }
 }

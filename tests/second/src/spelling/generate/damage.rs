@@ -173,12 +173,18 @@ pub fn odd_word(random: &mut Random) -> Vec<u8> {
     word.as_bytes().to_vec()
 }
 
+/// The names of items and conditions that are their own.
+pub fn named<'a>(names: &Names<'a>) -> Vec<&'a [u8]> {
+    let tokens = names.tokens().into_iter();
+    tokens.filter_map(|token| names.name(token)).collect()
+}
+
 /// Words in any order, most of them fine.
 pub fn soup(random: &mut Random, description: &[u8]) -> Vec<u8> {
     let described = descriptions::read(description).ok();
     let names = described.map(|described| Names::of(description, &described));
     let named: Vec<&[u8]> = match &names {
-        Some(names) => (0..64).filter_map(|row| names.name(row)).collect(),
+        Some(names) => named(names),
         None => vec![b"A"],
     };
     let odd = random.pick(&[0, 0, 60, 200, 500]);

@@ -4,6 +4,7 @@
 use super::{damage, writer};
 use crate::descriptions;
 use crate::random::Random;
+use crate::rules::tables::ROW;
 use crate::spelling::names::Names;
 
 pub fn text(random: &mut Random, description: &[u8]) -> Vec<u8> {
@@ -20,19 +21,22 @@ pub fn text(random: &mut Random, description: &[u8]) -> Vec<u8> {
 fn name(random: &mut Random, description: &[u8]) -> Vec<u8> {
     let described = descriptions::read(description).ok();
     let names = described.map(|described| Names::of(description, &described));
-    let named = names.and_then(|names| (0..64).find_map(|row| names.name(row)));
-    match named {
-        Some(name) if random.chance(950) => name.to_vec(),
-        _ => b"NO-SUCH".to_vec(),
+    let named = names.map_or_else(Vec::new, |names| damage::named(&names));
+    if named.is_empty() || random.chance(50) {
+        return b"NO-SUCH".to_vec();
     }
+    random.pick(&named).to_vec()
 }
 
-/// 63 to 66 literals, some of them faulty or beyond their limits.
+/// 63 to 66 literals with the description's, some of them faulty or beyond their
+/// limits.
 fn literals(random: &mut Random, description: &[u8]) -> Vec<u8> {
     let mut words = vec![name(random, description), b"=".to_vec()];
     let odd = random.pick(&[0, 0, 10]);
-    for number in 0..random.between(63, 66) {
-        if number > 0 {
+    let described = descriptions::read(description).unwrap_or_default();
+    let there = described.literals.rows.len() / ROW;
+    for number in there..random.between(63, 66) as usize {
+        if number > there {
             words.push(random.pick(&["OR", "AND"]).as_bytes().to_vec());
         }
         words.push(if random.chance(odd) {

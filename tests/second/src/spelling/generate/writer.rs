@@ -8,34 +8,33 @@ use crate::rules::tables::ROW;
 use crate::show::WORDS;
 use crate::spelling::names::Names;
 
-/// The text of a random condition over a description's items.
+/// The text of a random condition over a description's items and names.
 pub fn text(random: &mut Random, description: &[u8]) -> Vec<u8> {
-    let case = over_tables(
-        random,
-        crate::case::Case {
-            items: super::items(description),
-            ..Default::default()
-        },
-    );
+    let case = over_tables(random, super::tables(description));
     let described = descriptions::read(description).ok();
     let names = described.map(|described| Names::of(description, &described));
     let mut words = Vec::new();
     for &token in &case.tokens {
         match token >> 16 {
-            0 => words.push(item(random, names.as_ref(), token)),
+            0 | 5 => words.push(name(random, names.as_ref(), token)),
             1 => words.push(literal(random, &case.literals, &case.bytes, token)),
             2 => words.push(format!("UPSI-{}", token & 0xFFFF).into_bytes()),
             3 => words.extend([b"NOT".to_vec(), format!("UPSI-{}", token & 7).into_bytes()]),
             _ => spell(random, token & 0xFFFF, &mut words),
         }
-        if token >> 16 <= 1 && random.chance(150) {
+        let is = match token >> 16 {
+            0 | 1 => 150,
+            5 => 10,
+            _ => 0,
+        };
+        if random.chance(is) {
             words.push(b"IS".to_vec());
         }
     }
     join(random, &words)
 }
 
-fn item(random: &mut Random, names: Option<&Names>, token: u32) -> Vec<u8> {
+fn name(random: &mut Random, names: Option<&Names>, token: u32) -> Vec<u8> {
     let name = names.and_then(|names| names.name(token));
     match name {
         Some(name) => name.to_vec(),

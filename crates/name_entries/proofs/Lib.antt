@@ -1,0 +1,4 @@
+pub mod Taken
+pub mod Cells
+pub mod Holding
+pub mod Going

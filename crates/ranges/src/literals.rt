@@ -1,0 +1,63 @@
+// One literal, as it is written.
+ghost use mathlib.Core.Path.{_≡_};
+ghost use mathlib.Core.Bool.{true, _&&_};
+ghost use Prim.Native.Nat.{_≤_};
+ghost use lib.ListN.{length};
+ghost use Rattle.description.specs.Stages.{isLiteral};
+ghost use Rattle.typing.specs.Typing.{fitsBeside, sideFits};
+ghost use Rattle.ranges.specs.Spelling.{literalOf, rowFound, heldRow};
+use content::packed::is_packed;
+use literal_words::Number;
+use literal_words::Text;
+use literal_words::numbers::read_number;
+use literal_words::quotes::read_text;
+use tables::Row;
+use tables::rows::is_numeric;
+use words::bytes::byte_at;
+
+// The row of a nonnumeric literal of n bytes.
+fn text_row(n: usize) -> Row
+    requires { ⌜ n ≤ 256 ⌝ }
+    ensures { λ r. ⌜ r ≡ heldRow n ⌝ }
+{
+    Row {
+        kind: 2,
+        offset: 0,
+        size: n as u32,
+        scale: 0,
+        digits: 0,
+    }
+}
+
+// The row of a literal whose bytes would be laid at offset 0, where 01's limits let it have one.
+pub fn literal_row(word: &[u8]) -> Number
+    requires { ⌜ isLiteral (now word) ≡ true ⌝ }
+    ensures { λ r. ⌜ r ≡ rowFound (literalOf (now (word .entry))) ⌝ }
+{
+    if byte_at(word, 0) == 0x22 {
+        return match read_text(word) {
+            Text::Is(n) => Number::Is(text_row(n)),
+            Text::Not => Number::Not,
+        };
+    }
+    read_number(word)
+}
+
+fn fits_beside(row: Row) -> bool
+    ensures { λ r. ⌜ r ≡ fitsBeside row ⌝ }
+{
+    (row.scale == 0) & !is_packed(row.kind)
+}
+
+fn side_fits(side: Row, other: Row) -> bool
+    ensures { λ r. ⌜ r ≡ sideFits side other ⌝ }
+{
+    !is_numeric(side) | is_numeric(other) | fits_beside(side)
+}
+
+// Whether an item and a literal may be compared.
+pub fn may_compare(item: Row, literal: Row) -> bool
+    ensures { λ r. ⌜ r ≡ (sideFits item literal && sideFits literal item) ⌝ }
+{
+    side_fits(item, literal) & side_fits(literal, item)
+}
