@@ -64,7 +64,7 @@ run-answers lent plan content switches p e = e ∙ sym (ap told (after-plan lent
 -- the check of a plan is lent no literal bytes
 module _ (items literals bytes names plan content : List ℕ) (t : firstOf (lentLines (lendNames items literals bytes names)) ≡ Sound) where
   plan-line : {line : Check} → planCheck (lendNames items literals [] names) plan ≡ line → planCheck (lendNames items literals bytes names) plan ≡ line
-  plan-line e = plan-lent items literals bytes names plan ∙ e
+  plan-line e = plan-lent false items literals bytes names plan ∙ e
 
   pub plan-refuses : (switches : ℕ) {refusal : Refusal} → planCheck (lendNames items literals [] names) plan ≡ Refused refusal →
       none refusal ≡ runGives (lendNames items literals bytes names) plan content switches
