@@ -56,19 +56,19 @@ returns c = rw (c .before .enum-told .given .1, c .alone-exists .ensures, ← sw
 
 returns-2 : tie.Need-returns-2
 returns-2 c =
-    let a = c .before .before .before .before .args in
+    let a = c .before .before .before .before .before .before .args in
     let rules = operand-rules (a .off) (lendNames (a .items .now) (a .literals .now) [] (a .names .now)) in
     rw (c .before .enum-told2 .given .1, rules (a .subject), rules (a .object)) (c .two-operands .ensures)
 
 returns-3 : tie.Need-returns-3
 returns-3 c =
-    let a = c .before .before .before .before .args in
+    let a = c .before .before .before .before .before .before .args in
     let rules = operand-rules (a .off) (lendNames (a .items .now) (a .literals .now) [] (a .names .now)) in
     rw (c .before .enum-told3 .given .1, rules (a .subject)) (c .one-operand .ensures)
 
 returns-4 : tie.Need-returns-4
 returns-4 c =
-    let a = c .before .before .before .before .args in
+    let a = c .before .before .before .before .before .before .args in
     let rules = operand-rules (a .off) (lendNames (a .items .now) (a .literals .now) [] (a .names .now)) in
     rw (c .before .enum-told4 .given .1, rules (a .subject)) (c .one-operand2 .ensures)
 
