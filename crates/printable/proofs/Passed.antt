@@ -9,7 +9,7 @@ use lib.Dec.{eqb}
 use lib.ListN.{length, getD, drop, drop-of-length-le}
 use lib.Seq.{drop-cons}
 use borrow.Author.Tests.{eq-eqb, ne-eqb}
-use Rattle.tables.specs.Tokens.{isItem, isOff, exists}
+use Rattle.tables.specs.Tokens.{isItem}
 use Rattle.description.specs.Grammar.{bytes, same, all, isNameByte}
 use Rattle.spelling.specs.Names.{leading, namesAt}
 use Rattle.spelling.specs.Meanings.{count, position}
@@ -18,7 +18,7 @@ use Rattle.naming.specs.declared.Called.{Called}
 use Rattle.naming.specs.declared.Called.the-variants.{Row, Not}
 use Rattle.naming.specs.Named.{calledBy}
 use Rattle.naming.proofs.Finding.{name-at}
-use Rattle.printable.specs.Passing.{passing, mayPrint, uniquely}
+use Rattle.printable.specs.Passing.{passing, uniquely}
 
 module _ (test : ℕ → Bool) (tokens : List ℕ) (i : ℕ) where
   pub passed-end : length tokens ≤ i → passing test (drop i tokens) ≡ 0
@@ -33,10 +33,6 @@ module _ (test : ℕ → Bool) (tokens : List ℕ) (i : ℕ) where
     pub passes-on : test (getD tokens i 0) ≡ true → passing test (drop i tokens) ≡ suc (passing test (drop (i + 1) tokens))
     unfolding passing
     passes-on e = rw (add-one, drop-cons tokens i 0 h, e)
-
--- 3 is an off switch
-pub may-print : (items literals t : ℕ) (r : Bool) → r ≡ exists true items literals t → r && not (eqb (t / 65536) 3) ≡ mayPrint items literals t
-may-print items literals t r e = ap (λ (b : Bool). b && not (isOff t)) e
 
 -- names
 pub leading-bytes : (rest : List ℕ) → all isNameByte (leading rest) ≡ true

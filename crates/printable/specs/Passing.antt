@@ -1,11 +1,11 @@
 -- Tokens before the first that fails a test.
 use mathlib.Core.Path.{_≡_}
-use mathlib.Core.Bool.{Bool, true, cond, not, _&&_}
+use mathlib.Core.Bool.{Bool, false, cond, not, _&&_}
 use mathlib.Core.List.{List, [], _∷_}
 use Prim.Native.Nat.{ℕ, suc, _/_, _%_, _<_}
 use lib.Dec.{eqb}
 use lib.ListN.{length, getD}
-use Rattle.tables.specs.Tokens.{isOff, exists}
+use Rattle.tables.specs.Tokens.{exists}
 use Rattle.description.specs.Grammar.{bytes, same}
 use Rattle.spelling.specs.Meanings.{count}
 
@@ -16,7 +16,7 @@ passing test (t ∷ ts) = cond (test t) (suc (passing test ts)) 0
 
 -- `printable`, by the numbers of names and rows
 abbrev pub mayPrint : ℕ → ℕ → ℕ → Bool
-mayPrint items literals t = exists true items literals t && not (isOff t)
+mayPrint items literals t = exists false items literals t
 
 -- a name that is no FILLER and stands once
 abbrev pub uniquely : List (List ℕ) → List ℕ → Bool

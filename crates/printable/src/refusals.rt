@@ -12,11 +12,11 @@ use naming::parts::name_part;
 use tables::tokens::token_exists;
 use words::keywords::same_bytes;
 
-// Whether there is such a token, and it is no off switch.
+// Whether there is such a token: an off switch is none.
 fn may_print(token: u32, items: usize, literals: usize) -> bool
     ensures { λ r. ⌜ r ≡ mayPrint items literals token ⌝ }
 {
-    token_exists(token, items, literals) & (token / 65536 != 3)
+    token_exists(false, token, items, literals)
 }
 
 // How many tokens stand before the first that there is not.

@@ -1,15 +1,15 @@
 -- The word of a token, by its kind.
 use mathlib.Core.Path.{_≡_, refl, sym, ap, _∙_}
-use mathlib.Core.Bool.{Bool, true, false, cond, not, _&&_, _||_}
+use mathlib.Core.Bool.{Bool, true, false, cond, _&&_, _||_, and-false}
 use mathlib.Core.List.{List, [], _∷_, map}
 use Prim.Native.Nat.{ℕ, _+_, _*_, _/_, _%_, _≤_, _<_}
 use native.Mathlib.Omega.{arith}
 use lib.Dec.{eqb, leb, ltb}
 use lib.ListN.{length, getD, drop}
-use borrow.Author.Tests.{leb-true, ltb-true, ne-eqb, not-true}
+use borrow.Author.Tests.{leb-true, ltb-true, ne-eqb}
 use Rattle.tables.specs.declared.Row.{Row}
 use Rattle.tables.specs.Rows.{rowCount, rowAt}
-use Rattle.tables.specs.Tokens.{isItem, isLiteral, isOn, isOff, isWord, exists}
+use Rattle.tables.specs.Tokens.{isItem, isLiteral, isOn, isOff, isWord}
 use Rattle.tables.specs.Tables.{literalSound}
 use Rattle.tables.proofs.Tests.{both}
 use Rattle.description.specs.Grammar.{same}
@@ -69,19 +69,19 @@ module _ (description places rows content : List ℕ) (t : ℕ) (P : Printable (
   b = isLiteral t && ltb v (rowCount rows)
 
   abbrev c : Bool
-  c = (isOn t || isOff t && true) && leb v 7
+  c = (isOn t || isOff t && false) && leb v 7
 
   abbrev d : Bool
   d = isWord t && leb v 16
 
-  there : (a || b || c || d ≡ true) × (isOff t ≡ false)
-  there = let e = both (exists true (length names) (rowCount rows) t) (not (isOff t)) (P .there) in (e .0, not-true (isOff t) (e .1))
+  there : a || b || c || d ≡ true
+  there = P .there
 
   -- an item
   module _ (k : t / 65536 ≡ 0) where
     pub item-there : v < length places
     item-there =
-        let e = only-first a b c d (rw k) (rw k) (rw k) (there .0) in
+        let e = only-first a b c d (rw k) (rw k) (rw k) there in
         omega (arith, ltb-true v (length names) (both (isItem t) (ltb v (length names)) e .1), names-length description places)
 
     pub item-word : wordOf names rows content t ≡ leading (drop (getD places v 0) description)
@@ -91,7 +91,7 @@ module _ (description places rows content : List ℕ) (t : ℕ) (P : Printable (
   module _ (k : t / 65536 ≡ 1) where
     pub literal-there : v * 5 + 4 < length rows
     literal-there =
-        let e = only-second a b c d (rw k) (rw k) (rw k) (there .0) in
+        let e = only-second a b c d (rw k) (rw k) (rw k) there in
         omega (arith, ltb-true v (rowCount rows) (both (isLiteral t) (ltb v (rowCount rows)) e .1))
 
     pub literal-sound : literalSound content (rowAt rows v) ≡ true
@@ -104,8 +104,8 @@ module _ (description places rows content : List ℕ) (t : ℕ) (P : Printable (
   module _ (k : t / 65536 ≡ 2) where
     pub switch-there : v ≤ 7
     switch-there =
-        let e = only-third a b c d (rw k) (rw k) (rw k) (there .0) in
-        leb-true v 7 (both (isOn t || isOff t && true) (leb v 7) e .1)
+        let e = only-third a b c d (rw k) (rw k) (rw k) there in
+        leb-true v 7 (both (isOn t || isOff t && false) (leb v 7) e .1)
 
     pub switch-word : wordOf names rows content t ≡ getD spelt (17 + v) []
     switch-word = rw k (sym (same-true (getD spelt (17 + v) []) (UPSI v) (below 8 switches-right all-switches v (omega (arith, switch-there)))))
@@ -117,7 +117,7 @@ module _ (description places rows content : List ℕ) (t : ℕ) (P : Printable (
         let i : isItem t ≡ false = ne-eqb (t / 65536) 0 p in
         let l : isLiteral t ≡ false = ne-eqb (t / 65536) 1 q in
         let o : isOn t ≡ false = ne-eqb (t / 65536) 2 r in
-        let e = only-fourth a b c d (rw i) (rw l) (rw (o, there .1)) (there .0) in
+        let e = only-fourth a b c d (rw i) (rw l) (rw (o, and-false (isOff t))) there in
         leb-true v 16 (both (isWord t) (leb v 16) e .1)
 
     pub word-word : wordOf names rows content t ≡ getD spelt v []

@@ -8,10 +8,9 @@ use lib.ListN.{length, getD, length-append}
 use lib.Seq.{getD-append-seam}
 use Rattle.tables.specs.declared.Check.the-variants.{Sound}
 use Rattle.tables.specs.declared.Refusal.the-variants.{Token}
-use Rattle.tables.specs.Tokens.{isOff, exists, tokenThere}
+use Rattle.tables.specs.Tokens.{tokenThere}
 use Rattle.tables.specs.Rows.{rowCount}
 use Rattle.tables.specs.Refusals.{firstFailing}
-use Rattle.tables.proofs.Tests.{both}
 use Rattle.description.specs.Grammar.{Table}
 use Rattle.description.specs.Limits.{Outcome, table, refusal as faulty, describe}
 use Rattle.spelling.specs.Words.{words}
@@ -61,8 +60,8 @@ module _ (names : List (List ℕ)) (few : length names ≤ 64) (text tokens rows
         count-sound = rw (r .tokens-are, r .counted);
         tokens-sound =
             rw (n, r .tokens-are, r .rows-are)
-            (passes (printable names (rowsFrom 0 ps)) (λ t. tokenThere true (length names) (rowCount (rowsFrom 0 ps)) 0 t)
-            (λ t h. rw (both (exists true (length names) (rowCount (rowsFrom 0 ps)) t) (not (isOff t)) h .0)) 6 0 [] (tokensFrom 0 ps)
+            (passes (printable names (rowsFrom 0 ps)) (λ t. tokenThere false (length names) (rowCount (rowsFrom 0 ps)) 0 t)
+            (λ t h. rw h) 6 0 [] (tokensFrom 0 ps)
             (all-printable names (rowsFrom 0 ps) 0 ps c f (omega arith) 0));
       }
 

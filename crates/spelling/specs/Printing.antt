@@ -1,12 +1,12 @@
 -- Document 02, e): tokens written back, "one space between words, relations as symbols".
-use mathlib.Core.Bool.{Bool, true, cond, not, _&&_, _||_}
+use mathlib.Core.Bool.{Bool, false, cond, not, _&&_, _||_}
 use mathlib.Core.List.{List, [], _∷_, _++_, map}
 use Prim.Native.Nat.{ℕ, suc}
 use lib.ListN.{length, getD}
 use lib.Dec.{eqb}
 use Rattle.tables.specs.declared.Check.{Check}
 use Rattle.tables.specs.declared.Check.the-variants.{Sound, Refused}
-use Rattle.tables.specs.Tokens.{indexOf, isItem, isLiteral, isOn, isOff, exists}
+use Rattle.tables.specs.Tokens.{indexOf, isItem, isLiteral, isOn, exists}
 use Rattle.tables.specs.Rows.{rowCount, rowAt, part}
 use Rattle.tables.specs.Operands.{lend}
 use Rattle.tables.specs.Refusals.{number, place}
@@ -52,9 +52,9 @@ unfoldable pub firstToken : (ℕ → Bool) → ℕ → ℕ → List ℕ → Foun
 firstToken sound number at [] = none
 firstToken sound number at (t ∷ ts) = cond (sound t) (firstToken sound number (suc at) ts) (refusal number at)
 
--- "6 for an off switch" too
+-- "6 for an off switch": since document 02, l), it is no token
 abbrev pub printable : List (List ℕ) → List ℕ → ℕ → Bool
-printable names rows t = exists true (length names) (rowCount rows) t && not (isOff t)
+printable names rows t = exists false (length names) (rowCount rows) t
 
 -- "16 for FILLER or a doubled name at its token"
 abbrev pub hasName : List (List ℕ) → ℕ → Bool

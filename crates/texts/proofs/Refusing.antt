@@ -12,12 +12,10 @@ use Rattle.tables.specs.declared.Refusal.{Refusal}
 use Rattle.tables.specs.declared.Refusal.the-variants.{LiteralTable, LiteralRow, TokenCount as WrongCount, Token, Room as Short}
 use Rattle.tables.specs.declared.Check.{Check}
 use Rattle.tables.specs.declared.Check.the-variants.{Sound, Refused as Fails}
-use Rattle.tables.specs.Tokens.{isItem, isLiteral, isOn, isOff, isWord, exists}
 use Rattle.tables.specs.Rows.{rowCount, rowAt}
 use Rattle.tables.specs.Operands.{lend}
 use Rattle.tables.specs.Refusals.{number, place, firstFailing, firstOf, unless}
 use Rattle.tables.specs.Tables.{lengthSound, literalSound, tableLines, literalTableCheck, literalRowCheck, tokenCountCheck}
-use Rattle.tables.proofs.Tests.{both}
 use Rattle.description.specs.Limits.{Outcome, table, refusal as undescribed, describe}
 use Rattle.spelling.specs.Names.{namesAt, namesOf}
 use Rattle.spelling.specs.Reading.{Found, none, refusal, before}
@@ -189,7 +187,7 @@ module _ {description places rows content tokens : List ℕ} (S : Sized descript
   pub items-there : AllThere (length places) tokens
   items-there i h k =
       let t : ℕ = getD tokens i 0 in
-      let e = both (exists true (length names) (rowCount rows) t) (not (isOff t)) (passes-each (printable names rows) tokens there i h) .0 in
+      let e = passes-each (printable names rows) tokens there i h in
       let f : (true && ltb (t % 65536) (length names)) || false || false || false ≡ true = rw k at e in
       omega (arith, ltb-true (t % 65536) (length names) (alone (ltb (t % 65536) (length names)) f), names-length description places)
     where
