@@ -1,5 +1,5 @@
 -- What expand, plan, judge and run answer, one law for each of their returns.
-use mathlib.Core.Path.{_≡_, refl, sym, ap, _∙_}
+use mathlib.Core.Path.{_≡_, sym, ap, _∙_}
 use mathlib.Core.Bool.{false}
 use mathlib.Core.List.{List, [], _++_}
 use Prim.Native.Nat.{ℕ, _*_, _≤_, _<_}
@@ -9,7 +9,6 @@ use Rattle.tables.specs.declared.Refusal.{Refusal}
 use Rattle.tables.specs.declared.Refusal.the-variants.{Room}
 use Rattle.tables.specs.declared.Check.{Check}
 use Rattle.tables.specs.declared.Check.the-variants.{Sound, Refused}
-use Rattle.tables.specs.declared.Written.{Written}
 use Rattle.tables.specs.declared.Written.the-variants.{Count, Refused as Unwritten}
 use Rattle.tables.specs.declared.Judged.{Judged}
 use Rattle.tables.specs.declared.Verdict.the-variants.{Refused as Unjudged}
@@ -28,10 +27,10 @@ use Rattle.grammar.proofs.Lent.{plan-lent}
 use Rattle.grammar.proofs.Segment.{planned-length}
 use Rattle.expander.specs.Spelled.{spelled}
 use Rattle.expander.proofs.Spelled.{spelled-expanded}
-use Rattle.rules.specs.Calls.{conditionLines, Gives, Leaves, writing, expandGives, planGives, told, judgeGives, runGives}
+use Rattle.rules.specs.Calls.{conditionLines, Leaves, writing, expandGives, planGives, told, judgeGives, runGives}
 use Rattle.rules.specs.Demands.{Refuses}
 use Rattle.rules.proofs.Passing.{Passes, passed, read-as, tables-pass}
-use Rattle.rules.proofs.Answers.{writes-over, lacks-room, judges-as, few-leaves, plan-passes, run-judges, refuses, after-tables, after-plan}
+use Rattle.rules.proofs.Answers.{leaves-as, writes-over, lacks-room, judges-as, few-leaves, plan-passes, run-judges, refuses, after-tables, after-plan}
 use Rattle.preparer.specs.declared.Prepared.{Prepared}
 use Rattle.preparer.specs.declared.Prepared.the-variants.{Rows, Refused as Unprepared}
 use Rattle.preparer.specs.Prepared.{Stands, Prepares}
@@ -40,10 +39,6 @@ use Rattle.runner.specs.Runs.{Runnable}
 -- nothing was judged
 abbrev none : Refusal → Judged
 none refusal = record { verdict = Unjudged refusal; count = 0 }
-
--- a call leaves what it gives
-leaves-as : {gives : Gives} {answer : Written} {output : List ℕ} → gives ≡ record { answer = answer; output = output } → Leaves gives answer output
-leaves-as e = rw e (record { answered = refl; left = refl })
 
 -- n numbers are to be written, those of the tree
 module _ {lent : Lent} {tokens : List ℕ} {t : Tree} (p : Passes lent tokens t) (make : Tree → List ℕ) {numbers : List ℕ} (e : numbers ≡ make t)

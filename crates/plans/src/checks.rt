@@ -79,13 +79,7 @@ fn row_sound(
 }
 
 // 11: a plan of 1 to 128 rows of five, and the first row that is not as a plan's rows are.
-pub fn check_plan(
-    off: bool,
-    items: &[u32],
-    literals: &[u32],
-    names: &[u32],
-    plan: &[u32],
-) -> Check
+pub fn check_plan(off: bool, items: &[u32], literals: &[u32], names: &[u32], plan: &[u32]) -> Check
     ensures { λ r. ⌜ r ≡ planCheck (under off (lendNames (now (items .entry)) (now (literals .entry)) [] (now (names .entry)))) (now (plan .entry)) ⌝ }
 {
     let rows = plan.len() / 5;
