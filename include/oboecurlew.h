@@ -43,8 +43,8 @@ enum oboecurlew_refusal {
     OBOECURLEW_ITEM_ROW = 2,      /* an item row breaks its rules: the first such row */
     OBOECURLEW_LITERAL_TABLE = 3, /* as 1 */
     OBOECURLEW_LITERAL_ROW = 4,   /* as 2 */
-    OBOECURLEW_TOKEN_COUNT = 5,   /* 0 tokens or over 256: 0 */
-    OBOECURLEW_TOKEN = 6,         /* no such token, or beyond its table: the first such token */
+    OBOECURLEW_TOKEN_COUNT = 5,   /* 0 tokens or over 256, converted ones too: 0 */
+    OBOECURLEW_TOKEN = 6,         /* no such token (a switch-off word is none), or beyond its table: the first such token */
     OBOECURLEW_GRAMMAR = 7,       /* no condition: the length of the longest beginning that one shares */
     OBOECURLEW_DEPTH = 8,         /* 17 brackets open at once: the first "(" that makes 17 open */
     OBOECURLEW_TYPING = 9,        /* typing broken: the first such simple condition */
@@ -81,7 +81,7 @@ enum oboecurlew_kind {
 #define OBOECURLEW_ITEM(row) OBOECURLEW_TOKEN(0, row)
 #define OBOECURLEW_LITERAL(row) OBOECURLEW_TOKEN(1, row)
 #define OBOECURLEW_ON(number) OBOECURLEW_TOKEN(2, number)
-#define OBOECURLEW_OFF(number) OBOECURLEW_TOKEN(3, number)
+#define OBOECURLEW_OFF(number) OBOECURLEW_TOKEN(3, number) /* retired: only the converters take it */
 #define OBOECURLEW_WORD(word) OBOECURLEW_TOKEN(4, word)
 #define OBOECURLEW_CONDITION(row) OBOECURLEW_TOKEN(5, row) /* a condition-name, of which names has the row */
 
@@ -149,6 +149,21 @@ uint32_t oboecurlew_merge(const uint32_t *items, size_t item_numbers, const uint
                           size_t plan_numbers, const uint8_t *old, size_t old_size, const uint8_t *first, size_t first_size,
                           const uint8_t *second, size_t second_size, uint8_t switches, uint8_t *merged, size_t merged_size,
                           uint32_t *contested, size_t contested_numbers, oboecurlew_answer *answer);
+
+/* Converts a condition of the rules that had switch-off words: NOT before one becomes the switch-on word alone, a bare one NOT and the
+ * switch-on word. 256 numbers hold every converted condition. Refusals 1 to 9, 18 by those rules, then 5 where it would have over 256
+ * tokens, then 10. */
+uint32_t oboecurlew_convert_condition(const uint32_t *items, size_t item_numbers, const uint32_t *literals, size_t literal_numbers,
+                                      const uint8_t *bytes, size_t byte_count, const uint32_t *names, size_t name_numbers,
+                                      const uint32_t *tokens, size_t token_count,
+                                      uint32_t *output, size_t output_numbers, oboecurlew_answer *answer);
+
+/* Converts a plan of those rules: a row of an off switch names the on switch, its targets exchanged. The output is as long as the plan.
+ * Refusals 1 to 4, 18, 11 by those rules, then 10. */
+uint32_t oboecurlew_convert_plan(const uint32_t *items, size_t item_numbers, const uint32_t *literals, size_t literal_numbers,
+                                 const uint8_t *bytes, size_t byte_count, const uint32_t *names, size_t name_numbers,
+                                 const uint32_t *plan, size_t plan_numbers,
+                                 uint32_t *output, size_t output_numbers, oboecurlew_answer *answer);
 
 /* Mends a record in place: in each item of kinds 3 to 6, spaces that lead its digits become 0 and a blank separate sign +, where the
  * item is valid then. Lists each changed byte, three numbers: offset, old, new, by rising offset. Three numbers for each byte of the

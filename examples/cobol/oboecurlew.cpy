@@ -12,7 +12,9 @@
       *>     BY REFERENCE OBOECURLEW-ANSWER
       *>     RETURNING OBOECURLEW-REFUSAL
       *>
-      *> oboecurlew_expand takes the same. oboecurlew_judge takes the
+      *> oboecurlew_expand takes the same, and so do
+      *> oboecurlew_convert_condition and, with a plan in the tokens'
+      *> place, oboecurlew_convert_plan. oboecurlew_judge takes the
       *> record's bytes in the output's place and then, BY VALUE, the
       *> switch byte; oboecurlew_run the same with a plan in the
       *> tokens' place. oboecurlew_describe takes a text, item rows and
@@ -72,10 +74,10 @@
        78  PACKED-ROW               VALUE 8.
        78  PACKED-UNSIGNED-ROW      VALUE 9.
       *> Tokens: an item is its row, a literal FIRST-LITERAL plus its
-      *> row, a switch FIRST-ON or FIRST-OFF plus its number, a
-      *> condition-name FIRST-CONDITION plus its row, which is 18
-      *> numbers: item row, a count of 1 to 8, that many pairs of
-      *> literal rows, zeros.
+      *> row, a switch FIRST-ON plus its number, a condition-name
+      *> FIRST-CONDITION plus its row, which is 18 numbers: item row, a
+      *> count of 1 to 8, that many pairs of literal rows, zeros.
+      *> FIRST-OFF is retired: only the converters take it.
        78  FIRST-ITEM               VALUE 0.
        78  FIRST-LITERAL            VALUE 65536.
        78  FIRST-ON                 VALUE 131072.

@@ -22,9 +22,7 @@ pub fn text(
         edition: Default::default(),
     };
     check_literals(&tables)?;
-    check_each_token(tokens, |token| {
-        exists(&tables, token) && kind_of(token) != 3
-    })?;
+    check_each_token(tokens, |token| exists(&tables, token))?;
     let mut words = Vec::new();
     for (place, &token) in tokens.iter().enumerate() {
         match word(names, &tables, token) {
