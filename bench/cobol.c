@@ -38,7 +38,7 @@ static void write_program(int number, const struct condition *c)
     printf("IDENTIFICATION DIVISION.\nPROGRAM-ID. CONDITION%d.\n"
            "ENVIRONMENT DIVISION.\nCONFIGURATION SECTION.\nSPECIAL-NAMES.\n", number);
     for (int s = 0; s < 8; s++)
-        printf("    SWITCH-%d IS SW%d ON STATUS IS S%d-ON OFF STATUS IS S%d-OFF%s\n", s, s, s, s, s == 7 ? "." : "");
+        printf("    SWITCH-%d IS SW%d ON STATUS IS S%d-ON%s\n", s, s, s, s == 7 ? "." : "");
     printf("DATA DIVISION.\nWORKING-STORAGE SECTION.\n01 THE-RECORD.\n");
     for (const struct item *i = c->given; i->name; i++) {
         write_item(i);

@@ -16,7 +16,7 @@ uint32_t digits_of(uint32_t kind, uint32_t size);
 struct condition {
     const char *name;
     const struct item *given; /* up to one without a name; they lie in the record one after the other */
-    const char *text;         /* words apart by a space; text literals in ' and without spaces; switches as S0-ON, S0-OFF */
+    const char *text;         /* words apart by a space; text literals in ' and without spaces; switches as S0-ON */
 
     /* what the library takes */
     uint32_t items[320], literals[320], names[1152], tokens[512];
