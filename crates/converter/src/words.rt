@@ -21,7 +21,8 @@ fn on_word(token: u32) -> u32
 fn leads_not(waits: bool, token: u32) -> bool
     ensures { λ r. ⌜ r ≡ leads waits token ⌝ }
 {
-    if token / 65536 == 3 {
+    let off = token / 65536 == 3;
+    if off {
         return !waits;
     }
     waits

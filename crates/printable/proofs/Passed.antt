@@ -9,7 +9,6 @@ use lib.Dec.{eqb}
 use lib.ListN.{length, getD, drop, drop-of-length-le}
 use lib.Seq.{drop-cons}
 use borrow.Author.Tests.{eq-eqb, ne-eqb}
-use Rattle.tables.specs.Tokens.{isItem}
 use Rattle.description.specs.Grammar.{bytes, same, all, isNameByte}
 use Rattle.spelling.specs.Names.{leading, namesAt}
 use Rattle.spelling.specs.Meanings.{count, position}

@@ -1,7 +1,6 @@
 -- What `token_there` ensures, and the laws of a loop that seeks the first place that fails a test.
 use Prim.Native.Nat.{_-_}
 use native.Mathlib.Omega.{arith}
-use mathlib.Core.Bool.{true}
 use lib.ListN.{length, getD}
 use Rattle.tables.specs.Tokens.{tokenThere}
 use Rattle.tables.specs.declared.Refusal.the-variants.{Token}

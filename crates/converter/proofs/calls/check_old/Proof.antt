@@ -16,8 +16,11 @@ enum-known-tables c = search needs
 
 returns : tie.Need-returns
 returns c =
-    let a = c .before .before .before .before .before .before .before .before .before .args in
-    lent-refused (a .items .now) (a .literals .now) (a .bytes .now) (a .names .now) (a .plan .now) (tables-refused (under true (lendNames (a .items .now) (a .literals .now) (a .bytes .now) (a .names .now))) (c .before .before .before .check-tables .ensures) (c .before .tables .given .1))
+    let t = c .before .before .before in
+    let a = t .before .before .before .before .before .before .args in
+    let lent = under true (lendNames (a .items .now) (a .literals .now) (a .bytes .now) (a .names .now)) in
+    lent-refused (a .items .now) (a .literals .now) (a .bytes .now) (a .names .now) (a .plan .now)
+    (tables-refused lent (t .check-tables .ensures) (c .before .tables .given .1))
 
 enum-told : tie.Need-enum-told
 enum-told c = search needs
@@ -30,8 +33,10 @@ enum-known-named c = search needs
 
 returns-2 : tie.Need-returns-2
 returns-2 c =
-    let a = c .before .before .before .before .before .before .before .before .before .before .before .before .args in
-    let tried = names-tried (under true (lendNames (a .items .now) (a .literals .now) (a .bytes .now) (a .names .now))) (c .before .before .before .before .before .before .check-tables .ensures) (c .before .before .before .before .enum-told .given .1) (c .before .before .before .check-names .ensures) in
+    let t = c .before .before .before .before .before .before in
+    let a = t .before .before .before .before .before .before .args in
+    let lent = under true (lendNames (a .items .now) (a .literals .now) (a .bytes .now) (a .names .now)) in
+    let tried = names-tried lent (t .check-tables .ensures) (c .before .before .before .before .enum-told .given .1) (c .before .before .before .check-names .ensures) in
     lent-refused (a .items .now) (a .literals .now) (a .bytes .now) (a .names .now) (a .plan .now) (sym tried ∙ c .before .named .given .1)
 
 enum-told-2 : tie.Need-enum-told-2
@@ -42,8 +47,10 @@ check-plan-requires c κs = search needs
 
 returns-3 : tie.Need-returns-3
 returns-3 c =
-    let a = c .before .before .before .before .before .before .before .before .before .before .before .before .args in
-    let tried = names-tried (under true (lendNames (a .items .now) (a .literals .now) (a .bytes .now) (a .names .now))) (c .before .before .before .before .before .before .check-tables .ensures) (c .before .before .before .before .enum-told .given .1) (c .before .before .before .check-names .ensures) in
+    let t = c .before .before .before .before .before .before in
+    let a = t .before .before .before .before .before .before .args in
+    let lent = under true (lendNames (a .items .now) (a .literals .now) (a .bytes .now) (a .names .now)) in
+    let tried = names-tried lent (t .check-tables .ensures) (c .before .before .before .before .enum-told .given .1) (c .before .before .before .check-names .ensures) in
     plan-tried (a .items .now) (a .literals .now) (a .bytes .now) (a .names .now) (a .plan .now) (sym tried ∙ c .before .enum-told2 .given .1) (c .check-plan .ensures)
 
 pub check-old-spec : {M : Type 1} → statement M

@@ -23,32 +23,43 @@ converted-length-requires c κs = search needs
 
 returns : tie.Need-returns
 returns c =
-    let a = c .before .before .before .before .before .before .before .before .before .before .before .before .before .args in
-    convert-long (lendNames (a .items .now) (a .literals .now) (a .bytes .now) (a .names .now)) (a .tokens .now) (a .output .now) (c .before .before .before .before .before .prepare .ensures) (c .before .before .enum-told .given .1) (c .before .converted-length .ensures) (c .if1 .taken)
+    let t = c .before .before .before .before .before in
+    let a = t .before .before .before .before .before .before .before .before .args in
+    let lent = lendNames (a .items .now) (a .literals .now) (a .bytes .now) (a .names .now) in
+    convert-long lent (a .tokens .now) (a .output .now) (t .prepare .ensures) (c .before .before .enum-told .given .1) (c .before .converted-length .ensures) (c .if1 .taken)
 
 returns-2 : tie.Need-returns-2
 returns-2 c =
-    let a = c .before .before .before .before .before .before .before .before .before .before .before .before .before .before .args in
-    convert-no-room (lendNames (a .items .now) (a .literals .now) (a .bytes .now) (a .names .now)) (a .tokens .now) (a .output .now) (c .before .before .before .before .before .before .prepare .ensures) (c .before .before .before .enum-told .given .1) (c .before .before .converted-length .ensures) (c .before .if1 .left) (c .if2 .taken)
+    let t = c .before .before .before .before .before .before in
+    let a = t .before .before .before .before .before .before .before .before .args in
+    let lent = lendNames (a .items .now) (a .literals .now) (a .bytes .now) (a .names .now) in
+    let rows = c .before .before .before .enum-told .given .1 in
+    convert-no-room lent (a .tokens .now) (a .output .now) (t .prepare .ensures) rows (c .before .before .converted-length .ensures) (c .before .if1 .left) (c .if2 .taken)
 
 write-converted-requires : tie.Need-write-converted-requires
 write-converted-requires c κs = omega (arith, c .before .before .before .converted-length .ensures, c .before .if2 .left)
 
 returns-3 : tie.Need-returns-3
 returns-3 c =
-    let a = c .before .before .before .before .before .before .before .before .before .before .before .before .args in
-    convert-refused (lendNames (a .items .now) (a .literals .now) (a .bytes .now) (a .names .now)) (a .tokens .now) (a .output .now) (c .before .before .before .before .prepare .ensures) (c .before .prepared .given .1)
+    let t = c .before .before .before .before in
+    let a = t .before .before .before .before .before .before .before .before .args in
+    let lent = lendNames (a .items .now) (a .literals .now) (a .bytes .now) (a .names .now) in
+    convert-refused lent (a .tokens .now) (a .output .now) (t .prepare .ensures) (c .before .prepared .given .1)
 
 same-length : tie.Need-same-length
 same-length c = search needs
 
 returns-4 : tie.Need-returns-4
 returns-4 c =
-    let a = c .before .before .before .before .before .before .before .before .before .before .before .before .before .before .before .before .before .before .args in
-    let w = c .before .before .write-converted in
-    let short = c .before .before .before .before .before .if1 .left in
+    let t = c .before .before .before .before .before .before .before .before .before .before in
+    let a = t .before .before .before .before .before .before .before .before .args in
+    let lent = lendNames (a .items .now) (a .literals .now) (a .bytes .now) (a .names .now) in
+    let rows = c .before .before .before .before .before .before .before .enum-told .given .1 in
+    let (size, left) = c .before .before .write-converted .ensures in
     let n = c .before .before .before .before .before .before .converted-length .ensures in
-    convert-written (lendNames (a .items .now) (a .literals .now) (a .bytes .now) (a .names .now)) (a .tokens .now) (a .output .now) (c .before .before .before .before .before .before .before .before .before .before .prepare .ensures) (c .before .before .before .before .before .before .before .enum-told .given .1) (w .ensures .0) (omega (arith, w .ensures .0, n, short)) (omega (arith, w .ensures .0, n, c .before .before .before .before .if2 .left)) (w .ensures .1)
+    let short = c .before .before .before .before .before .if1 .left in
+    let room = c .before .before .before .before .if2 .left in
+    convert-written lent (a .tokens .now) (a .output .now) (t .prepare .ensures) rows size (omega (arith, size, n, short)) (omega (arith, size, n, room)) left
 
 pub convert-condition-spec : {M : Type 1} → statement M
 convert-condition-spec =

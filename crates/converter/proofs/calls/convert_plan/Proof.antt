@@ -13,33 +13,41 @@ enum-known-old c = search needs
 
 returns : tie.Need-returns
 returns c =
-    let a = c .before .before .before .before .before .before .before .before .before .before .args in
-    plan-refused (a .items .now) (a .literals .now) (a .bytes .now) (a .names .now) (a .plan .now) (a .output .now) (c .before .before .before .check-old .ensures) (c .before .old .given .1)
+    let t = c .before .before .before in
+    let a = t .before .before .before .before .before .before .before .args in
+    plan-refused (a .items .now) (a .literals .now) (a .bytes .now) (a .names .now) (a .plan .now) (a .output .now) (t .check-old .ensures) (c .before .old .given .1)
 
 enum-told : tie.Need-enum-told
 enum-told c = search needs
 
 returns-2 : tie.Need-returns-2
 returns-2 c =
-    let a = c .before .before .before .before .before .before .before .before .before .before .args in
-    let tried = c .before .before .before .check-old .ensures in
+    let t = c .before .before .before in
+    let a = t .before .before .before .before .before .before .before .args in
+    let tried = t .check-old .ensures in
     let sound = c .before .enum-told .given .1 in
-    plan-no-room (a .items .now) (a .literals .now) (a .bytes .now) (a .names .now) (a .plan .now) (a .output .now) tried sound (plan-size (a .items .now) (a .literals .now) (a .bytes .now) (a .names .now) (a .plan .now) (a .output .now) tried sound) (c .if1 .taken)
+    let size = plan-size (a .items .now) (a .literals .now) (a .bytes .now) (a .names .now) (a .plan .now) (a .output .now) tried sound in
+    plan-no-room (a .items .now) (a .literals .now) (a .bytes .now) (a .names .now) (a .plan .now) (a .output .now) tried sound size (c .if1 .taken)
 
 write-plan-requires : tie.Need-write-plan-requires
 write-plan-requires c κs =
-    let a = c .before .before .before .before .before .before .before .before .before .before .before .args in
-    omega (arith, plan-size (a .items .now) (a .literals .now) (a .bytes .now) (a .names .now) (a .plan .now) (a .output .now) (c .before .before .before .before .check-old .ensures) (c .before .before .enum-told .given .1), c .before .if1 .left)
+    let t = c .before .before .before .before in
+    let a = t .before .before .before .before .before .before .before .args in
+    let size = plan-size (a .items .now) (a .literals .now) (a .bytes .now) (a .names .now) (a .plan .now) (a .output .now) (t .check-old .ensures) (c .before .before .enum-told .given .1) in
+    omega (arith, size, c .before .if1 .left)
 
 same-length : tie.Need-same-length
 same-length c = search needs
 
 returns-3 : tie.Need-returns-3
 returns-3 c =
-    let a = c .before .before .before .before .before .before .before .before .before .before .before .before .before .before .args in
-    let tried = c .before .before .before .before .before .before .before .check-old .ensures in
+    let t = c .before .before .before .before .before .before .before in
+    let a = t .before .before .before .before .before .before .before .args in
+    let tried = t .check-old .ensures in
     let sound = c .before .before .before .before .before .enum-told .given .1 in
-    plan-written (a .items .now) (a .literals .now) (a .bytes .now) (a .names .now) (a .plan .now) (a .output .now) tried sound (plan-size (a .items .now) (a .literals .now) (a .bytes .now) (a .names .now) (a .plan .now) (a .output .now) tried sound) (c .before .before .before .before .if1 .left) (c .before .before .write-plan .ensures)
+    let size = plan-size (a .items .now) (a .literals .now) (a .bytes .now) (a .names .now) (a .plan .now) (a .output .now) tried sound in
+    let room = c .before .before .before .before .if1 .left in
+    plan-written (a .items .now) (a .literals .now) (a .bytes .now) (a .names .now) (a .plan .now) (a .output .now) tried sound size room (c .before .before .write-plan .ensures)
 
 pub convert-plan-spec : {M : Type 1} → statement M
 convert-plan-spec =

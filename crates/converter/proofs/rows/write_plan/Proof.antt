@@ -26,7 +26,7 @@ five r = refl
 
 -- the room for a row
 room : (c : tie.After-on-row Inv-loop μ-loop) → c .before .before .before .loop .k * 5 + 5 ≤ length (c .before .before .before .before .before .before .args .out .now)
-room c = omega (arith, c .before .before .loop-test .taken, c .before .before .before .before .before .before .pre, converted-length (c .before .before .before .before .before .before .args .plan .now))
+room c = let start = c .before .before .before .before .before .before in omega (arith, c .before .before .loop-test .taken, start .pre, converted-length (start .args .plan .now))
 
 loop-holds : tie.Need-loop-holds Inv-loop μ-loop
 loop-holds c = (omega arith, rw (begun-none (c .before .before .args .plan .now)) (front-none _))
@@ -53,7 +53,10 @@ part-write-row-end : tie.Need-part-write-row-end Inv-loop μ-loop
 part-write-row-end c = search needs
 
 write-row-requires : tie.Need-write-row-requires Inv-loop μ-loop
-write-row-requires c κs = rw (front-rest (c .before .before .before .before .loop .inv .1)) (omega (arith, room (c .before), length-drop (c .before .before .before .before .loop .k * 5) (c .before .before .before .before .before .before .before .args .out .now)))
+write-row-requires c κs =
+    let l = c .before .before .before .before .loop in
+    let out = c .before .before .before .before .before .before .before .args .out .now in
+    rw (front-rest (l .inv .1)) (omega (arith, room (c .before), length-drop (l .k * 5) out))
 
 add-k : tie.Need-add-k Inv-loop μ-loop
 add-k c = omega arith
@@ -63,12 +66,15 @@ loop-less c = omega arith
 
 loop-again : tie.Need-loop-again Inv-loop μ-loop
 loop-again c =
-    let l = c .before .before .before .before .before .before .before .loop in
-    let plan = c .before .before .before .before .before .before .before .before .before .before .args .plan .now in
-    let row : c .before .before .before .before .on-row .result ≡ onRow (planRow plan (l .k)) = c .before .before .before .before .on-row .ensures ∙ ap onRow (c .before .before .before .before .before .plan-row .ensures) in
+    let t = c .before .before .before .before in
+    let l = t .before .before .before .loop in
+    let plan = t .before .before .before .before .before .before .args .plan .now in
+    let r = onRow (planRow plan (l .k)) in
+    let row : t .on-row .result ≡ r = t .on-row .ensures ∙ ap onRow (t .before .plan-row .ensures) in
     let z : (l .k + 1) * 5 ≡ l .k * 5 + 5 = omega arith in
-    let g = rw row at (c .before .before .write-row .ensures) in
-    (omega arith, rw (begun-more plan (l .k), z) (front-part (l .inv .1) (flat (onRow (planRow plan (l .k)) ∷ [])) (c .before .before .write-row .last .0) 5 (five (onRow (planRow plan (l .k)))) (room (c .before .before .before .before)) g))
+    let w = c .before .before .write-row in
+    let more = front-part (l .inv .1) (flat (r ∷ [])) (w .last .0) 5 (five r) (room t) (rw row at (w .ensures)) in
+    (omega arith, rw (begun-more plan (l .k), z) more)
 
 same-length : tie.Need-same-length Inv-loop μ-loop
 same-length c = front-length (c .before .loop .inv .1)

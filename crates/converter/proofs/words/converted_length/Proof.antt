@@ -42,7 +42,8 @@ loop-less c = omega arith
 loop-again : tie.Need-loop-again Inv-loop μ-loop
 loop-again c =
     let l = c .before .before .before .loop in
-    (l .inv .0 ++ step (l .waits) (getD (c .before .before .before .before .before .args .tokens .now) (l .at) 0), rw (c .step-width .ensures) (further (l .inv .1) (c .before .before .loop-test .taken)))
+    let x = getD (c .before .before .before .before .before .args .tokens .now) (l .at) 0 in
+    (l .inv .0 ++ step (l .waits) x, rw (c .step-width .ensures) (further (l .inv .1) (c .before .before .loop-test .taken)))
 
 not-width-requires : tie.Need-not-width-requires Inv-loop μ-loop
 not-width-requires c κs = search needs

@@ -7,7 +7,7 @@ use lib.Dec.{eqb}
 use Rattle.tables.proofs.Front.{Front, front-none, front-length, front-rest, front-part}
 use Rattle.grammar.specs.Converted.{notIf}
 use Rattle.converter.specs.Steps.{step}
-use Rattle.converter.proofs.Progress.{Progress, not-few, start, upto, further, ended}
+use Rattle.converter.proofs.Progress.{Progress, start, upto, further, ended}
 use borrow.Author.Needs.{needs}
 use Rattle.converter.proofs.words.write_converted.Statement.{statement}
 use Rattle.converter.proofs.words.write_converted.Tie as tie

@@ -12,17 +12,27 @@ use Rattle.converter.proofs.words.write_step.Statement.{statement}
 use Rattle.converter.proofs.words.write_step.Tie as tie
 
 -- the NOT is written
-led : (c : tie.Else1) → let a = c .before .before .before .before .before .before .before .args in Front (notIf (leads (a .waits) (a .token))) (a .out .now) (c .before .before .before .write-not .result) (c .before .before .before .write-not .last .0)
-led c =
+led : (c : tie.Else1) →
+    let w = c .before .before .before .write-not in
     let a = c .before .before .before .before .before .before .before .args in
-    let (e, g) = rw (c .before .before .before .before .leads-not .ensures) at (c .before .before .before .write-not .ensures) in
-    record { size = e; fits = omega (arith, e, step-least (a .waits) (a .token), c .before .before .before .before .before .before .before .pre); holds = g }
+    Front (notIf (leads (a .waits) (a .token))) (a .out .now) (w .result) (w .last .0)
+led c =
+    let t = c .before .before .before in
+    let start = t .before .before .before .before in
+    let a = start .args in
+    let (e, g) = rw (t .before .leads-not .ensures) at (t .write-not .ensures) in
+    record { size = e; fits = omega (arith, e, step-least (a .waits) (a .token), start .pre); holds = g }
 
 room : (c : tie.Else1) → c .before .before .before .write-not .result + 1 ≤ length (c .before .before .before .before .before .before .before .args .out .now)
 room c =
-    let a = c .before .before .before .before .before .before .before .args in
-    let h = rw (step-word (a .waits) (a .token) (c .if1 .left)) at (c .before .before .before .before .before .before .before .pre) in
+    let start = c .before .before .before .before .before .before .before in
+    let a = start .args in
+    let h = rw (step-word (a .waits) (a .token) (c .if1 .left)) at (start .pre) in
     omega (arith, h, led c .size, length-append (notIf (leads (a .waits) (a .token))) (onWord (a .token) ∷ []))
+
+-- it is one token or none
+few : (c : tie.Else1) → c .before .before .before .write-not .result ≤ 1
+few c = let a = c .before .before .before .before .before .before .before .args in omega (arith, led c .size, not-few (leads (a .waits) (a .token)))
 
 leads-not-requires : tie.Need-leads-not-requires
 leads-not-requires c κs = search needs
@@ -44,13 +54,13 @@ on-word-requires : tie.Need-on-word-requires
 on-word-requires c κs = search needs
 
 mul-out : tie.Need-mul-out
-mul-out c = omega (arith, led (c .before) .size, not-few (leads (c .before .before .before .before .before .before .before .before .args .waits) (c .before .before .before .before .before .before .before .before .args .token)))
+mul-out c = omega (arith, few (c .before))
 
 slice-write-out : tie.Need-slice-write-out
 slice-write-out c = omega (arith, front-length (led (c .before)), room (c .before))
 
 add-result : tie.Need-add-result
-add-result c = omega (arith, led (c .before) .size, not-few (leads (c .before .before .before .before .before .before .before .before .args .waits) (c .before .before .before .before .before .before .before .before .args .token)))
+add-result c = omega (arith, few (c .before))
 
 same-length-2 : tie.Need-same-length-2
 same-length-2 c = search needs
