@@ -1,0 +1,36 @@
+-- Document 02, n): marks of the item rows that simple conditions name, one mark for each row of the item table.
+use mathlib.Core.Bool.{cond}
+use mathlib.Core.List.{List, [], _∷_}
+use Prim.Native.Nat.{ℕ}
+use lib.ListN.{getD, set}
+use lib.Dec.{eqb}
+use Rattle.tables.specs.Operands.{Lent, lendNames}
+use Rattle.tables.specs.declared.Outcome.{Outcome}
+use Rattle.tables.specs.declared.Outcome.the-variants.{True, False, Stopped}
+use Rattle.typing.specs.Tests.{testOf}
+use Rattle.grammar.specs.declared.PlanRow.{PlanRow}
+use Rattle.grammar.specs.Plan.{onFalse, planRow}
+use Rattle.rules.specs.Footprint.{rowsAsked}
+
+-- the marks once each of these rows is marked; a row that has no mark changes none
+unfoldable pub marked : List ℕ → List ℕ → List ℕ
+marked marks [] = marks
+marked marks (row ∷ rows) = marked (set marks row 1) rows
+
+-- what row v lists: itself, where it is marked
+abbrev pub markedRow : List ℕ → ℕ → List ℕ
+markedRow marks v = cond (eqb (getD marks v 0) 0) [] (v ∷ [])
+
+-- what a function needs to know of the tables to tell the rows of a simple condition: the names
+abbrev pub lentNames : List ℕ → Lent
+lentNames names = lendNames [] [] [] names
+
+-- the item rows of row k of a plan
+abbrev pub rowsAt : Lent → List ℕ → ℕ → List ℕ
+rowsAt lent plan k = rowsAsked lent (testOf (planRow plan k .relation)) (planRow plan k .subject) (planRow plan k .object)
+
+-- where a run goes after a row; after a stop it goes nowhere, as after a verdict
+abbrev pub next : PlanRow → Outcome → ℕ
+next row True = row .holds
+next row False = row .fails
+next row (Stopped stop) = onFalse
