@@ -1,8 +1,8 @@
 -- Laws of marks, of a loop over the rows of a plan that sets them, and of one that follows a run.
 use mathlib.Core.Path.{_≡_, refl, sym, ap, _∙_}
 use mathlib.Core.Bool.{Bool, true, false, cond}
-use mathlib.Core.List.{List, [], _∷_, _++_}
-use Prim.Native.Nat.{ℕ, zero, suc, _+_, _-_, _<_, _≤_}
+use mathlib.Core.List.{List, [], _∷_, _++_, List·Memᴰ·head, Memᴰ·append-left, Memᴰ·append-right}
+use Prim.Native.Nat.{ℕ, zero, suc, _+_, _-_, _*_, _<_, _≤_}
 use native.Mathlib.Omega.{arith}
 use native.Mathlib.Decide.{ℕ-discrete}
 use native.Mathlib.Nat.{add-zero}
@@ -16,6 +16,7 @@ use Rattle.tables.specs.declared.Check.{Check}
 use Rattle.tables.specs.declared.Check.the-variants.{Sound, Refused}
 use Rattle.tables.specs.declared.Written.the-variants.{Count, Refused as Unwritten}
 use Rattle.tables.specs.Operands.{Lent}
+use Rattle.tables.specs.Names.{nameItem}
 use Rattle.tables.specs.Tokens.{isItem, isName, indexOf}
 use Rattle.typing.specs.declared.Test.{Test}
 use Rattle.typing.specs.declared.Test.the-variants.{Alone, Relation, Class, Sign, Unknown}
@@ -33,7 +34,7 @@ use Rattle.rules.specs.Calls.{roomCheck, writes, Leaves}
 use Rattle.rules.specs.Footprint.{itemsAmong, rowsAsked, footprint}
 use Rattle.runner.specs.Runs.{Runnable}
 use Rattle.runner.proofs.Running.{certain}
-use Rattle.walker.specs.Marks.{marked, markedRow, lentNames, rowsAt, next}
+use Rattle.walker.specs.Marks.{marked, markedRow, lentNames, AllBelow, Markable, rowsAt, next}
 
 pub marked-none : (marks : List ℕ) → marked marks [] ≡ marks
 unfolding marked
@@ -103,6 +104,10 @@ module _ (marks : List ℕ) (x : ℕ) where
   unfolding itemsAmong marked
   operand-unmarked e = rw e
 
+  pub operand-below : {n : ℕ} → AllBelow n (itemsAmong (x ∷ [])) → isItem x ≡ true → indexOf x < n
+  unfolding itemsAmong
+  operand-below h e = h (indexOf x) (rw e (List·Memᴰ·head refl))
+
   among-more : (operands : List ℕ) → itemsAmong (x ∷ operands) ≡ itemsAmong (x ∷ []) ++ itemsAmong operands
   unfolding itemsAmong
   among-more operands = go (isItem x)
@@ -114,6 +119,12 @@ module _ (marks : List ℕ) (x : ℕ) where
   pub two-marked : (y : ℕ) → marked (marked marks (itemsAmong (x ∷ []))) (itemsAmong (y ∷ [])) ≡ marked marks (itemsAmong (x ∷ y ∷ []))
   two-marked y = sym (ap (marked marks) (among-more (y ∷ [])) ∙ marked-append marks (itemsAmong (x ∷ [])) (itemsAmong (y ∷ [])))
 
+-- of two operands, each
+pub two-below : {n : ℕ} (x y : ℕ) → AllBelow n (itemsAmong (x ∷ y ∷ [])) → AllBelow n (itemsAmong (x ∷ [])) × AllBelow n (itemsAmong (y ∷ []))
+two-below x y h =
+    let e = among-more [] x (y ∷ []) in
+    (λ row m. h row (rw e (Memᴰ·append-left _ m)), λ row m. h row (rw e (Memᴰ·append-right (itemsAmong (x ∷ [])) m)))
+
 -- which items a simple condition names depends on the names alone
 pub by-names : (lent : Lent) (x : Test) (a b : ℕ) → rowsAsked (lentNames (lent .names)) x a b ≡ rowsAsked lent x a b
 by-names lent Alone a b = refl
@@ -121,6 +132,24 @@ by-names lent (Relation word negated) a b = refl
 by-names lent (Class word negated) a b = refl
 by-names lent (Sign word negated) a b = refl
 by-names lent Unknown a b = refl
+
+-- what a condition that can be marked gives to the code, by what it tests
+module _ {names : List ℕ} {marks subject relation object : ℕ} (m : Markable names marks subject relation object) where
+  pub name-inside : testOf relation ≡ Alone → isName subject ≡ true → indexOf subject * 18 < length names
+  name-inside e n = omega (arith, m .named e n)
+
+  pub name-below : testOf relation ≡ Alone → isName subject ≡ true → nameItem names (indexOf subject) < marks
+  name-below e n = m .room (nameItem names (indexOf subject)) (rw (e, n) (List·Memᴰ·head refl))
+
+  module _ {word : ℕ} {negated : Bool} where
+    pub relation-below : testOf relation ≡ Relation word negated → AllBelow marks (itemsAmong (subject ∷ [])) × AllBelow marks (itemsAmong (object ∷ []))
+    relation-below e = two-below subject object (rw e at (m .room))
+
+    pub class-below : testOf relation ≡ Class word negated → AllBelow marks (itemsAmong (subject ∷ []))
+    class-below e = rw e at (m .room)
+
+    pub sign-below : testOf relation ≡ Sign word negated → AllBelow marks (itemsAmong (subject ∷ []))
+    sign-below e = rw e at (m .room)
 
 -- the rows of a plan, none yet and one more
 pub named-none : (names plan marks : List ℕ) → marks ≡ marked marks (listed (rowsAt (lentNames names) plan) 0)

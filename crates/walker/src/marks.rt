@@ -4,14 +4,13 @@ ghost use mathlib.Core.List.{[], _∷_, _++_};
 ghost use Prim.Native.Nat.{_+_, _≤_, _<_};
 ghost use lib.ListN.{length, set, drop};
 ghost use lib.Seq.{sets};
-ghost use Rattle.tables.specs.Names.{nameItem};
-ghost use Rattle.tables.specs.Tokens.{indexOf};
 ghost use Rattle.typing.specs.Tests.{testOf};
 ghost use Rattle.items.specs.Items.{listed};
 ghost use Rattle.rules.specs.Footprint.{rowsAsked, itemsAmong};
 ghost use Rattle.rules.specs.Calls.{roomCheck, writes, Leaves};
-ghost use Rattle.walker.specs.Marks.{marked, markedRow, lentNames};
+ghost use Rattle.walker.specs.Marks.{marked, markedRow, lentNames, AllBelow, Markable};
 use items::lines::check_room;
+use names::ranges::number_at;
 use tables::Check;
 use tables::Written;
 use tables::tokens::is_item;
@@ -24,17 +23,16 @@ fn wide(x: u32) -> usize
     x as usize
 }
 
-// A row beyond the marks has none: no sound condition names one.
 fn mark(row: usize, marks: &mut [u32])
+    requires { ⌜ row < length (now marks) ⌝ }
     ensures { λ _. ⌜ now (marks .exit) ≡ set (now (marks .entry)) row 1 ⌝ }
 {
-    if row < marks.len() {
-        marks[row] = 1;
-    }
+    marks[row] = 1;
 }
 
 // The row of an operand that is an item.
 fn mark_operand(token: u32, marks: &mut [u32])
+    requires { ⌜ AllBelow (length (now marks)) (itemsAmong (token ∷ [])) ⌝ }
     ensures { λ _. ⌜ now (marks .exit) ≡ marked (now (marks .entry)) (itemsAmong (token ∷ [])) ⌝ }
 {
     if is_item(token) {
@@ -42,26 +40,16 @@ fn mark_operand(token: u32, marks: &mut [u32])
     }
 }
 
-// The item of a condition-name; 0 for one beyond the table, as the definition has it.
-fn item_of_name(names: &[u32], token: u32) -> usize
-    ensures { λ r. ⌜ r ≡ nameItem (now (names .entry)) (indexOf token) ⌝ }
-{
-    let at = wide(token % 65536) * 18;
-    if at < names.len() {
-        return wide(names[at]);
-    }
-    0
-}
-
 // The item rows of one simple condition.
 pub fn mark_condition(names: &[u32], subject: u32, relation: u32, object: u32, marks: &mut [u32])
+    requires { ⌜ Markable (now names) (length (now marks)) subject relation object ⌝ }
     ensures { λ _. ⌜ now (marks .exit) ≡ marked (now (marks .entry)) (rowsAsked (lentNames (now (names .entry))) (testOf relation) subject object) ⌝ }
 {
     let test = test_of(relation);
     match test {
         Test::Alone => {
             if subject / 65536 == 5 {
-                mark(item_of_name(names, subject), marks);
+                mark(number_at(names, wide(subject % 65536) * 18), marks);
             }
         }
         Test::Relation { word, negated } => {

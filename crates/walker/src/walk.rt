@@ -1,12 +1,15 @@
 // The items that the rows of a plan name, and those that a run of it comes to.
 ghost use mathlib.Core.Path.{_≡_};
+ghost use Prim.Native.Nat.{_≤_};
+ghost use lib.ListN.{length};
 ghost use Rattle.tables.specs.Operands.{lendNames};
+ghost use Rattle.tables.specs.Rows.{rowCount};
 ghost use Rattle.values.specs.Truth.{outcome};
 ghost use Rattle.grammar.specs.Plan.{planRows, runVisits};
 ghost use Rattle.items.specs.Items.{listed};
 ghost use Rattle.rules.specs.Footprint.{footprint};
 ghost use Rattle.runner.specs.Runs.{Runnable};
-ghost use Rattle.walker.specs.Marks.{marked, lentNames, rowsAt, next};
+ghost use Rattle.walker.specs.Marks.{marked, lentNames, AllMarkable, rowsAt, next};
 use crate::marks::mark_condition;
 use grammar::PlanRow;
 use plans::Target;
@@ -22,6 +25,7 @@ fn wide(x: u32) -> usize
 
 // Every row of a plan, whether a run would come to it or not.
 pub fn mark_named(names: &[u32], plan: &[u32], marks: &mut [u32])
+    requires { ⌜ AllMarkable (now names) (length (now marks)) (now plan) ⌝ }
     ensures { λ _. ⌜ now (marks .exit) ≡ marked (now (marks .entry)) (listed (rowsAt (lentNames (now (names .entry))) (now (plan .entry))) (planRows (now (plan .entry)))) ⌝ }
 {
     let rows = plan.len() / 5;
@@ -56,6 +60,7 @@ pub fn mark_reached<'a>(
     marks: &mut [u32],
 )
     requires { ⌜ Runnable (lendNames (now items) (now literals) (now bytes) (now names)) (now plan) (now «record») ⌝ }
+    requires { ⌜ rowCount (now items) ≤ length (now marks) ⌝ }
     ensures { λ _. ⌜ now (marks .exit) ≡ marked (now (marks .entry)) (footprint (lendNames (now (items .entry)) (now (literals .entry)) (now (bytes .entry)) (now (names .entry))) (runVisits (outcome (lendNames (now (items .entry)) (now (literals .entry)) (now (bytes .entry)) (now (names .entry))) (now («record» .entry)) switches) (now (plan .entry)))) ⌝ }
 {
     let mut at: usize = 0;

@@ -1,5 +1,6 @@
+use mathlib.Core.List.{[]}
 use mathlib.Core.Path.{sym, _∙_}
-use Rattle.walker.proofs.Marking.{operand-marked, operand-unmarked}
+use Rattle.walker.proofs.Marking.{operand-marked, operand-unmarked, operand-below}
 use borrow.Author.Needs.{needs}
 use Rattle.walker.proofs.marks.mark_operand.Statement.{statement}
 use Rattle.walker.proofs.marks.mark_operand.Tie as tie
@@ -9,27 +10,27 @@ use Rattle.tables.proofs.tokens.is_item.Reads as is-item-reads
 use Rattle.walker.proofs.marks.mark.Reads as mark-reads
 use Rattle.walker.proofs.marks.wide.Reads as wide-reads
 
--- src/marks.rt:40:8
+-- src/marks.rt:38:8
 is-item-requires : tie.Need-is-item-requires
 is-item-requires c κs = search needs
 
--- src/marks.rt:41:14
+-- src/marks.rt:39:14
 wide-requires : tie.Need-wide-requires
 wide-requires c κs = search needs
 
--- src/marks.rt:41:9
+-- src/marks.rt:39:9
 mark-requires : tie.Need-mark-requires
-mark-requires c κs = search needs
+mark-requires c κs = rw (c .before .wide .ensures) (operand-below [] _ (c .before .before .before .before .before .pre) (sym (c .before .before .before .is-item .ensures) ∙ c .before .before .if1 .taken))
 
--- src/marks.rt:37:1
+-- src/marks.rt:34:1
 same-length : tie.Need-same-length
 same-length c = search needs
 
--- src/marks.rt:37:1
+-- src/marks.rt:34:1
 returns : tie.Need-returns
 returns c = rw (c .before .before .before .before .wide .ensures) at (c .before .before .mark .ensures) ∙ operand-marked _ _ (sym (c .before .before .before .before .before .before .is-item .ensures) ∙ c .before .before .before .before .before .if1 .taken)
 
--- src/marks.rt:37:1
+-- src/marks.rt:34:1
 returns-2 : tie.Need-returns-2
 returns-2 c = operand-unmarked _ _ (sym (c .before .is-item .ensures) ∙ c .if1 .left)
 

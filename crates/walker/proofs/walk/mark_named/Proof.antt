@@ -1,10 +1,10 @@
 use borrow.Author.Needs.{needs}
-use lib.ListN.{length}
-use denote.Ref.{now}
-use Rattle.grammar.specs.Plan.{planRows}
 use mathlib.Core.Path.{_≡_, sym, ap, _∙_}
 use Prim.Native.Nat.{_-_, _≤_}
 use native.Mathlib.Omega.{arith}
+use lib.ListN.{length}
+use denote.Ref.{now}
+use Rattle.grammar.specs.Plan.{planRows}
 use Rattle.items.specs.Items.{listed}
 use Rattle.walker.specs.Marks.{marked, lentNames, rowsAt}
 use Rattle.walker.proofs.Marking.{named-none, named-more, marked-length}
@@ -21,35 +21,35 @@ Inv-loop names plan marks₀ rows k₀ marks k = (k ≤ rows) × (marks ≡ mark
 abbrev μ-loop : tie.MeasureT-loop
 μ-loop names plan marks₀ rows k₀ marks k = rows - k
 
--- src/walk.rt:29:5
+-- src/walk.rt:33:5
 loop-holds : tie.Need-loop-holds Inv-loop μ-loop
 loop-holds c = (omega arith, named-none _ _ _)
 
--- src/walk.rt:30:13
+-- src/walk.rt:34:13
 plan-row-requires : tie.Need-plan-row-requires Inv-loop μ-loop
 plan-row-requires c κs = omega arith
 
--- src/walk.rt:31:9
+-- src/walk.rt:35:9
 mark-condition-requires : tie.Need-mark-condition-requires Inv-loop μ-loop
-mark-condition-requires c κs = search needs
+mark-condition-requires c κs = rw (c .before .plan-row .ensures, ap length (c .before .before .before .loop .inv .1) ∙ marked-length _ _) (c .before .before .before .before .before .before .before .pre (c .before .before .before .loop .k) (omega arith))
 
--- src/walk.rt:32:9
+-- src/walk.rt:36:9
 add-k : tie.Need-add-k Inv-loop μ-loop
 add-k c = omega arith
 
--- src/walk.rt:29:5
+-- src/walk.rt:33:5
 loop-less : tie.Need-loop-less Inv-loop μ-loop
 loop-less c = omega arith
 
--- src/walk.rt:29:5
+-- src/walk.rt:33:5
 loop-again : tie.Need-loop-again Inv-loop μ-loop
 loop-again c = (omega arith, rw (c .before .before .before .before .plan-row .ensures) at (c .before .before .mark-condition .ensures) ∙ named-more _ _ _ _ (c .before .before .before .before .before .before .loop .inv .1))
 
--- src/walk.rt:24:1
+-- src/walk.rt:27:1
 same-length : tie.Need-same-length Inv-loop μ-loop
 same-length c = ap length (c .before .loop .inv .1) ∙ marked-length _ _
 
--- src/walk.rt:24:1
+-- src/walk.rt:27:1
 returns : tie.Need-returns Inv-loop μ-loop
 returns c = let end : c .before .loop .k ≡ planRows (c .before .before .before .before .before .args .plan .now) = omega arith in rw end at (c .before .loop .inv .1)
 
