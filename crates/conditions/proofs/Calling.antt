@@ -80,7 +80,7 @@ module _ (items literals bytes names plan content : List ℕ) (t : firstOf (lent
 
 -- what is prepared is a refusal
 module _ {lent : Lent} {tokens : List ℕ} {r : Prepared} {after : List ℕ} (p : Prepares lent tokens r after) {refusal : Refusal} (e : r ≡ Unprepared refusal) where
-  unready : Refuses lent tokens refusal
+  pub unready : Refuses lent tokens refusal
   unready = refuses lent tokens (rw e at (p .readied))
 
   pub expand-refused : (output : List ℕ) → Leaves (expandGives lent tokens output) (Unwritten refusal) output
@@ -93,15 +93,15 @@ module _ {lent : Lent} {tokens : List ℕ} {r : Prepared} {after : List ℕ} (p 
   judge-refused content switches = sym (unready .judge content switches)
 
 -- the rows that stand prepared, of a condition that passes
-record Ready (lent : Lent) (tokens : List ℕ) (count : ℕ) (after : List ℕ) : Type 0 where
-  tree : Tree
-  passes : Passes lent tokens tree
-  counted : count ≡ leaves tree
-  rows : take (count * 5) after ≡ planned tree
+pub record Ready (lent : Lent) (tokens : List ℕ) (count : ℕ) (after : List ℕ) : Type 0 where
+  pub tree : Tree
+  pub passes : Passes lent tokens tree
+  pub counted : count ≡ leaves tree
+  pub rows : take (count * 5) after ≡ planned tree
 
 -- what is prepared is rows
 module _ {lent : Lent} {tokens : List ℕ} {r : Prepared} {after : List ℕ} (p : Prepares lent tokens r after) {count : ℕ} (e : r ≡ Rows count) where
-  ready : Ready lent tokens count after
+  pub ready : Ready lent tokens count after
   ready =
       let h : (firstOf (conditionLines lent tokens) ≡ Sound) × Stands (read tokens) count after = rw e at (p .readied) in
       let (t, q) = passed lent tokens (h .0) in

@@ -22,7 +22,7 @@ use Rattle.typing.specs.declared.Test.{Test}
 use Rattle.typing.specs.declared.Test.the-variants.{Alone, Relation, Class, Sign, Unknown}
 use Rattle.typing.specs.Tests.{testOf}
 use Rattle.grammar.specs.declared.PlanRow.{PlanRow}
-use Rattle.grammar.specs.Judging.{Outcomes, when, at}
+use Rattle.grammar.specs.Judging.{Outcomes, when, at, visit}
 use Rattle.grammar.specs.Plan.{onTrue, onFalse, planRow, planRows, reached, runVisits}
 use Rattle.grammar.proofs.Sure.{Later, Sure, some-rows}
 use Rattle.grammar.proofs.Segment.{reached-row, reached-true, reached-false}
@@ -161,6 +161,28 @@ named-more names plan marks k e =
     ap (λ m. marked m (rowsAt (lentNames names) plan k)) e
     ∙ sym (ap (marked marks) (listed-more (rowsAt (lentNames names) plan) k) ∙ marked-append marks (listed (rowsAt (lentNames names) plan) k) (rowsAt (lentNames names) plan k))
 
+-- the rows reached from row k are that row and those reached from where it leads
+pub reached-next : (out : Outcomes) (row : ℕ → PlanRow) (m k : ℕ) → k < onFalse →
+    reached out row (suc m) k
+    ≡ visit k (row k .subject) (row k .relation) (row k .object)
+    ∷ reached out row m (next (row k) (out (row k .subject) (row k .relation) (row k .object)))
+unfolding when at
+reached-next out row m k l =
+    reached-row out row m k l ∙ ap (λ visits. visit k (row k .subject) (row k .relation) (row k .object) ∷ visits) (go (out (row k .subject) (row k .relation) (row k .object)))
+  where
+    go : (o : Outcome) → when (at k o) (reached out row m (row k .holds)) (reached out row m (row k .fails)) (λ _. []) ≡ reached out row m (next (row k) o)
+    go True = refl
+    go False = refl
+    go (Stopped stop) = sym (reached-false out row m)
+
+-- and from a verdict none
+pub reached-none : (out : Outcomes) (row : ℕ → PlanRow) (m k : ℕ) → onFalse ≤ k → k ≤ onTrue → reached out row m k ≡ []
+reached-none out row m k l h = by (ℕ-discrete k onTrue)
+  where
+    by : Dec (k ≡ onTrue) → reached out row m k ≡ []
+    by (yes e) = rw e (reached-true out row m)
+    by (no e) = let f : k ≡ onFalse = omega arith in rw f (reached-false out row m)
+
 -- A run has come to k: what is left of it, marked too, makes the marks of the whole run.
 pub record Walking (lent : Lent) (out : Outcomes) (plan before marks : List ℕ) (k : ℕ) : Type 0 where
   pub top : k ≤ onTrue
@@ -187,21 +209,12 @@ module _ (lent : Lent) (plan content : List ℕ) (p : Runnable lent plan content
   goes-later k (Stopped stop) l =
       record { after = omega (arith, some-rows lent plan (p .sound)); inside = λ h. absurd (omega arith); top = omega arith }
 
-  -- the rows reached from row k are that row and those reached from where it leads
   on : (k m : ℕ) (marks : List ℕ) → k < onFalse →
       marked marks (footprint lent (reached out (planRow plan) (suc m) k))
       ≡ marked (marked marks (rowsAt lent plan k)) (footprint lent (reached out (planRow plan) m (next (planRow plan k) (found k))))
-  unfolding footprint when at
+  unfolding footprint
   on k m marks l =
-      ap (λ visits. marked marks (footprint lent visits)) (reached-row out (planRow plan) m k l)
-      ∙ marked-append marks (rowsAt lent plan k) _
-      ∙ ap (λ visits. marked (marked marks (rowsAt lent plan k)) (footprint lent visits)) (go (found k))
-    where
-      go : (o : Outcome) → when (at k o) (reached out (planRow plan) m (planRow plan k .holds)) (reached out (planRow plan) m (planRow plan k .fails)) (λ _. [])
-          ≡ reached out (planRow plan) m (next (planRow plan k) o)
-      go True = refl
-      go False = refl
-      go (Stopped stop) = sym (reached-false out (planRow plan) m)
+      ap (λ visits. marked marks (footprint lent visits)) (reached-next out (planRow plan) m k l) ∙ marked-append marks (rowsAt lent plan k) _
 
   pub walks-on : (k : ℕ) {marks : List ℕ} → Walking lent out plan before marks k → k < onFalse →
       Walking lent out plan before (marked marks (rowsAt lent plan k)) (next (planRow plan k) (found k))
@@ -232,11 +245,4 @@ module _ (lent : Lent) (plan content : List ℕ) (p : Runnable lent plan content
   pub walk-ends : (k : ℕ) {marks : List ℕ} → Walking lent out plan before marks k → onFalse ≤ k → marks ≡ marked before (footprint lent (runVisits out plan))
   unfolding footprint
   walk-ends k {marks} w l =
-      sym (marked-none marks) ∙ ap (λ visits. marked marks (footprint lent visits)) (sym none) ∙ w .same
-    where
-      none : reached out (planRow plan) (w .left) k ≡ []
-      none = by (ℕ-discrete k onTrue)
-        where
-          by : Dec (k ≡ onTrue) → reached out (planRow plan) (w .left) k ≡ []
-          by (yes e) = rw e (reached-true out (planRow plan) (w .left))
-          by (no e) = let f : k ≡ onFalse = omega (arith, w .top) in rw f (reached-false out (planRow plan) (w .left))
+      sym (marked-none marks) ∙ ap (λ visits. marked marks (footprint lent visits)) (sym (reached-none out (planRow plan) (w .left) k l (w .top))) ∙ w .same
