@@ -6,7 +6,7 @@ use Prim.Native.Nat.{ℕ, zero, suc, _+_, _*_, _%_, _<_, _≤_}
 use native.Mathlib.Omega.{arith}
 use native.Mathlib.Decide.{ℕ-discrete}
 use native.Mathlib.Nat.{zero-add, add-assoc}
-use lib.ListN.{length, getD, set, take, replicate, length-set, getD-replicate}
+use lib.ListN.{length, getD, set, take, replicate, length-set, length-replicate, getD-replicate}
 use lib.Seq.{getD-set-same, getD-set-other}
 use lib.Dec.{eqb, leb}
 use borrow.Author.Tests.{eq-eqb, ne-eqb, leb-true}
@@ -36,7 +36,7 @@ use Rattle.grammar.specs.Plan.{onTrue, onFalse, planRow, planRows, planCheck, r
 use Rattle.grammar.proofs.Segment.{Stands, stands-one, stands-parts, planned-stands, planned-rows}
 use Rattle.grammar.proofs.Sure.{sure}
 use Rattle.grammar.proofs.Lent.{plan-lent}
-use Rattle.rules.specs.Calls.{conditionLines, roomCheck, Leaves, numbersOf, judgeWalk, runWalk}
+use Rattle.rules.specs.Calls.{conditionLines, roomCheck, writes, Leaves, numbersOf, judgeWalk, runWalk}
 use Rattle.rules.specs.Footprint.{rowsAsked, footprint}
 use Rattle.rules.proofs.Passing.{after-lines, both-sound, read-as, condition-passes, tables-pass}
 use Rattle.rules.proofs.Answers.{plan-passes, judges-as, run-judges}
@@ -46,7 +46,7 @@ use Rattle.preparer.specs.Prepared.{Prepares}
 use Rattle.runner.specs.Runs.{Runnable}
 use Rattle.conditions.proofs.Calling.{ready}
 use Rattle.walker.specs.Marks.{marked, markedRow, lentNames, AllMarkable, rowsAt}
-use Rattle.walker.proofs.Marking.{by-names}
+use Rattle.walker.proofs.Marking.{by-names, marked-length}
 use Rattle.walker.proofs.Range.{markable}
 use Rattle.looks.specs.Looked.{isAmong, rising, lookedAt, lookedAtPlan, namedRows, namedItems, judgeLines, runLines, listing, lookedGives, lookedPlanGives, namedGives}
 
@@ -127,9 +127,22 @@ few-items lent e =
     let short = test-sound (eqb (length (lent .items) % 5) 0 && leb (length (lent .items)) 320) ItemTable (lines-sound (tableLines lent) (tables-sound lent e) .0) in
     omega (arith, leb-true (length (lent .items)) 320 (both-true (eqb (length (lent .items) % 5) 0) _ short .1))
 
--- what was marked on marks of which none was set
-pub none-set : (n v : ℕ) → v < n → _≡_ {A = ℕ} (getD (replicate n 0) v 0) 0
-none-set n v l = getD-replicate n v 0 0 l
+pub few-runnable : {lent : Lent} {plan content : List ℕ} → Runnable lent plan content → rowCount (lent .items) ≤ 64
+few-runnable {lent} p = few-items lent (p .tables)
+
+-- what is given of marks of which none was set before
+module _ (items rows output : List ℕ) (l : rowCount items ≤ 64) {marks : List ℕ} (m : marks ≡ marked (replicate 64 0) rows) where
+  pub marks-long : length marks ≡ 64
+  marks-long = ap length m ∙ marked-length (replicate 64 0) rows ∙ length-replicate {A = ℕ} 64 0
+
+  pub marks-listed : {last : List ℕ} {r : Written} →
+      Leaves (writes (roomCheck (listed (markedRow marks) (rowCount items)) output) (listed (markedRow marks) (rowCount items)) output) r last →
+      Leaves (listing [] (rising items rows) output) r last
+  marks-listed h =
+      let long = length-replicate {A = ℕ} 64 0 in
+      let is = ap (λ ms. listed (markedRow ms) (rowCount items)) m
+      ∙ marked-rising items (replicate 64 0) rows (omega arith) (λ v k. getD-replicate 64 v 0 0 (omega arith)) in
+      rw line-last (rw is at h)
 
 -- the lines of a run, each in its turn
 module _ (items literals bytes names plan content : List ℕ) where

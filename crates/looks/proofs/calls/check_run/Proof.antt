@@ -1,65 +1,94 @@
+-- Each line that passed, and the first that did not.
+use mathlib.Core.Path.{sym, _∙_}
+use denote.Ref.{now}
+use Rattle.tables.specs.Operands.{lendNames}
+use Rattle.names.proofs.Lines.{tables-refused, names-tried}
+use Rattle.looks.proofs.Looking.{tables-line, plan-line, record-line}
 use borrow.Author.Needs.{needs}
 use Rattle.looks.proofs.calls.check_run.Statement.{statement}
 use Rattle.looks.proofs.calls.check_run.Tie as tie
-use Rattle.looks.proofs.calls.check_run.Reads as reads
-use Rattle.looks.proofs.calls.check_run.Lts as lts
-use Rattle.checks.proofs.lent.check_record.Reads as check-record-reads
-use Rattle.checks.proofs.lent.check_tables.Reads as check-tables-reads
-use Rattle.names.proofs.table.check_names.Reads as check-names-reads
-use Rattle.plans.proofs.checks.check_plan.Reads as check-plan-reads
 
--- src/calls.rt:66:9
 check-tables-requires : tie.Need-check-tables-requires
 check-tables-requires c κs = search needs
 
--- src/calls.rt:67:27
 enum-known-tables : tie.Need-enum-known-tables
 enum-known-tables c = search needs
 
--- src/calls.rt:68:9
 returns : tie.Need-returns
-returns c = ?
+returns c =
+    let at-tables = c .before in
+    let at-check-tables = at-tables .before .before in
+    let start = at-check-tables .before .before .before .before .before .before .before in
+    let a = start .args in
+    let lent = lendNames (now (a .items)) (now (a .literals)) (now (a .bytes)) (now (a .names)) in
+    tables-line (now (a .items)) (now (a .literals)) (now (a .bytes)) (now (a .names)) (now (a .plan)) (now (a .«record»))
+    (tables-refused lent (at-check-tables .check-tables .ensures) (at-tables .tables .given .1))
 
 enum-told : tie.Need-enum-told
 enum-told c = search needs
 
--- src/calls.rt:70:9
 check-names-requires : tie.Need-check-names-requires
-check-names-requires c κs = ?
+check-names-requires c κs = sym (c .before .before .check-tables .ensures) ∙ c .enum-told .given .1
 
--- src/calls.rt:71:27
 enum-known-named : tie.Need-enum-known-named
 enum-known-named c = search needs
 
--- src/calls.rt:72:9
 returns-2 : tie.Need-returns-2
-returns-2 c = ?
+returns-2 c =
+    let at-named = c .before in
+    let at-check-names = at-named .before .before in
+    let at-enum-told = at-check-names .before in
+    let at-check-tables = at-enum-told .before .before in
+    let start = at-check-tables .before .before .before .before .before .before .before in
+    let a = start .args in
+    let lent = lendNames (now (a .items)) (now (a .literals)) (now (a .bytes)) (now (a .names)) in
+    let tried = names-tried lent (at-check-tables .check-tables .ensures) (at-enum-told .enum-told .given .1) (at-check-names .check-names .ensures) in
+    tables-line (now (a .items)) (now (a .literals)) (now (a .bytes)) (now (a .names)) (now (a .plan)) (now (a .«record»)) (sym tried ∙ at-named .named .given .1)
 
 enum-told-2 : tie.Need-enum-told-2
 enum-told-2 c = search needs
 
--- src/calls.rt:74:9
 check-plan-requires : tie.Need-check-plan-requires
 check-plan-requires c κs = search needs
 
--- src/calls.rt:75:27
 enum-known-rows : tie.Need-enum-known-rows
 enum-known-rows c = search needs
 
--- src/calls.rt:76:9
 returns-3 : tie.Need-returns-3
-returns-3 c = ?
+returns-3 c =
+    let at-rows = c .before in
+    let at-check-plan = at-rows .before .before in
+    let at-enum-told = at-check-plan .before in
+    let at-check-names = at-enum-told .before .before in
+    let at-enum-told2 = at-check-names .before in
+    let at-check-tables = at-enum-told2 .before .before in
+    let start = at-check-tables .before .before .before .before .before .before .before in
+    let a = start .args in
+    let lent = lendNames (now (a .items)) (now (a .literals)) (now (a .bytes)) (now (a .names)) in
+    let tried = names-tried lent (at-check-tables .check-tables .ensures) (at-enum-told2 .enum-told .given .1) (at-check-names .check-names .ensures) in
+    plan-line (now (a .items)) (now (a .literals)) (now (a .bytes)) (now (a .names)) (now (a .plan)) (now (a .«record»)) (sym tried ∙ at-enum-told .enum-told2 .given .1)
+    (at-check-plan .check-plan .ensures) (at-rows .rows .given .1)
 
 enum-told-3 : tie.Need-enum-told-3
 enum-told-3 c = search needs
 
--- src/calls.rt:78:5
 check-record-requires : tie.Need-check-record-requires
 check-record-requires c κs = search needs
 
--- src/calls.rt:56:1
 returns-4 : tie.Need-returns-4
-returns-4 c = ?
+returns-4 c =
+    let at-enum-told = c .before in
+    let at-check-plan = at-enum-told .before .before in
+    let at-enum-told2 = at-check-plan .before in
+    let at-check-names = at-enum-told2 .before .before in
+    let at-enum-told22 = at-check-names .before in
+    let at-check-tables = at-enum-told22 .before .before in
+    let start = at-check-tables .before .before .before .before .before .before .before in
+    let a = start .args in
+    let lent = lendNames (now (a .items)) (now (a .literals)) (now (a .bytes)) (now (a .names)) in
+    let tried = names-tried lent (at-check-tables .check-tables .ensures) (at-enum-told22 .enum-told .given .1) (at-check-names .check-names .ensures) in
+    c .check-record .ensures ∙ record-line (now (a .items)) (now (a .literals)) (now (a .bytes)) (now (a .names)) (now (a .plan)) (now (a .«record»))
+    (sym tried ∙ at-enum-told2 .enum-told2 .given .1) (at-check-plan .check-plan .ensures) (at-enum-told .enum-told3 .given .1)
 
 pub check-run-spec : {M : Type 1} → statement M
 check-run-spec =

@@ -1,70 +1,76 @@
+-- Rests on what `prepare` ensures, on the record's check, and on the run of a tree's rows, which judges the tree.
+use mathlib.Core.Path.{sym, _∙_}
+use native.Mathlib.Omega.{arith}
+use Rattle.conditions.proofs.Calling.{few-prepared, row-numbers, rows-runnable}
+use Rattle.looks.proofs.Looking.{looked-refused, looked-record-refused, looked-listed}
 use borrow.Author.Needs.{needs}
 use Rattle.looks.proofs.calls.looked_at.Statement.{statement}
 use Rattle.looks.proofs.calls.looked_at.Tie as tie
-use Rattle.looks.proofs.calls.looked_at.Reads as reads
-use Rattle.looks.proofs.calls.looked_at.Lts as lts
-use Rattle.checks.proofs.lent.check_record.Reads as check-record-reads
-use Rattle.looks.proofs.lists.list_reached.Reads as list-reached-reads
-use Rattle.preparer.proofs.prepare.prepare.Reads as prepare-reads
 
--- src/calls.rt:32:67
 slice-aggregate-prepare : tie.Need-slice-aggregate-prepare
 slice-aggregate-prepare c = search needs
 
--- src/calls.rt:32:9
 prepare-requires : tie.Need-prepare-requires
 prepare-requires c κs = search needs
 
--- src/calls.rt:34:27
 enum-known-prepared : tie.Need-enum-known-prepared
 enum-known-prepared c = search needs
 
--- src/calls.rt:35:24
 enum-known-prepared-2 : tie.Need-enum-known-prepared-2
 enum-known-prepared-2 c = search needs
 
--- src/calls.rt:36:17
 check-record-requires : tie.Need-check-record-requires
 check-record-requires c κs = search needs
 
--- src/calls.rt:37:35
 enum-known-held : tie.Need-enum-known-held
 enum-known-held c = search needs
 
--- src/calls.rt:38:17
 returns : tie.Need-returns
-returns c = ?
+returns c =
+    let at-held = c .before in
+    let at-check-record = at-held .before .before in
+    let at-prepared = at-check-record .before .before in
+    let at-prepare = at-prepared .before .before .before in
+    looked-record-refused (at-prepare .prepare .ensures) (at-prepared .prepared2 .given .1) _ _ _ (sym (at-check-record .check-record .ensures) ∙ at-held .held .given .1)
 
 enum-told : tie.Need-enum-told
 enum-told c = search needs
 
--- src/calls.rt:40:23
 mul-end : tie.Need-mul-end
-mul-end c = ?
+mul-end c = omega (arith, few-prepared (c .before .before .before .before .before .before .before .prepare .ensures) (c .before .before .before .before .prepared2 .given .1))
 
--- src/calls.rt:46:17
 array-share-prefix-plan : tie.Need-array-share-prefix-plan
-array-share-prefix-plan c = ?
+array-share-prefix-plan c = omega (arith, few-prepared (c .before .before .before .before .before .before .before .prepare .ensures) (c .before .before .before .before .prepared2 .given .1))
 
--- src/calls.rt:46:17
 slice-aggregate-list-reached : tie.Need-slice-aggregate-list-reached
-slice-aggregate-list-reached c = ?
+slice-aggregate-list-reached c =
+    let at-prepared = c .before .before .before .before .before in
+    let at-prepare = at-prepared .before .before .before in
+    row-numbers (at-prepare .prepare .ensures) (at-prepared .prepared2 .given .1)
 
--- src/calls.rt:41:13
 list-reached-requires : tie.Need-list-reached-requires
-list-reached-requires c κs = ?
+list-reached-requires c κs =
+    let at-enum-told = c .before .before in
+    let at-check-record = at-enum-told .before .before in
+    let at-prepared = at-check-record .before .before in
+    let at-prepare = at-prepared .before .before .before in
+    rows-runnable (at-prepare .prepare .ensures) (at-prepared .prepared2 .given .1) _ (sym (at-check-record .check-record .ensures) ∙ at-enum-told .enum-told .given .1)
 
--- src/calls.rt:19:1
 returns-2 : tie.Need-returns-2
-returns-2 c = ?
+returns-2 c = looked-refused (c .before .before .before .before .prepare .ensures) (c .before .prepared .given .1) _ _ _
 
--- src/calls.rt:19:1
 same-length : tie.Need-same-length
 same-length c = search needs
 
--- src/calls.rt:19:1
 returns-3 : tie.Need-returns-3
-returns-3 c = ?
+returns-3 c =
+    let at-list-reached = c .before .before in
+    let at-enum-told = at-list-reached .before .before .before in
+    let at-check-record = at-enum-told .before .before in
+    let at-prepared = at-check-record .before .before in
+    let at-prepare = at-prepared .before .before .before in
+    looked-listed (at-prepare .prepare .ensures) (at-prepared .prepared2 .given .1) _ _ _ (sym (at-check-record .check-record .ensures) ∙ at-enum-told .enum-told .given .1)
+    (at-list-reached .list-reached .ensures)
 
 pub looked-at-spec : {M : Type 1} → statement M
 looked-at-spec =

@@ -1,34 +1,31 @@
+-- Rests on marks of which none was set: those of every row make the rising list.
+use denote.Ref.{now}
+use Rattle.looks.proofs.Looking.{marks-listed}
 use borrow.Author.Needs.{needs}
 use Rattle.looks.proofs.lists.list_named.Statement.{statement}
 use Rattle.looks.proofs.lists.list_named.Tie as tie
-use Rattle.looks.proofs.lists.list_named.Reads as reads
-use Rattle.looks.proofs.lists.list_named.Lts as lts
-use Rattle.walker.proofs.marks.give_marked.Reads as give-marked-reads
-use Rattle.walker.proofs.walk.mark_named.Reads as mark-named-reads
 
--- src/lists.rt:54:29
 slice-aggregate-mark-named : tie.Need-slice-aggregate-mark-named
 slice-aggregate-mark-named c = search needs
 
--- src/lists.rt:54:5
 mark-named-requires : tie.Need-mark-named-requires
 mark-named-requires c κs = search needs
 
--- src/lists.rt:55:17
 slice-aggregate-give-marked : tie.Need-slice-aggregate-give-marked
 slice-aggregate-give-marked c = search needs
 
--- src/lists.rt:55:5
 give-marked-requires : tie.Need-give-marked-requires
 give-marked-requires c κs = search needs
 
--- src/lists.rt:49:1
 same-length : tie.Need-same-length
 same-length c = search needs
 
--- src/lists.rt:49:1
 returns : tie.Need-returns
-returns c = ?
+returns c =
+    let at-give-marked = c .before .before in
+    let at-mark-named = at-give-marked .before .before .before .before in
+    let start = at-mark-named .before .before .before .before .before .before in
+    marks-listed (now (start .args .items)) _ (now (start .args .rows)) (start .pre .0) (at-mark-named .mark-named .ensures) (at-give-marked .give-marked .ensures)
 
 pub list-named-spec : {M : Type 1} → statement M
 list-named-spec =

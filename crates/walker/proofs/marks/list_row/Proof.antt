@@ -1,44 +1,34 @@
+-- What a row lists, by its mark.
 use denote.Ref.{now}
 use Rattle.walker.proofs.Marking.{none-listed, one-fits, one-listed}
 use borrow.Author.Needs.{needs}
 use Rattle.walker.proofs.marks.list_row.Statement.{statement}
 use Rattle.walker.proofs.marks.list_row.Tie as tie
-use Rattle.walker.proofs.marks.list_row.Reads as reads
-use Rattle.walker.proofs.marks.list_row.Lts as lts
 
--- src/marks.rt:99:8
 mul-if1 : tie.Need-mul-if1
 mul-if1 c = search needs
 
--- src/marks.rt:99:8
 shared-slice-read-if1 : tie.Need-shared-slice-read-if1
 shared-slice-read-if1 c = search needs
 
--- src/marks.rt:100:9
 returns : tie.Need-returns
 returns c = let a = c .before .before .args in none-listed (now (a .marks)) (a .v) (now (a .list)) (a .count) (c .if1 .taken)
 
--- src/marks.rt:102:19
 cast-list : tie.Need-cast-list
 cast-list c = search needs
 
--- src/marks.rt:102:5
 mul-list : tie.Need-mul-list
 mul-list c = search needs
 
--- src/marks.rt:102:5
 slice-write-list : tie.Need-slice-write-list
 slice-write-list c = let a = c .before .before .args in one-fits (now (a .marks)) (a .v) (now (a .list)) (a .count) (c .if1 .left) (c .before .before .pre .2)
 
--- src/marks.rt:103:5
 add-result : tie.Need-add-result
 add-result c = search needs
 
--- src/marks.rt:94:1
 same-length : tie.Need-same-length
 same-length c = search needs
 
--- src/marks.rt:94:1
 returns-2 : tie.Need-returns-2
 returns-2 c = let a = c .before .before .args in one-listed (now (a .marks)) (a .v) (now (a .list)) (a .count) (c .if1 .left)
 

@@ -1,36 +1,36 @@
+-- Rests on whether the operand is an item, which picks its case of the definition.
 use mathlib.Core.List.{[]}
 use mathlib.Core.Path.{sym, _∙_}
 use Rattle.walker.proofs.Marking.{operand-marked, operand-unmarked, operand-below}
 use borrow.Author.Needs.{needs}
 use Rattle.walker.proofs.marks.mark_operand.Statement.{statement}
 use Rattle.walker.proofs.marks.mark_operand.Tie as tie
-use Rattle.walker.proofs.marks.mark_operand.Reads as reads
-use Rattle.walker.proofs.marks.mark_operand.Lts as lts
-use Rattle.tables.proofs.tokens.is_item.Reads as is-item-reads
-use Rattle.walker.proofs.marks.mark.Reads as mark-reads
-use Rattle.walker.proofs.marks.wide.Reads as wide-reads
 
--- src/marks.rt:38:8
 is-item-requires : tie.Need-is-item-requires
 is-item-requires c κs = search needs
 
--- src/marks.rt:39:14
 wide-requires : tie.Need-wide-requires
 wide-requires c κs = search needs
 
--- src/marks.rt:39:9
 mark-requires : tie.Need-mark-requires
-mark-requires c κs = rw (c .before .wide .ensures) (operand-below [] _ (c .before .before .before .before .before .pre) (sym (c .before .before .before .is-item .ensures) ∙ c .before .before .if1 .taken))
+mark-requires c κs =
+    let at-wide = c .before in
+    let at-if = at-wide .before in
+    let at-is-item = at-if .before in
+    let start = at-is-item .before .before in
+    rw (at-wide .wide .ensures) (operand-below [] _ (start .pre) (sym (at-is-item .is-item .ensures) ∙ at-if .if1 .taken))
 
--- src/marks.rt:34:1
 same-length : tie.Need-same-length
 same-length c = search needs
 
--- src/marks.rt:34:1
 returns : tie.Need-returns
-returns c = rw (c .before .before .before .before .wide .ensures) at (c .before .before .mark .ensures) ∙ operand-marked _ _ (sym (c .before .before .before .before .before .before .is-item .ensures) ∙ c .before .before .before .before .before .if1 .taken)
+returns c =
+    let at-mark = c .before .before in
+    let at-wide = at-mark .before .before in
+    let at-if = at-wide .before in
+    let at-is-item = at-if .before in
+    rw (at-wide .wide .ensures) at (at-mark .mark .ensures) ∙ operand-marked _ _ (sym (at-is-item .is-item .ensures) ∙ at-if .if1 .taken)
 
--- src/marks.rt:34:1
 returns-2 : tie.Need-returns-2
 returns-2 c = operand-unmarked _ _ (sym (c .before .is-item .ensures) ∙ c .if1 .left)
 
