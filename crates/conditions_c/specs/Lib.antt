@@ -4,3 +4,4 @@ pub mod Mending
 pub mod Merging
 pub mod Differences
 pub mod Texts
+pub mod Looking

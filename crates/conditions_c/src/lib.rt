@@ -2,6 +2,7 @@
 // leaves the rest in a lent answer of nine numbers (specs/Answer.antt), each of which is written.
 pub mod describe; // record descriptions
 pub mod differ; // what differs between two copies
+pub mod looked; // what a rule looks at
 pub mod mend; // mending
 pub mod merge; // the merge desk
 pub mod printed; // conditions as printed
