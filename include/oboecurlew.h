@@ -1,5 +1,5 @@
 /* Oboecurlew: COBOL conditions, read and printed, expanded, planned, judged and run; record descriptions, read; records, compared,
- * merged and mended.
+ * merged and mended; what a rule looks at, listed.
  *
  * Build the archive with `rt staticlib conditions_c` (target/staticlib/libconditions_c.a) and link it.
  *
@@ -155,6 +155,25 @@ uint32_t oboecurlew_merge(const uint32_t *items, size_t item_numbers, const uint
  * record hold every list. Refusals 1, 2, 19, 12, 10, which change neither the record nor the list. */
 uint32_t oboecurlew_mend(const uint32_t *items, size_t item_numbers, uint8_t *record, size_t record_size, uint32_t *changes,
                          size_t change_numbers, oboecurlew_answer *answer);
+
+/* Lists the item rows that judging a condition looked at, in rising order, each once: those of the simple conditions judged, an omitted
+ * subject and a condition-name's item too. A stop is no refusal here. 64 numbers hold every list. Refusals 1 to 9, 18, 12, 10. */
+uint32_t oboecurlew_looked_at(const uint32_t *items, size_t item_numbers, const uint32_t *literals, size_t literal_numbers,
+                              const uint8_t *bytes, size_t byte_count, const uint32_t *names, size_t name_numbers,
+                              const uint32_t *tokens, size_t token_count, const uint8_t *record, size_t record_size,
+                              uint8_t switches, uint32_t *rows, size_t row_numbers, oboecurlew_answer *answer);
+
+/* The same of a run of a plan. Refusals 1 to 4, 18, 11, 12, 10. */
+uint32_t oboecurlew_looked_at_plan(const uint32_t *items, size_t item_numbers, const uint32_t *literals, size_t literal_numbers,
+                                   const uint8_t *bytes, size_t byte_count, const uint32_t *names, size_t name_numbers,
+                                   const uint32_t *plan, size_t plan_numbers, const uint8_t *record, size_t record_size,
+                                   uint8_t switches, uint32_t *rows, size_t row_numbers, oboecurlew_answer *answer);
+
+/* Lists every item row that a condition names, judged or not, in rising order, each once. Refusals 1 to 10, 18. */
+uint32_t oboecurlew_named_items(const uint32_t *items, size_t item_numbers, const uint32_t *literals, size_t literal_numbers,
+                                const uint8_t *bytes, size_t byte_count, const uint32_t *names, size_t name_numbers,
+                                const uint32_t *tokens, size_t token_count, uint32_t *rows, size_t row_numbers,
+                                oboecurlew_answer *answer);
 
 /* Reads a record description, upper-case COBOL entries of at most 4,096 bytes, into item rows and, for each row, the place of
  * its name or FILLER in the text. 320 numbers and 64 places hold every description. Refusals 14, 10. */

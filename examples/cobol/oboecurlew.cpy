@@ -23,10 +23,13 @@
       *> text; oboecurlew_differ item rows, two records and the output
       *> for rows and marks; oboecurlew_mend item rows, the record,
       *> which it mends in place, and the output for offsets, old and
-      *> new bytes. A row is five numbers: kind, offset, size, scale,
-      *> digits. Numbers are
-      *> BINARY-LONG UNSIGNED, lengths BINARY-DOUBLE UNSIGNED, the
-      *> switch byte BINARY-CHAR UNSIGNED.
+      *> new bytes; oboecurlew_looked_at and
+      *> oboecurlew_looked_at_plan what oboecurlew_judge and
+      *> oboecurlew_run take and, before the answer, the output for
+      *> item rows; oboecurlew_named_items what oboecurlew_plan takes.
+      *> A row is five numbers: kind, offset, size, scale, digits.
+      *> Numbers are BINARY-LONG UNSIGNED, lengths BINARY-DOUBLE
+      *> UNSIGNED, the switch byte BINARY-CHAR UNSIGNED.
        01  OBOECURLEW-REFUSAL       BINARY-LONG UNSIGNED.
            88  REFUSED              VALUE 1 THRU 4294967295.
            88  ITEM-TABLE-UNSOUND   VALUE 1.
