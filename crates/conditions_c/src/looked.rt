@@ -1,5 +1,4 @@
 // What a rule looks at, for C and COBOL.
-ghost use mathlib.Core.Path.{_≡_};
 ghost use Rattle.tables.specs.Operands.{lendNames};
 ghost use Rattle.looks.specs.Looked.{lookedGives, lookedPlanGives, namedGives};
 ghost use Rattle.conditions_c.specs.Looking.{Lists};

@@ -6,12 +6,12 @@ use mathlib.Core.List.{Memᴰ·append-left, Memᴰ·append-right, List·Memᴰ·
 use mathlib.Core.Logic.{⊎-elim, _⊎_}
 use Prim.Native.Nat.{ℕ, zero, suc, _+_, _<_, _≤_}
 use native.Mathlib.Omega.{arith}
-use native.Mathlib.Decide.{ℕ-discrete, decLt}
+use native.Mathlib.Decide.{decLt}
 use lib.Dec.{eqb}
 use lib.ListN.{length, getD, length-append, List·getD-append}
 use lib.Seq.{getD-at}
 use borrow.Author.Tests.{eq-eqb, eqb-true}
-use Rattle.tables.proofs.Tests.{or-right, either as one-of}
+use Rattle.tables.proofs.Tests.{either as one-of}
 use Rattle.tables.specs.declared.Check.{Check}
 use Rattle.tables.specs.declared.Check.the-variants.{Sound, Refused}
 use Rattle.tables.specs.declared.Outcome.{Outcome}
@@ -27,14 +27,14 @@ use Rattle.items.specs.Items.{listed}
 use Rattle.values.specs.Names.{lentLines}
 use Rattle.values.specs.Truth.{outcome}
 use Rattle.grammar.specs.Grammar.{Tree, simple, negated, bracketed, both, either}
-use Rattle.grammar.specs.Parser.{Reading, accepted, refused, read}
+use Rattle.grammar.specs.Parser.{Reading, accepted, read}
 use Rattle.grammar.specs.Judging.{Outcomes, leaves, when, judged, Visit, visit, visited, Walk}
 use Rattle.grammar.specs.Plan.{onTrue, onFalse, planRow, planRows, planCheck, planned, reached, runVisits, running}
 use Rattle.grammar.proofs.Sure.{some-rows}
 use Rattle.grammar.proofs.Segment.{run-visits}
 use Rattle.rules.specs.Calls.{conditionLines, answers, treeAnswer, judgeWalk, runWalk}
-use Rattle.rules.specs.Footprint.{rowsAsked, rowsOfVisit, footprint, Agree}
-use Rattle.rules.proofs.Passing.{Passes, passed, both-sound, read-as, tables-pass}
+use Rattle.rules.specs.Footprint.{rowsOfVisit, footprint}
+use Rattle.rules.proofs.Passing.{passed, both-sound, read-as, tables-pass}
 use Rattle.rules.proofs.Answers.{few-leaves, plan-passes}
 use Rattle.rules.proofs.Footprint.{looks-at-its-items}
 use Rattle.runner.specs.Runs.{Runnable}
@@ -42,8 +42,8 @@ use Rattle.runner.proofs.Running.{certain}
 use Rattle.walker.specs.Marks.{AllBelow, next}
 use Rattle.walker.proofs.Marking.{reached-next, reached-none, goes-later}
 use Rattle.walker.proofs.Range.{below}
-use Rattle.looks.specs.Looked.{isAmong, rising, lookedAt, lookedAtPlan, namedRows, namedItems}
-use Rattle.looks.specs.Theorems.{Suffices, LookedAtSuffices, SameMembers, ListsAll, Rises, ListsRise}
+use Rattle.looks.specs.Looked.{isAmong, rising, namedRows}
+use Rattle.looks.specs.Theorems.{LookedAtSuffices, SameMembers, ListsAll, Rises, ListsRise}
 
 -- a member of a list, as a test
 pub among-member : (v : ℕ) (rows : List ℕ) → isAmong v rows ≡ true → List·Memᴰ v rows

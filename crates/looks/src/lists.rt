@@ -1,5 +1,4 @@
 // The rows that were marked, in an output: their count, or 10.
-ghost use mathlib.Core.Path.{_≡_};
 ghost use mathlib.Core.List.{[]};
 ghost use Prim.Native.Nat.{_≤_};
 ghost use Rattle.tables.specs.Operands.{lendNames};

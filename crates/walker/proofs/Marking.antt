@@ -24,7 +24,7 @@ use Rattle.typing.specs.Tests.{testOf}
 use Rattle.grammar.specs.declared.PlanRow.{PlanRow}
 use Rattle.grammar.specs.Judging.{Outcomes, when, at, visit}
 use Rattle.grammar.specs.Plan.{onTrue, onFalse, planRow, planRows, reached, runVisits}
-use Rattle.grammar.proofs.Sure.{Later, Sure, some-rows}
+use Rattle.grammar.proofs.Sure.{Later, some-rows}
 use Rattle.grammar.proofs.Segment.{reached-row, reached-true, reached-false}
 use Rattle.items.specs.Items.{listed}
 use Rattle.items.specs.Lines.{roomCheck as roomBy}

@@ -1,12 +1,11 @@
 -- The items that a sound simple condition names are rows of the item table.
-use mathlib.Core.Path.{_≡_, refl, sym}
-use mathlib.Core.Bool.{Bool, true, false, cond, _&&_}
-use mathlib.Core.List.{List, [], _∷_, List·Memᴰ, List·Memᴰ·head, List·Memᴰ·not-nil, List·Memᴰ·cases-cons, List·Memᴰ·eq-of-singleton}
-use mathlib.Core.Logic.{inl, inr, ⊎-elim, _⊎_}
+use mathlib.Core.Path.{_≡_, refl}
+use mathlib.Core.Bool.{Bool, true, false, cond}
+use mathlib.Core.List.{List, [], _∷_, List·Memᴰ, List·Memᴰ·not-nil, List·Memᴰ·cases-cons, List·Memᴰ·eq-of-singleton}
+use mathlib.Core.Logic.{⊎-elim, _⊎_}
 use Prim.Native.Nat.{ℕ, _/_, _<_, _≤_}
 use native.Mathlib.Omega.{arith}
 use lib.Dec.{eqb}
-use lib.ListN.{length}
 use borrow.Author.Tests.{eqb-true, ltb-true}
 use Rattle.tables.specs.declared.Check.the-variants.{Sound}
 use Rattle.tables.specs.Operands.{Lent, operandSound, aloneSound}
@@ -23,7 +22,7 @@ use Rattle.typing.specs.Shape.{shapeSound}
 use Rattle.values.specs.Names.{lentLines}
 use Rattle.values.proofs.Names.{item-there as name-there}
 use Rattle.rules.specs.Footprint.{itemsAmong, rowsAsked}
-use Rattle.walker.specs.Marks.{AllBelow, Markable, lentNames}
+use Rattle.walker.specs.Marks.{AllBelow, Markable}
 use Rattle.walker.proofs.Marking.{by-names}
 
 module _ (lent : Lent) (tables : firstOf (lentLines lent) ≡ Sound) where
