@@ -23,13 +23,7 @@ const WIDTH: usize = 4;
 const MOST: usize = 1073741823;
 
 // 1 to 4, 18 and 11.
-fn check_rules(
-    items: &[u32],
-    literals: &[u32],
-    bytes: &[u8],
-    names: &[u32],
-    plan: &[u32],
-) -> Check
+fn check_rules(items: &[u32], literals: &[u32], bytes: &[u8], names: &[u32], plan: &[u32]) -> Check
     ensures { λ r. ⌜ r ≡ firstOf (ruleLines (lendNames (now (items .entry)) (now (literals .entry)) (now (bytes .entry)) (now (names .entry))) (now (plan .entry))) ⌝ }
 {
     let tables = check_tables(items, literals, bytes);
@@ -114,6 +108,16 @@ pub fn sweep<'a>(
     if answers.len() < count {
         return Swept::Refused(Refusal::Room(count));
     }
-    sweep_records(items, literals, bytes, names, plan, records, size, switches, answers);
+    sweep_records(
+        items,
+        literals,
+        bytes,
+        names,
+        plan,
+        records,
+        size,
+        switches,
+        answers,
+    );
     Swept::Count(count)
 }
