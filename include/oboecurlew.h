@@ -150,6 +150,15 @@ uint32_t oboecurlew_merge(const uint32_t *items, size_t item_numbers, const uint
                           const uint8_t *second, size_t second_size, uint8_t switches, uint8_t *merged, size_t merged_size,
                           uint32_t *contested, size_t contested_numbers, oboecurlew_answer *answer);
 
+/* Runs a plan over a file: records of one size, laid one after another, on one switch byte. Tables, plan and size are checked once. For
+ * each record four numbers: its truth (1 or 0) or the number of its refusal (13 or 17); the place and the byte of that refusal, else 0; how
+ * many simple conditions were judged: what oboecurlew_run gives for that record. Refusals 1 to 4, 18, 11, then 21 (a size of 0, or one that does
+ * not divide the file, or more than 1,073,741,823 records), then 12 (asked where there is a record) and 10, which change nothing. */
+uint32_t oboecurlew_sweep(const uint32_t *items, size_t item_numbers, const uint32_t *literals, size_t literal_numbers,
+                          const uint8_t *bytes, size_t byte_count, const uint32_t *names, size_t name_numbers, const uint32_t *plan,
+                          size_t plan_numbers, const uint8_t *records, size_t record_bytes, size_t size, uint8_t switches,
+                          uint32_t *answers, size_t answer_numbers, oboecurlew_answer *answer);
+
 /* Mends a record in place: in each item of kinds 3 to 6, spaces that lead its digits become 0 and a blank separate sign +, where the
  * item is valid then. Lists each changed byte, three numbers: offset, old, new, by rising offset. Three numbers for each byte of the
  * record hold every list. Refusals 1, 2, 19, 12, 10, which change neither the record nor the list. */

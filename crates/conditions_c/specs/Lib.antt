@@ -2,5 +2,6 @@ pub mod Answer
 pub mod Description
 pub mod Mending
 pub mod Merging
+pub mod Sweeping
 pub mod Differences
 pub mod Texts

@@ -5,6 +5,7 @@ pub mod differ; // what differs between two copies
 pub mod mend; // mending
 pub mod merge; // the merge desk
 pub mod printed; // conditions as printed
+pub mod sweep; // a plan over a whole file
 
 ghost use mathlib.Core.Path.{_≡_};
 ghost use Prim.Native.Nat.{_≤_};
