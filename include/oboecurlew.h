@@ -58,7 +58,8 @@ enum oboecurlew_refusal {
     OBOECURLEW_LETTERS = 17,      /* invalid alphabetic data reached: as 13 */
     OBOECURLEW_CONDITION_NAME = 18, /* name table length not a multiple of 18, or over 1,152: 0; else the first unsound row; just after 4 */
     OBOECURLEW_OVERLAP = 19,      /* two elementary items share a byte: the first row that overlaps an earlier one */
-    OBOECURLEW_LENGTHS = 20       /* the copies to be merged are not equally long: 0 */
+    OBOECURLEW_LENGTHS = 20,      /* the copies to be merged are not equally long: 0 */
+    OBOECURLEW_UNEVEN = 21        /* records of this size do not fill the file: 0 */
 };
 
 /* Row kinds: group, alphabetic, alphanumeric, unsigned numeric, sign in the last byte, sign leading or trailing separate, group with no

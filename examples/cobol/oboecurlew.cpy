@@ -23,8 +23,11 @@
       *> text; oboecurlew_differ item rows, two records and the output
       *> for rows and marks; oboecurlew_mend item rows, the record,
       *> which it mends in place, and the output for offsets, old and
-      *> new bytes. A row is five numbers: kind, offset, size, scale,
-      *> digits. Numbers are
+      *> new bytes. oboecurlew_sweep takes what oboecurlew_run takes
+      *> with a file's records in the record's place, then, BY VALUE,
+      *> the size of one record and the switch byte, then four numbers
+      *> for each record. A row is five numbers: kind, offset, size,
+      *> scale, digits. Numbers are
       *> BINARY-LONG UNSIGNED, lengths BINARY-DOUBLE UNSIGNED, the
       *> switch byte BINARY-CHAR UNSIGNED.
        01  OBOECURLEW-REFUSAL       BINARY-LONG UNSIGNED.
@@ -49,6 +52,7 @@
            88  CONDITION-NAME-UNSOUND VALUE 18.
            88  ITEMS-OVERLAP        VALUE 19.
            88  LENGTHS-UNEQUAL      VALUE 20.
+           88  RECORDS-UNEVEN       VALUE 21.
       *> The refusal's place, or 1 for true and 0 for false (judge,
       *> run); for refusals 13 and 17 the item's first wrong byte,
       *> counted from 0 in the record; how many simple conditions were
