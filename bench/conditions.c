@@ -92,7 +92,7 @@ static uint32_t token(struct condition *c, const char *word)
             name++;
         }
     if (word[0] == 'S' && word[2] == '-')
-        return (strcmp(word + 3, "ON") ? 3 : 2) * 65536 + (uint32_t)(word[1] - '0');
+        return 2 * 65536 + (uint32_t)(word[1] - '0');
     return literal(c, word);
 }
 
@@ -162,6 +162,52 @@ static void fill_tables(struct condition *c)
         literal(c, "-123456789012345678");
 }
 
+/* ---- Records ---- */
+
+void as_cobol(const struct condition *c, const uint8_t *record, uint8_t *lent)
+{
+    memcpy(lent, record, c->record_size);
+    uint8_t *end = lent;
+    for (const struct item *i = c->given; i->name; i++) {
+        end += bytes_of(i);
+        if (i->kind == 8)
+            end[-1] = (uint8_t)((end[-1] & 0xf0) | (end[-1] % 16 == 4 ? 0xd : 0xc));
+    }
+}
+
+/* A digit changed, or the sign. */
+static void change_packed(const struct item *i, uint8_t *field)
+{
+    uint32_t after = (uint32_t)rand() % i->size; /* digits after the one that is changed */
+    uint8_t *byte = field + bytes_of(i) - 1 - (after + 1) / 2;
+    uint8_t digit = (uint8_t)(rand() % 3);
+    *byte = (uint8_t)(after % 2 ? (*byte & 0xf0) | digit : (*byte & 0x0f) | digit << 4);
+    field[bytes_of(i) - 1] = (uint8_t)((field[bytes_of(i) - 1] & 0xf0) | (3 + rand() % 2));
+}
+
+void change_record(const struct condition *c, uint8_t *record)
+{
+    uint8_t *byte = record;
+    for (const struct item *i = c->given; i->name; i++) {
+        if (i->kind == 8) {
+            change_packed(i, byte);
+            byte += bytes_of(i);
+            continue;
+        }
+        for (uint32_t k = 0; k < i->size; k++, byte++)
+            if ((i->kind == 5 && k == 0) || (i->kind == 6 && k == i->size - 1))
+                *byte = "+-"[rand() % 2];
+            else if (rand() % 4 == 0)
+                *byte = (uint8_t)(i->kind < 3 ? "AB z"[rand() % 4] : '0' + rand() % 3);
+    }
+}
+
+size_t laid(const struct condition *c)
+{
+    size_t held = (512 << 10) / c->record_size;
+    return held < LAID ? held : LAID;
+}
+
 /* ---- The conditions ---- */
 
 static char *format(const char *shape, ...)
@@ -206,8 +252,8 @@ static void add_measured(void)
     add(measured, "worst: 127-fold OR, 18 digits, scale 18", long_numbers, format("A = B%s", times(63, " OR C OR D")));
     add(measured, "worst: 128-fold OR of switches", counters, format("S0-ON%s", times(127, " OR S1-ON")));
     add(measured, "worst: brackets 16 deep", counters, format("%sX > B%s", times(16, "X < C OR NOT ( "), times(16, " )")));
-    add(measured, "worst: 256 tokens, each target turned often", counters,
-        format("%sNOT S0-OFF%s%s", times(16, "NOT ( "), times(71, " OR S1-ON"), times(16, " AND S2-ON OR S3-ON )")));
+    add(measured, "worst: 255 tokens, each target turned often", counters,
+        format("%sS0-ON%s%s", times(16, "NOT ( "), times(71, " OR S1-ON"), times(16, " AND S2-ON OR S3-ON )")));
     char *same = "A = T1";
     for (int i = 2; i < 64; i++)
         same = format("%s AND T%d", same, i);
@@ -224,12 +270,12 @@ static void add_deep(void)
     add(deep, "16 of NOT (", counters, format("%sS0-ON%s", times(16, "NOT ( "), closed));
     add(deep, "16 of S1-ON OR (, then 96-fold OR", counters,
         format("%sS1-ON%s%s", times(16, "S1-ON OR ( "), times(95, " OR S1-ON"), closed));
-    add(deep, "16 of S0-OFF AND NOT (, then 88-fold AND", counters,
-        format("%sS0-OFF%s%s", times(16, "S0-OFF AND NOT ( "), times(87, " AND S0-OFF"), closed));
-    add(deep, "16 brackets, then 112-fold AND", counters,
-        format("%sS0-OFF%s%s", times(16, "( "), times(111, " AND S0-OFF"), closed));
+    add(deep, "16 of NOT S0-ON AND NOT (, then 53-fold AND", counters,
+        format("%sNOT S0-ON%s%s", times(16, "NOT S0-ON AND NOT ( "), times(52, " AND NOT S0-ON"), closed));
+    add(deep, "16 brackets, then 75-fold AND", counters,
+        format("%sNOT S0-ON%s%s", times(16, "( "), times(74, " AND NOT S0-ON"), closed));
     add(deep, "128-fold OR", counters, format("S0-ON%s", times(127, " OR S1-ON")));
-    add(deep, "128-fold AND", counters, format("S0-OFF%s", times(127, " AND S1-OFF")));
+    add(deep, "85-fold AND", counters, format("NOT S0-ON%s", times(84, " AND NOT S1-ON")));
     add(deep, "127-fold OR, abbreviated", counters, format("A = B%s", times(63, " OR C OR D")));
     add(deep, "127-fold AND, abbreviated", counters, format("A NOT = B%s", times(63, " AND C AND D")));
     add(deep, "18 digits, scale 18", long_numbers, "B < C");

@@ -35,10 +35,6 @@ int posix_memalign(void **made, size_t at, size_t size) { return (*made = memali
 
 /* ---- The sides: each judges or plans a condition so many times and gives its last answer, as one number. ---- */
 
-#define TABLES(c) \
-    c->items, c->item_numbers, c->literals, c->literal_numbers, c->bytes, c->byte_count, c->names, c->name_numbers
-#define TOKENS(c) c->tokens, c->token_count
-#define PLAN(c) c->plan, c->plan_numbers
 #define RECORD(c) c->record, c->record_size, 0 /* all switches are off, as GnuCOBOL's are */
 #define REPEATED(name, call)                                      \
     static uint64_t name(const struct condition *c, uint64_t times) \
@@ -65,21 +61,10 @@ REPEATED(library_expand, oboecurlew_expand(TABLES(c), TOKENS(c), output, 640, &s
 REPEATED(library_plan, oboecurlew_plan(TABLES(c), TOKENS(c), output, 640, &said))
 REPEATED(library_judge, oboecurlew_judge(TABLES(c), TOKENS(c), RECORD(c), &said))
 REPEATED(library_run, oboecurlew_run(TABLES(c), PLAN(c), RECORD(c), &said))
+REPEATED(library_sweep, oboecurlew_sweep(TABLES(c), PLAN(c), c->record, c->record_size, c->record_size, 0, output, 640, &said))
 REPEATED(rust_plan, second_plan(TABLES(c), TOKENS(c), output, 640, &said))
 REPEATED(rust_judge, second_judge(TABLES(c), TOKENS(c), RECORD(c), &said))
 REPEATED(rust_run, second_run(TABLES(c), PLAN(c), RECORD(c), &said))
-
-/* The record as GnuCOBOL takes it: the sign of a packed item is C or D there, and 3 or 4 here (document 001). */
-static void as_cobol(const struct condition *c, uint8_t *lent)
-{
-    memcpy(lent, c->record, c->record_size);
-    uint8_t *end = lent;
-    for (const struct item *i = c->given; i->name; i++) {
-        end += bytes_of(i);
-        if (i->kind == 8)
-            end[-1] = (uint8_t)((end[-1] & 0xf0) | (end[-1] % 16 == 4 ? 0xd : 0xc));
-    }
-}
 
 static uint64_t cobol(const struct condition *c, uint64_t times)
 {
@@ -91,7 +76,7 @@ static uint64_t cobol(const struct condition *c, uint64_t times)
         *(void **)&programs[number] = dlsym(RTLD_DEFAULT, name);
     }
     static uint8_t lent[1 << 18];
-    as_cobol(c, lent);
+    as_cobol(c, c->record, lent);
     char truth;
     programs[number](&times, &truth, lent);
     return truth == '1';
@@ -117,34 +102,6 @@ static int all_judge_alike(const struct condition *c)
     return !c->plan_numbers || library_run(c, 1) == truth;
 }
 
-/* A digit changed, or the sign. */
-static void change_packed(const struct item *i, uint8_t *field)
-{
-    uint32_t after = (uint32_t)rand() % i->size; /* digits after the one that is changed */
-    uint8_t *byte = field + bytes_of(i) - 1 - (after + 1) / 2;
-    uint8_t digit = (uint8_t)(rand() % 3);
-    *byte = (uint8_t)(after % 2 ? (*byte & 0xf0) | digit : (*byte & 0x0f) | digit << 4);
-    field[bytes_of(i) - 1] = (uint8_t)((field[bytes_of(i) - 1] & 0xf0) | (3 + rand() % 2));
-}
-
-/* Other valid contents, such that equal ones come up too. A sign in the last byte stays plus. */
-static void change_record(const struct condition *c)
-{
-    uint8_t *byte = c->record;
-    for (const struct item *i = c->given; i->name; i++) {
-        if (i->kind == 8) {
-            change_packed(i, byte);
-            byte += bytes_of(i);
-            continue;
-        }
-        for (uint32_t k = 0; k < i->size; k++, byte++)
-            if ((i->kind == 5 && k == 0) || (i->kind == 6 && k == i->size - 1))
-                *byte = "+-"[rand() % 2];
-            else if (rand() % 4 == 0)
-                *byte = (uint8_t)(i->kind < 3 ? "AB z"[rand() % 4] : '0' + rand() % 3);
-    }
-}
-
 static void demand(int same, const struct condition *c)
 {
     if (!same) {
@@ -159,7 +116,7 @@ static void check_beside_cobol(struct condition *c)
     memcpy(given, c->record, c->record_size);
     for (int round = 0; round < 200; round++) {
         demand(all_judge_alike(c) && cobol(c, 1) == value_of(library_judge(c, 1)), c);
-        change_record(c);
+        change_record(c, c->record);
     }
     memcpy(c->record, given, c->record_size);
     free(given);
@@ -249,12 +206,14 @@ static void print_times(void)
 
 static long print_stack(void)
 {
-    uint64_t (*const calls[])(const struct condition *, uint64_t) = {library_expand, library_plan, library_judge, library_run};
+    uint64_t (*const calls[])(const struct condition *, uint64_t) = {library_expand, library_plan, library_judge, library_run,
+                                                                          library_sweep};
     long greatest = 0;
-    printf("\nBytes of stack (of run on an empty plan, where plan refuses)\n\n%-42s%9s%9s%9s%9s   answer of judge\n", "", "expand", "plan", "judge", "run");
+    printf("\nBytes of stack (of run and sweep on an empty plan, where plan refuses)\n\n%-42s%9s%9s%9s%9s%9s   answer of judge\n", "",
+           "expand", "plan", "judge", "run", "sweep");
     for (int i = 0; deep[i].name; i++) {
         printf("%-42s", deep[i].name);
-        for (int k = 0; k < 4; k++) {
+        for (size_t k = 0; k < sizeof calls / sizeof *calls; k++) {
             long bytes = depth(calls[k], &deep[i]);
             printf("%9ld", bytes);
             if (bytes > greatest)
@@ -273,7 +232,7 @@ static unsigned long library_allocations(struct condition *list)
 {
     unsigned long before = allocations;
     for (struct condition *c = list; c->name; c++)
-        library_expand(c, 1), library_plan(c, 1), library_judge(c, 1), library_run(c, 1);
+        library_expand(c, 1), library_plan(c, 1), library_judge(c, 1), library_run(c, 1), library_sweep(c, 1);
     return allocations - before;
 }
 

@@ -1,5 +1,5 @@
 /* Oboecurlew: COBOL conditions, read and printed, expanded, planned, judged and run; record descriptions, read; records, compared,
- * merged and mended.
+ * merged and mended; what a rule looks at, listed.
  *
  * Build the archive with `rt staticlib conditions_c` (target/staticlib/libconditions_c.a) and link it.
  *
@@ -43,8 +43,8 @@ enum oboecurlew_refusal {
     OBOECURLEW_ITEM_ROW = 2,      /* an item row breaks its rules: the first such row */
     OBOECURLEW_LITERAL_TABLE = 3, /* as 1 */
     OBOECURLEW_LITERAL_ROW = 4,   /* as 2 */
-    OBOECURLEW_TOKEN_COUNT = 5,   /* 0 tokens or over 256: 0 */
-    OBOECURLEW_TOKEN = 6,         /* no such token, or beyond its table: the first such token */
+    OBOECURLEW_TOKEN_COUNT = 5,   /* 0 tokens or over 256, converted ones too: 0 */
+    OBOECURLEW_TOKEN = 6,         /* no such token (a switch-off word is none), or beyond its table: the first such token */
     OBOECURLEW_GRAMMAR = 7,       /* no condition: the length of the longest beginning that one shares */
     OBOECURLEW_DEPTH = 8,         /* 17 brackets open at once: the first "(" that makes 17 open */
     OBOECURLEW_TYPING = 9,        /* typing broken: the first such simple condition */
@@ -58,7 +58,8 @@ enum oboecurlew_refusal {
     OBOECURLEW_LETTERS = 17,      /* invalid alphabetic data reached: as 13 */
     OBOECURLEW_CONDITION_NAME = 18, /* name table length not a multiple of 18, or over 1,152: 0; else the first unsound row; just after 4 */
     OBOECURLEW_OVERLAP = 19,      /* two elementary items share a byte: the first row that overlaps an earlier one */
-    OBOECURLEW_LENGTHS = 20       /* the copies to be merged are not equally long: 0 */
+    OBOECURLEW_LENGTHS = 20,      /* the copies to be merged are not equally long: 0 */
+    OBOECURLEW_UNEVEN = 21        /* records of this size do not fill the file: 0 */
 };
 
 /* Row kinds: group, alphabetic, alphanumeric, unsigned numeric, sign in the last byte, sign leading or trailing separate, group with no
@@ -81,7 +82,7 @@ enum oboecurlew_kind {
 #define OBOECURLEW_ITEM(row) OBOECURLEW_TOKEN(0, row)
 #define OBOECURLEW_LITERAL(row) OBOECURLEW_TOKEN(1, row)
 #define OBOECURLEW_ON(number) OBOECURLEW_TOKEN(2, number)
-#define OBOECURLEW_OFF(number) OBOECURLEW_TOKEN(3, number)
+#define OBOECURLEW_OFF(number) OBOECURLEW_TOKEN(3, number) /* retired: only the converters take it */
 #define OBOECURLEW_WORD(word) OBOECURLEW_TOKEN(4, word)
 #define OBOECURLEW_CONDITION(row) OBOECURLEW_TOKEN(5, row) /* a condition-name, of which names has the row */
 
@@ -150,11 +151,54 @@ uint32_t oboecurlew_merge(const uint32_t *items, size_t item_numbers, const uint
                           const uint8_t *second, size_t second_size, uint8_t switches, uint8_t *merged, size_t merged_size,
                           uint32_t *contested, size_t contested_numbers, oboecurlew_answer *answer);
 
+/* Converts a condition of the rules that had switch-off words: NOT before one becomes the switch-on word alone, a bare one NOT and the
+ * switch-on word. 256 numbers hold every converted condition. Refusals 1 to 9, 18 by those rules, then 5 where it would have over 256
+ * tokens, then 10. */
+uint32_t oboecurlew_convert_condition(const uint32_t *items, size_t item_numbers, const uint32_t *literals, size_t literal_numbers,
+                                      const uint8_t *bytes, size_t byte_count, const uint32_t *names, size_t name_numbers,
+                                      const uint32_t *tokens, size_t token_count,
+                                      uint32_t *output, size_t output_numbers, oboecurlew_answer *answer);
+
+/* Converts a plan of those rules: a row of an off switch names the on switch, its targets exchanged. The output is as long as the plan.
+ * Refusals 1 to 4, 18, 11 by those rules, then 10. */
+uint32_t oboecurlew_convert_plan(const uint32_t *items, size_t item_numbers, const uint32_t *literals, size_t literal_numbers,
+                                 const uint8_t *bytes, size_t byte_count, const uint32_t *names, size_t name_numbers,
+                                 const uint32_t *plan, size_t plan_numbers,
+                                 uint32_t *output, size_t output_numbers, oboecurlew_answer *answer);
+
+/* Runs a plan over a file: records of one size, laid one after another, on one switch byte. Tables, plan and size are checked once. For
+ * each record four numbers: its truth (1 or 0) or the number of its refusal (13 or 17); the place and the byte of that refusal, else 0; how
+ * many simple conditions were judged: what oboecurlew_run gives for that record. Refusals 1 to 4, 18, 11, then 21 (a size of 0, or one that does
+ * not divide the file, or more than 1,073,741,823 records), then 12 (asked where there is a record) and 10, which change nothing. */
+uint32_t oboecurlew_sweep(const uint32_t *items, size_t item_numbers, const uint32_t *literals, size_t literal_numbers,
+                          const uint8_t *bytes, size_t byte_count, const uint32_t *names, size_t name_numbers, const uint32_t *plan,
+                          size_t plan_numbers, const uint8_t *records, size_t record_bytes, size_t size, uint8_t switches,
+                          uint32_t *answers, size_t answer_numbers, oboecurlew_answer *answer);
+
 /* Mends a record in place: in each item of kinds 3 to 6, spaces that lead its digits become 0 and a blank separate sign +, where the
  * item is valid then. Lists each changed byte, three numbers: offset, old, new, by rising offset. Three numbers for each byte of the
  * record hold every list. Refusals 1, 2, 19, 12, 10, which change neither the record nor the list. */
 uint32_t oboecurlew_mend(const uint32_t *items, size_t item_numbers, uint8_t *record, size_t record_size, uint32_t *changes,
                          size_t change_numbers, oboecurlew_answer *answer);
+
+/* Lists the item rows that judging a condition looked at, in rising order, each once: those of the simple conditions judged, an omitted
+ * subject and a condition-name's item too. A stop is no refusal here. 64 numbers hold every list. Refusals 1 to 9, 18, 12, 10. */
+uint32_t oboecurlew_looked_at(const uint32_t *items, size_t item_numbers, const uint32_t *literals, size_t literal_numbers,
+                              const uint8_t *bytes, size_t byte_count, const uint32_t *names, size_t name_numbers,
+                              const uint32_t *tokens, size_t token_count, const uint8_t *record, size_t record_size,
+                              uint8_t switches, uint32_t *rows, size_t row_numbers, oboecurlew_answer *answer);
+
+/* The same of a run of a plan. Refusals 1 to 4, 18, 11, 12, 10. */
+uint32_t oboecurlew_looked_at_plan(const uint32_t *items, size_t item_numbers, const uint32_t *literals, size_t literal_numbers,
+                                   const uint8_t *bytes, size_t byte_count, const uint32_t *names, size_t name_numbers,
+                                   const uint32_t *plan, size_t plan_numbers, const uint8_t *record, size_t record_size,
+                                   uint8_t switches, uint32_t *rows, size_t row_numbers, oboecurlew_answer *answer);
+
+/* Lists every item row that a condition names, judged or not, in rising order, each once. Refusals 1 to 10, 18. */
+uint32_t oboecurlew_named_items(const uint32_t *items, size_t item_numbers, const uint32_t *literals, size_t literal_numbers,
+                                const uint8_t *bytes, size_t byte_count, const uint32_t *names, size_t name_numbers,
+                                const uint32_t *tokens, size_t token_count, uint32_t *rows, size_t row_numbers,
+                                oboecurlew_answer *answer);
 
 /* Reads a record description, upper-case COBOL entries of at most 4,096 bytes, into item rows and, for each row, the place of
  * its name or FILLER in the text; and its level 88 entries into name rows, the place of each name in the text, and the rows and bytes of

@@ -7,12 +7,14 @@
        COPY "oboecurlew.cpy".
       *> An entry's description and the rule, as COBOL prints them.
        01  DESCRIPTION-TEXT.
-           05  FILLER      PIC X(24) VALUE "01 LOG-ENTRY.".
-           05  FILLER      PIC X(24) VALUE "05 DRIVE PIC X(6).".
-           05  FILLER      PIC X(24) VALUE "05 HOURS PIC 9(4)V9.".
-           05  FILLER      PIC X(24) VALUE "05 LIMIT PIC 9(4).".
+           05  FILLER      PIC X(34) VALUE "01 LOG-ENTRY.".
+           05  FILLER      PIC X(34) VALUE "05 DRIVE PIC X(6).".
+           05  FILLER      PIC X(34) VALUE "05 HOURS PIC 9(4)V9.".
+           05  FILLER      PIC X(34) VALUE
+               "88 OVERDUE VALUE 1000 THRU 9000.".
+           05  FILLER      PIC X(34) VALUE "05 LIMIT PIC 9(4).".
        01  RULE-TEXT       PIC X(60) VALUE
-           "HOURS NUMERIC AND HOURS NOT < LIMIT AND NOT > 9000".
+           "HOURS NUMERIC AND OVERDUE AND HOURS NOT < LIMIT".
        01  ITEM-NUMBERS.
            05  ITEM-NUMBER          BINARY-LONG UNSIGNED OCCURS 320.
        01  NAME-PLACES.
@@ -29,7 +31,7 @@
        01  PLAN-NUMBERS.
            05  PLAN-NUMBER          BINARY-LONG UNSIGNED OCCURS 640.
        01  LENGTHS.
-           05  DESCRIPTION-SIZE     BINARY-DOUBLE UNSIGNED VALUE 96.
+           05  DESCRIPTION-SIZE     BINARY-DOUBLE UNSIGNED VALUE 170.
            05  RULE-SIZE            BINARY-DOUBLE UNSIGNED VALUE 60.
            05  ROW-ROOM             BINARY-DOUBLE UNSIGNED VALUE 320.
            05  PLACE-ROOM           BINARY-DOUBLE UNSIGNED VALUE 64.

@@ -12,7 +12,9 @@
       *>     BY REFERENCE OBOECURLEW-ANSWER
       *>     RETURNING OBOECURLEW-REFUSAL
       *>
-      *> oboecurlew_expand takes the same. oboecurlew_judge takes the
+      *> oboecurlew_expand takes the same, and so do
+      *> oboecurlew_convert_condition and, with a plan in the tokens'
+      *> place, oboecurlew_convert_plan. oboecurlew_judge takes the
       *> record's bytes in the output's place and then, BY VALUE, the
       *> switch byte; oboecurlew_run the same with a plan in the
       *> tokens' place. oboecurlew_describe takes a text, item rows,
@@ -25,10 +27,17 @@
       *> text; oboecurlew_differ item rows, two records and the output
       *> for rows and marks; oboecurlew_mend item rows, the record,
       *> which it mends in place, and the output for offsets, old and
-      *> new bytes. A row is five numbers: kind, offset, size, scale,
-      *> digits. Numbers are
-      *> BINARY-LONG UNSIGNED, lengths BINARY-DOUBLE UNSIGNED, the
-      *> switch byte BINARY-CHAR UNSIGNED.
+      *> new bytes; oboecurlew_looked_at and
+      *> oboecurlew_looked_at_plan what oboecurlew_judge and
+      *> oboecurlew_run take and, before the answer, the output for
+      *> item rows; oboecurlew_named_items what oboecurlew_plan takes;
+      *> oboecurlew_sweep what oboecurlew_run takes with a file's
+      *> records in the record's place, then, BY VALUE, the size of
+      *> one record and the switch byte, then four numbers for each
+      *> record.
+      *> A row is five numbers: kind, offset, size, scale, digits.
+      *> Numbers are BINARY-LONG UNSIGNED, lengths BINARY-DOUBLE
+      *> UNSIGNED, the switch byte BINARY-CHAR UNSIGNED.
        01  OBOECURLEW-REFUSAL       BINARY-LONG UNSIGNED.
            88  REFUSED              VALUE 1 THRU 4294967295.
            88  ITEM-TABLE-UNSOUND   VALUE 1.
@@ -51,6 +60,7 @@
            88  CONDITION-NAME-UNSOUND VALUE 18.
            88  ITEMS-OVERLAP        VALUE 19.
            88  LENGTHS-UNEQUAL      VALUE 20.
+           88  RECORDS-UNEVEN       VALUE 21.
       *> The refusal's place, or 1 for true and 0 for false (judge,
       *> run); for refusals 13 and 17 the item's first wrong byte,
       *> counted from 0 in the record; how many simple conditions were
@@ -74,10 +84,10 @@
        78  PACKED-ROW               VALUE 8.
        78  PACKED-UNSIGNED-ROW      VALUE 9.
       *> Tokens: an item is its row, a literal FIRST-LITERAL plus its
-      *> row, a switch FIRST-ON or FIRST-OFF plus its number, a
-      *> condition-name FIRST-CONDITION plus its row, which is 18
-      *> numbers: item row, a count of 1 to 8, that many pairs of
-      *> literal rows, zeros.
+      *> row, a switch FIRST-ON plus its number, a condition-name
+      *> FIRST-CONDITION plus its row, which is 18 numbers: item row, a
+      *> count of 1 to 8, that many pairs of literal rows, zeros.
+      *> FIRST-OFF is retired: only the converters take it.
        78  FIRST-ITEM               VALUE 0.
        78  FIRST-LITERAL            VALUE 65536.
        78  FIRST-ON                 VALUE 131072.

@@ -1,5 +1,5 @@
-// Words and their numbers: a to z are items 0 to 25, A to Z literals 0 to 25, s0 to s9 a switch that is on, o0 to o9 one that is
-// off; the other words of a condition are those of document 01.
+// Words and their numbers: a to z are items 0 to 25, A to Z literals 0 to 25, s0 to s9 a switch that is on, o0 to o9 the
+// retired word for one that is off; the other words of a condition are those of document 01.
 ghost use Prim.Native.Nat.{_≤_};
 ghost use lib.ListN.{length};
 

@@ -1,7 +1,7 @@
 // The lines of the table of refusals that look at tokens: 5 and 6.
 ghost use mathlib.Core.Path.{_≡_};
 ghost use mathlib.Core.List.{[]};
-ghost use Rattle.tables.specs.Operands.{lendNames};
+ghost use Rattle.tables.specs.Operands.{lendNames, under};
 ghost use Rattle.tables.specs.Tables.{tokenCountCheck, tokenCheck};
 use tables::Check;
 use tables::Refusal;
@@ -17,16 +17,22 @@ pub fn check_token_count(tokens: &[u32]) -> Check
     Check::Refused(Refusal::TokenCount)
 }
 
-// 6: the first token that there is not.
-pub fn check_tokens(items: &[u32], literals: &[u32], names: &[u32], tokens: &[u32]) -> Check
-    ensures { λ r. ⌜ r ≡ tokenCheck (lendNames (now (items .entry)) (now (literals .entry)) [] (now (names .entry))) (now (tokens .entry)) ⌝ }
+// 6: the first token that there is not. `off`: the rules have the switch-off words.
+pub fn check_tokens(
+    off: bool,
+    items: &[u32],
+    literals: &[u32],
+    names: &[u32],
+    tokens: &[u32],
+) -> Check
+    ensures { λ r. ⌜ r ≡ tokenCheck (under off (lendNames (now (items .entry)) (now (literals .entry)) [] (now (names .entry)))) (now (tokens .entry)) ⌝ }
 {
     let item_rows = items.len() / 5;
     let literal_rows = literals.len() / 5;
     let name_rows = names.len() / 18;
     let mut i: usize = 0;
     while i < tokens.len() {
-        if !token_there(tokens[i], item_rows, literal_rows, name_rows) {
+        if !token_there(off, tokens[i], item_rows, literal_rows, name_rows) {
             return Check::Refused(Refusal::Token(i));
         }
         i += 1;

@@ -8,6 +8,6 @@ use Rattle.tables.specs.Tokens.{indexOf, isOn}
 abbrev pub switchOn : ℕ → ℕ → Bool
 switchOn switches v = eqb (switches / 2 ^ (7 - v) % 2) 1
 
--- "switch v is on; switch v is off"
+-- "switch v is on; switch v is off": the second only by the rules before document 02, l)
 unfoldable pub switchHolds : ℕ → ℕ → Bool
 switchHolds switches token = cond (isOn token) (switchOn switches (indexOf token)) (not (switchOn switches (indexOf token)))

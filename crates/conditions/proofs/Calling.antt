@@ -1,5 +1,6 @@
 -- What expand, plan, judge and run answer, one law for each of their returns.
-use mathlib.Core.Path.{_≡_, refl, sym, ap, _∙_}
+use mathlib.Core.Path.{_≡_, sym, ap, _∙_}
+use mathlib.Core.Bool.{false}
 use mathlib.Core.List.{List, [], _++_}
 use Prim.Native.Nat.{ℕ, _*_, _≤_, _<_}
 use native.Mathlib.Omega.{arith}
@@ -8,7 +9,6 @@ use Rattle.tables.specs.declared.Refusal.{Refusal}
 use Rattle.tables.specs.declared.Refusal.the-variants.{Room}
 use Rattle.tables.specs.declared.Check.{Check}
 use Rattle.tables.specs.declared.Check.the-variants.{Sound, Refused}
-use Rattle.tables.specs.declared.Written.{Written}
 use Rattle.tables.specs.declared.Written.the-variants.{Count, Refused as Unwritten}
 use Rattle.tables.specs.declared.Judged.{Judged}
 use Rattle.tables.specs.declared.Verdict.the-variants.{Refused as Unjudged}
@@ -27,10 +27,10 @@ use Rattle.grammar.proofs.Lent.{plan-lent}
 use Rattle.grammar.proofs.Segment.{planned-length}
 use Rattle.expander.specs.Spelled.{spelled}
 use Rattle.expander.proofs.Spelled.{spelled-expanded}
-use Rattle.rules.specs.Calls.{conditionLines, Gives, Leaves, writing, expandGives, planGives, told, judgeGives, runGives}
+use Rattle.rules.specs.Calls.{conditionLines, Leaves, writing, expandGives, planGives, told, judgeGives, runGives}
 use Rattle.rules.specs.Demands.{Refuses}
 use Rattle.rules.proofs.Passing.{Passes, passed, read-as, tables-pass}
-use Rattle.rules.proofs.Answers.{writes-over, lacks-room, judges-as, few-leaves, plan-passes, run-judges, refuses, after-tables, after-plan}
+use Rattle.rules.proofs.Answers.{leaves-as, writes-over, lacks-room, judges-as, few-leaves, plan-passes, run-judges, refuses, after-tables, after-plan}
 use Rattle.preparer.specs.declared.Prepared.{Prepared}
 use Rattle.preparer.specs.declared.Prepared.the-variants.{Rows, Refused as Unprepared}
 use Rattle.preparer.specs.Prepared.{Stands, Prepares}
@@ -39,10 +39,6 @@ use Rattle.runner.specs.Runs.{Runnable}
 -- nothing was judged
 abbrev none : Refusal → Judged
 none refusal = record { verdict = Unjudged refusal; count = 0 }
-
--- a call leaves what it gives
-leaves-as : {gives : Gives} {answer : Written} {output : List ℕ} → gives ≡ record { answer = answer; output = output } → Leaves gives answer output
-leaves-as e = rw e (record { answered = refl; left = refl })
 
 -- n numbers are to be written, those of the tree
 module _ {lent : Lent} {tokens : List ℕ} {t : Tree} (p : Passes lent tokens t) (make : Tree → List ℕ) {numbers : List ℕ} (e : numbers ≡ make t)
@@ -64,7 +60,7 @@ run-answers lent plan content switches p e = e ∙ sym (ap told (after-plan lent
 -- the check of a plan is lent no literal bytes
 module _ (items literals bytes names plan content : List ℕ) (t : firstOf (lentLines (lendNames items literals bytes names)) ≡ Sound) where
   plan-line : {line : Check} → planCheck (lendNames items literals [] names) plan ≡ line → planCheck (lendNames items literals bytes names) plan ≡ line
-  plan-line e = plan-lent items literals bytes names plan ∙ e
+  plan-line e = plan-lent false items literals bytes names plan ∙ e
 
   pub plan-refuses : (switches : ℕ) {refusal : Refusal} → planCheck (lendNames items literals [] names) plan ≡ Refused refusal →
       none refusal ≡ runGives (lendNames items literals bytes names) plan content switches
@@ -80,7 +76,7 @@ module _ (items literals bytes names plan content : List ℕ) (t : firstOf (lent
 
 -- what is prepared is a refusal
 module _ {lent : Lent} {tokens : List ℕ} {r : Prepared} {after : List ℕ} (p : Prepares lent tokens r after) {refusal : Refusal} (e : r ≡ Unprepared refusal) where
-  unready : Refuses lent tokens refusal
+  pub unready : Refuses lent tokens refusal
   unready = refuses lent tokens (rw e at (p .readied))
 
   pub expand-refused : (output : List ℕ) → Leaves (expandGives lent tokens output) (Unwritten refusal) output
@@ -93,15 +89,15 @@ module _ {lent : Lent} {tokens : List ℕ} {r : Prepared} {after : List ℕ} (p 
   judge-refused content switches = sym (unready .judge content switches)
 
 -- the rows that stand prepared, of a condition that passes
-record Ready (lent : Lent) (tokens : List ℕ) (count : ℕ) (after : List ℕ) : Type 0 where
-  tree : Tree
-  passes : Passes lent tokens tree
-  counted : count ≡ leaves tree
-  rows : take (count * 5) after ≡ planned tree
+pub record Ready (lent : Lent) (tokens : List ℕ) (count : ℕ) (after : List ℕ) : Type 0 where
+  pub tree : Tree
+  pub passes : Passes lent tokens tree
+  pub counted : count ≡ leaves tree
+  pub rows : take (count * 5) after ≡ planned tree
 
 -- what is prepared is rows
 module _ {lent : Lent} {tokens : List ℕ} {r : Prepared} {after : List ℕ} (p : Prepares lent tokens r after) {count : ℕ} (e : r ≡ Rows count) where
-  ready : Ready lent tokens count after
+  pub ready : Ready lent tokens count after
   ready =
       let h : (firstOf (conditionLines lent tokens) ≡ Sound) × Stands (read tokens) count after = rw e at (p .readied) in
       let (t, q) = passed lent tokens (h .0) in

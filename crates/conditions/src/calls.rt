@@ -34,7 +34,7 @@ pub fn expand(
     ensures { λ r. ⌜ Leaves (expandGives (lendNames (now (items .entry)) (now (literals .entry)) (now (bytes .entry)) (now (names .entry))) (now (tokens .entry)) (now (output .entry))) r (now (output .exit)) ⌝ }
 {
     let mut rows = [0u32; 640];
-    let prepared = prepare(items, literals, bytes, names, tokens, &mut rows);
+    let prepared = prepare(false, items, literals, bytes, names, tokens, &mut rows);
     match prepared {
         Prepared::Refused(refusal) => Written::Refused(refusal),
         Prepared::Rows(_) => {
@@ -71,7 +71,7 @@ pub fn plan(
     ensures { λ r. ⌜ Leaves (planGives (lendNames (now (items .entry)) (now (literals .entry)) (now (bytes .entry)) (now (names .entry))) (now (tokens .entry)) (now (output .entry))) r (now (output .exit)) ⌝ }
 {
     let mut rows = [0u32; 640];
-    let prepared = prepare(items, literals, bytes, names, tokens, &mut rows);
+    let prepared = prepare(false, items, literals, bytes, names, tokens, &mut rows);
     match prepared {
         Prepared::Refused(refusal) => Written::Refused(refusal),
         Prepared::Rows(count) => {
@@ -108,7 +108,7 @@ pub fn judge<'a>(
     ensures { λ r. ⌜ r ≡ judgeGives (lendNames (now (items .entry)) (now (literals .entry)) (now (bytes .entry)) (now (names .entry))) (now (tokens .entry)) (now («record» .entry)) switches ⌝ }
 {
     let mut rows = [0u32; 640];
-    let prepared = prepare(items, literals, bytes, names, tokens, &mut rows);
+    let prepared = prepare(false, items, literals, bytes, names, tokens, &mut rows);
     match prepared {
         Prepared::Refused(refusal) => unjudged(refusal),
         Prepared::Rows(count) => {
@@ -150,7 +150,7 @@ pub fn run<'a>(
     if let Check::Refused(refusal) = named {
         return unjudged(refusal);
     }
-    let rows = check_plan(items, literals, names, plan);
+    let rows = check_plan(false, items, literals, names, plan);
     if let Check::Refused(refusal) = rows {
         return unjudged(refusal);
     }

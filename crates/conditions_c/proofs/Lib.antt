@@ -1,3 +1,4 @@
 pub mod Telling
 pub mod Listed
 pub mod Merged
+pub mod Swept

@@ -1,10 +1,13 @@
 // The calls for C and COBOL. A slice passes as a pointer and then a length. A call returns the refusal's number, 0 for success, and
 // leaves the rest in a lent answer of nine numbers (specs/Answer.antt), each of which is written.
+pub mod convert; // switch-off words converted
 pub mod describe; // record descriptions
 pub mod differ; // what differs between two copies
+pub mod looked; // what a rule looks at
 pub mod mend; // mending
 pub mod merge; // the merge desk
 pub mod printed; // conditions as printed
+pub mod sweep; // a plan over a whole file
 
 ghost use mathlib.Core.Path.{_≡_};
 ghost use Prim.Native.Nat.{_≤_};

@@ -22,6 +22,7 @@ use Rattle.typing.specs.declared.Test.the-variants.{Alone, Relation, Class, Sig
 use Rattle.typing.specs.Tests.{testOf}
 use Rattle.typing.specs.Shape.{shapeSound}
 use Rattle.typing.specs.Typing.{testTyped, typed}
+use Rattle.typing.proofs.Lending.{operand-rules}
 use Rattle.grammar.specs.declared.PlanRow.{PlanRow}
 use Rattle.grammar.specs.Depth.{depthFrom, depthCheck}
 use Rattle.grammar.specs.Plan.{planRow, planRows, targetSound, planRowSound, planLengthSound, planCheck}
@@ -188,21 +189,14 @@ typed-rules lent a r b = go (testOf r)
 
 -- the shape of a row under the old rules and under the new ones
 module _ (lent : Lent) where
-  operand-rules : (x : ℕ) → operandSound (under true lent) x ≡ operandSound (under false lent) x
-  operand-rules x = go (isOff x) refl
-    where
-      go : (b : Bool) → isOff x ≡ b → operandSound (under true lent) x ≡ operandSound (under false lent) x
-      go true e = rw (eqb-true (x / 65536) 3 e)
-      go false e = rw e
-
   switch-rules : (x : ℕ) → isOff x ≡ false → aloneSound (under true lent) x ≡ aloneSound (under false lent) x
   switch-rules x e = rw e
 
   shape-rules : (x : Test) (a b : ℕ) → isOff a ≡ false → shapeSound (under true lent) x a b ≡ shapeSound (under false lent) x a b
   shape-rules Alone a b e = ap (λ t. t && eqb b 0) (switch-rules a e)
-  shape-rules (Relation word negated) a b e = ap₂ (λ s t. s && t) (operand-rules a) (operand-rules b)
-  shape-rules (Class word negated) a b e = ap (λ t. t && eqb b 0) (operand-rules a)
-  shape-rules (Sign word negated) a b e = ap (λ t. t && eqb b 0) (operand-rules a)
+  shape-rules (Relation word negated) a b e = ap₂ (λ s t. s && t) (operand-rules true lent a) (operand-rules true lent b)
+  shape-rules (Class word negated) a b e = ap (λ t. t && eqb b 0) (operand-rules true lent a)
+  shape-rules (Sign word negated) a b e = ap (λ t. t && eqb b 0) (operand-rules true lent a)
   shape-rules Unknown a b e = refl
 
   -- the on switch of an off switch

@@ -13,7 +13,7 @@ use Rattle.tables.specs.declared.Check.the-variants.{Sound}
 use Rattle.tables.specs.declared.Refusal.the-variants.{Token}
 use Rattle.tables.specs.Tokens.{isSwitch, exists, tokenThere}
 use Rattle.tables.specs.Rows.{rowCount, nameCount}
-use Rattle.tables.specs.Operands.{Lent, lend, lendNames, operandSound, aloneSound}
+use Rattle.tables.specs.Operands.{Lent, lend, lendNames, under, operandSound, aloneSound}
 use Rattle.tables.specs.Tables.{tokenCheck}
 use Rattle.typing.specs.Tests.{testOf}
 use Rattle.typing.specs.Shape.{shapeSound}
@@ -185,14 +185,14 @@ module _ (t : Tree) (rows : List ℕ) (e : take (leaves t * 5) rows ≡ planned 
             ∙ planned-stands t .stands k l;
       }
 
-  pub rows-shaped : (items literals bytes names : List ℕ) → ShapedTree (lendNames items literals bytes names) t
+  pub rows-shaped : (off : Bool) (items literals bytes names : List ℕ) → ShapedTree (under off (lendNames items literals bytes names)) t
       → Shaped (lend items literals []) rows (leaves t)
-  rows-shaped items literals bytes names shapes =
+  rows-shaped off items literals bytes names shapes =
       record {
         inside = omega (arith, planned-length t, ap length e, length-take (leaves t * 5) rows);
         shape = λ k l.
-            shape-operands items literals bytes names (testOf (planRow rows k .relation)) (planRow rows k .subject) (planRow rows k .object)
-            (each-row (λ a r b. shapeSound (lendNames items literals bytes names) (testOf r) a b ≡ true) (planRow rows) 0 onTrue onFalse t buffer-stands shapes k
+            shape-operands off items literals bytes names (testOf (planRow rows k .relation)) (planRow rows k .subject) (planRow rows k .object)
+            (each-row (λ a r b. shapeSound (under off (lendNames items literals bytes names)) (testOf r) a b ≡ true) (planRow rows) 0 onTrue onFalse t buffer-stands shapes k
             (omega arith) (omega arith));
       }
 

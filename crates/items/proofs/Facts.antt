@@ -49,6 +49,11 @@ each-below test (suc n) e k h =
     by (yes g) rest last = rest g
     by (no g) rest last = let q : k ≡ n = omega arith in rw q last
 
+pub each-all : (test : ℕ → Bool) (n : ℕ) → ((k : ℕ) → k < n → test k ≡ true) → eachBelow test n ≡ true
+unfolding eachBelow
+each-all test zero h = refl
+each-all test (suc n) h = rw (each-all test n (λ k l. h k (omega arith)), h n (omega arith))
+
 -- 19 ruled out
 pub clear-fact : (items : List ℕ) → overlapCheck items ≡ Sound → Clear items (rowCount items)
 clear-fact items e u v h k eu ev =

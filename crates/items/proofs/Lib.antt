@@ -3,3 +3,4 @@ pub mod Sameness
 pub mod Copying
 pub mod Facts
 pub mod Listing
+pub mod Turns

@@ -1,7 +1,9 @@
 // 19: elementary items that share a byte.
 ghost use mathlib.Core.Path.{_≡_};
+ghost use mathlib.Core.Bool.{true};
 ghost use Prim.Native.Nat.{_*_, _+_, _<_};
 ghost use lib.ListN.{length};
+ghost use Rattle.tables.specs.declared.Check.the-variants.{Sound};
 ghost use Rattle.items.specs.Items.{apart, clearAt};
 ghost use Rattle.items.specs.Lines.{overlapCheck};
 use tables::Check;
@@ -43,8 +45,8 @@ fn is_clear(items: &[u32], v: usize) -> bool
     clear
 }
 
-// 19: the first elementary row that shares a byte with an earlier one.
-pub fn check_overlap(items: &[u32]) -> Check
+// The first elementary row that shares a byte with an earlier one, each tried against all before it.
+fn first_overlap(items: &[u32]) -> Check
     ensures { λ r. ⌜ r ≡ overlapCheck (now (items .entry)) ⌝ }
 {
     let rows = items.len() / 5;
@@ -56,4 +58,34 @@ pub fn check_overlap(items: &[u32]) -> Check
         v += 1;
     }
     Check::Sound
+}
+
+// Whether each elementary row starts where the one before it ends, or later: so rows of a description lie, and one pass tells that none
+// of them overlap.
+fn lie_in_turn(items: &[u32]) -> bool
+    ensures { λ r. ⌜ (r ≡ true → overlapCheck (now (items .entry)) ≡ Sound) ⌝ }
+{
+    let rows = items.len() / 5;
+    let mut in_turn = true;
+    let mut end: usize = 0;
+    let mut v: usize = 0;
+    while v < rows {
+        let row = row_at(items, v);
+        if !is_group(row) {
+            in_turn = in_turn & (end <= wide(row.offset));
+            end = wide(row.offset) + wide(row.size);
+        }
+        v += 1;
+    }
+    in_turn
+}
+
+// 19: the first elementary row that shares a byte with an earlier one.
+pub fn check_overlap(items: &[u32]) -> Check
+    ensures { λ r. ⌜ r ≡ overlapCheck (now (items .entry)) ⌝ }
+{
+    if lie_in_turn(items) {
+        return Check::Sound;
+    }
+    first_overlap(items)
 }

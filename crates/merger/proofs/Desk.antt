@@ -55,7 +55,7 @@ module _ (items literals bytes names plan old first second : List ℕ) where
             → firstOf (deskLines lent plan old first second) ≡ Refused refusal
         plan-refuses e =
             lines-before (lentLines lent) after ∙ line-sound after t ∙ line-sound _ o ∙ line-sound _ l
-            ∙ line-refused _ (plan-lent items literals bytes names plan ∙ e)
+            ∙ line-refused _ (plan-lent false items literals bytes names plan ∙ e)
 
         pub record-decides : planCheck (lendNames items literals [] names) plan ≡ Sound → {line : Check} → line ≡ longCheck items old
             → line ≡ firstOf (deskLines lent plan old first second)
@@ -63,7 +63,7 @@ module _ (items literals bytes names plan old first second : List ℕ) where
             line-is
             ∙ sym (
             lines-before (lentLines lent) after ∙ line-sound after t ∙ line-sound _ o ∙ line-sound _ l
-            ∙ line-sound _ (plan-lent items literals bytes names plan ∙ e) ∙ line-last _
+            ∙ line-sound _ (plan-lent false items literals bytes names plan ∙ e) ∙ line-last _
             )
 
 -- a desk that refuses nothing: what the writing of a merge assumes

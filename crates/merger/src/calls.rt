@@ -69,7 +69,7 @@ fn check_desk(
     if let Check::Refused(refusal) = lengths {
         return Check::Refused(refusal);
     }
-    let rows = check_plan(items, literals, names, plan);
+    let rows = check_plan(false, items, literals, names, plan);
     if let Check::Refused(refusal) = rows {
         return Check::Refused(refusal);
     }

@@ -3,7 +3,7 @@ ghost use mathlib.Core.Path.{_≡_};
 ghost use mathlib.Core.List.{[]};
 ghost use Prim.Native.Nat.{_+_, _*_, _≤_, _<_};
 ghost use lib.ListN.{length};
-ghost use Rattle.tables.specs.Operands.{lend, lendNames};
+ghost use Rattle.tables.specs.Operands.{lend, lendNames, under};
 ghost use Rattle.grammar.specs.Plan.{planRow, targetSound, planRowSound, planCheck};
 ghost use Rattle.grammar.specs.Typed.{typedRows, Shaped};
 use crate::Target;
@@ -52,7 +52,9 @@ fn target_sound(rows: usize, k: usize, target: u32) -> bool
     ((k < next) & (next < rows)) | (target == Target::FALSE) | (target == Target::TRUE)
 }
 
+// `off`, here and below: the rules have the switch-off words.
 fn row_sound(
+    off: bool,
     items: &[u32],
     literals: &[u32],
     names: &[u32],
@@ -60,9 +62,10 @@ fn row_sound(
     k: usize,
     row: PlanRow,
 ) -> bool
-    ensures { λ r. ⌜ r ≡ planRowSound (lendNames (now (items .entry)) (now (literals .entry)) [] (now (names .entry))) rows k row ⌝ }
+    ensures { λ r. ⌜ r ≡ planRowSound (under off (lendNames (now (items .entry)) (now (literals .entry)) [] (now (names .entry)))) rows k row ⌝ }
 {
     if !condition_sound(
+        off,
         items,
         literals,
         names,
@@ -76,8 +79,8 @@ fn row_sound(
 }
 
 // 11: a plan of 1 to 128 rows of five, and the first row that is not as a plan's rows are.
-pub fn check_plan(items: &[u32], literals: &[u32], names: &[u32], plan: &[u32]) -> Check
-    ensures { λ r. ⌜ r ≡ planCheck (lendNames (now (items .entry)) (now (literals .entry)) [] (now (names .entry))) (now (plan .entry)) ⌝ }
+pub fn check_plan(off: bool, items: &[u32], literals: &[u32], names: &[u32], plan: &[u32]) -> Check
+    ensures { λ r. ⌜ r ≡ planCheck (under off (lendNames (now (items .entry)) (now (literals .entry)) [] (now (names .entry)))) (now (plan .entry)) ⌝ }
 {
     let rows = plan.len() / 5;
     if !((plan.len() % 5 == 0) & (1 <= rows) & (rows <= 128)) {
@@ -85,7 +88,7 @@ pub fn check_plan(items: &[u32], literals: &[u32], names: &[u32], plan: &[u32]) 
     }
     let mut k: usize = 0;
     while k < rows {
-        if !row_sound(items, literals, names, rows, k, plan_row(plan, k)) {
+        if !row_sound(off, items, literals, names, rows, k, plan_row(plan, k)) {
             return Check::Refused(Refusal::PlanRow(k));
         }
         k += 1;

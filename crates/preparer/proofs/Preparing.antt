@@ -12,7 +12,7 @@ use Rattle.tables.specs.declared.Refusal.{Refusal}
 use Rattle.tables.specs.declared.Refusal.the-variants.{Grammar}
 use Rattle.tables.specs.declared.Check.{Check}
 use Rattle.tables.specs.declared.Check.the-variants.{Sound, Refused}
-use Rattle.tables.specs.Operands.{Lent, lend, lendNames}
+use Rattle.tables.specs.Operands.{Lent, lend, lendNames, under}
 use Rattle.tables.specs.Refusals.{place, firstOf}
 use Rattle.tables.specs.Tables.{tokenCountCheck, tokenCheck}
 use Rattle.values.specs.Names.{lentLines}
@@ -128,8 +128,8 @@ module _ (items literals tokens after : List ℕ) (count : ℕ) {depth : Check} 
   shaped-of : Stands (read tokens) count after → Shaped lent after count
   shaped-of s =
       rw (s .counted)
-      (rows-shaped (s .tree) after (rw (s .counted) at (s .rows)) items literals [] (there .names)
-      (shaped (lendNames items literals [] (there .names)) (sound tokens (s .tree) (s .read-as)) (there .exist)))
+      (rows-shaped (s .tree) after (rw (s .counted) at (s .rows)) (there .off) items literals [] (there .names)
+      (shaped (under (there .off) (lendNames items literals [] (there .names))) (sound tokens (s .tree) (s .read-as)) (there .exist)))
 
   pub shaped-rows : Shaped lent after count
   shaped-rows = shaped-of (lies count after (read tokens) parses)
@@ -148,34 +148,38 @@ module _ (items literals tokens after : List ℕ) (count : ℕ) {depth : Check} 
   pub resolved : {typing : Check} → typing ≡ typedRows lent after count → typing ≡ Sound → Resolves lent tokens (Rows count) after
   resolved g h = record { readied = (last-line g ∙ h, lies count after (read tokens) parses) }
 
--- 1 to 9 and 18: what is resolved depends neither on the literal bytes nor on the names
-typing-check-lent : (items literals bytes names : List ℕ) (reading : Reading) →
-    typingCheck (lendNames items literals bytes names) reading ≡ typingCheck (lend items literals []) reading
-typing-check-lent items literals bytes names (accepted t) = typing-lent items literals bytes names 0 t
-typing-check-lent items literals bytes names (refused at) = refl
+-- 1 to 9 and 18: what is resolved depends neither on the literal bytes nor on the names, nor on the rules for switch-off words
+typing-check-lent : (off : Bool) (items literals bytes names : List ℕ) (reading : Reading) →
+    typingCheck (under off (lendNames items literals bytes names)) reading ≡ typingCheck (lend items literals []) reading
+typing-check-lent off items literals bytes names (accepted t) = typing-lent off items literals bytes names 0 t
+typing-check-lent off items literals bytes names (refused at) = refl
 
-module _ (items literals bytes names tokens : List ℕ) {lines : Check} (six : lines ≡ firstOf (tokenLines (lendNames items literals bytes names) tokens)) where
+module _ (off : Bool) (items literals bytes names tokens : List ℕ) {lines : Check}
+    (six : lines ≡ firstOf (tokenLines (under off (lendNames items literals bytes names)) tokens)) where
+  abbrev tables : Lent
+  tables = under off (lendNames items literals bytes names)
+
   pub lent-refused : {refusal : Refusal} {after : List ℕ} → lines ≡ Refused refusal →
-      Prepares (lendNames items literals bytes names) tokens (Unprepared refusal) after
-  lent-refused e = record { readied = lines-before (tokenLines (lendNames items literals bytes names) tokens) _ ∙ line-refused _ (sym six ∙ e) }
+      Prepares tables tokens (Unprepared refusal) after
+  lent-refused e = record { readied = lines-before (tokenLines tables tokens) _ ∙ line-refused _ (sym six ∙ e) }
 
-  whole : lines ≡ Sound → firstOf (conditionLines (lendNames items literals bytes names) tokens) ≡ firstOf (grammarLines (lend items literals []) tokens)
+  whole : lines ≡ Sound → firstOf (conditionLines tables tokens) ≡ firstOf (grammarLines (lend items literals []) tokens)
   whole e =
-      lines-before (tokenLines (lendNames items literals bytes names) tokens) _
+      lines-before (tokenLines tables tokens) _
       ∙ line-sound _ (sym six ∙ e)
-      ∙ rw (typing-check-lent items literals bytes names (read tokens))
+      ∙ rw (typing-check-lent off items literals bytes names (read tokens))
 
   readied : lines ≡ Sound → (r : Prepared) (after : List ℕ) → Readies (firstOf (grammarLines (lend items literals []) tokens)) (read tokens) r after →
-      Readies (firstOf (conditionLines (lendNames items literals bytes names) tokens)) (read tokens) r after
+      Readies (firstOf (conditionLines tables tokens)) (read tokens) r after
   readied e (Rows count) after h = (whole e ∙ h .0, h .1)
   readied e (Unprepared refusal) after h = whole e ∙ h
 
   pub prepared : lines ≡ Sound → {r : Prepared} {after : List ℕ} → Resolves (lend items literals []) tokens r after →
-      Prepares (lendNames items literals bytes names) tokens r after
+      Prepares tables tokens r after
   prepared e {r} {after} h = record { readied = readied e r after (h .readied) }
 
   -- what resolving needs to know of the tokens
   pub resolvable : lines ≡ Sound → (length tokens ≤ 256) × There items literals tokens
   resolvable e =
-      let s = lines-sound (tokenLines (lendNames items literals bytes names) tokens) (sym six ∙ e) in
-      (leb-true _ _ (both (leb 1 (length tokens)) (leb (length tokens) 256) (test-sound _ _ (s .1 .1 .1 .1 .1 .0)) .1), record { names = names; exist = s .1 .1 .1 .1 .1 .1 .0 })
+      let s = lines-sound (tokenLines tables tokens) (sym six ∙ e) in
+      (leb-true _ _ (both (leb 1 (length tokens)) (leb (length tokens) 256) (test-sound _ _ (s .1 .1 .1 .1 .1 .0)) .1), record { off = off; names = names; exist = s .1 .1 .1 .1 .1 .1 .0 })

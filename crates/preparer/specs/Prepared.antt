@@ -1,13 +1,14 @@
 -- What the functions below the calls promise: the lines 1 to 9 and 18 have been tried, and the rows of the condition's tree stand in a
 -- buffer.
 use mathlib.Core.Path.{_≡_}
+use mathlib.Core.Bool.{Bool}
 use mathlib.Core.List.{List, [], _∷_}
 use Prim.Native.Nat.{ℕ, suc, _*_}
 use lib.ListN.{length, take}
 use Rattle.tables.specs.declared.Refusal.the-variants.{Grammar}
 use Rattle.tables.specs.declared.Check.{Check}
 use Rattle.tables.specs.declared.Check.the-variants.{Sound, Refused}
-use Rattle.tables.specs.Operands.{Lent, lendNames}
+use Rattle.tables.specs.Operands.{Lent, lendNames, under}
 use Rattle.tables.specs.Tables.{tokenCheck}
 use Rattle.tables.specs.Refusals.{place, firstOf}
 use Rattle.parser.specs.declared.Parse.{Parse}
@@ -20,10 +21,11 @@ use Rattle.preparer.specs.declared.Prepared.{Prepared}
 use Rattle.preparer.specs.declared.Prepared.the-variants.{Rows, Refused as Unprepared}
 use Rattle.rules.specs.Calls.{grammarLines, conditionLines}
 
--- every token exists, whatever the names are: 7 to 9 do not ask for them
+-- every token exists, whatever the names are, by the rules with or without the switch-off words: 7 to 9 do not ask for them
 pub record There (items literals tokens : List ℕ) : Type 0 where
+  pub off : Bool
   pub names : List ℕ
-  pub exist : tokenCheck (lendNames items literals [] names) tokens ≡ Sound
+  pub exist : tokenCheck (under off (lendNames items literals [] names)) tokens ≡ Sound
 
 -- 7, of what was parsed
 abbrev pub parseCheck : Parse → Check

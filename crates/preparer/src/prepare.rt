@@ -3,7 +3,7 @@ ghost use mathlib.Core.Path.{_≡_};
 ghost use mathlib.Core.List.{[]};
 ghost use Prim.Native.Nat.{_≤_};
 ghost use lib.ListN.{length};
-ghost use Rattle.tables.specs.Operands.{lend, lendNames};
+ghost use Rattle.tables.specs.Operands.{lend, lendNames, under};
 ghost use Rattle.tables.specs.Refusals.{firstOf};
 ghost use Rattle.grammar.specs.Depth.{depthCheck};
 ghost use Rattle.rules.specs.Calls.{earlier, tokenLines};
@@ -21,9 +21,16 @@ use tables::Check;
 use tables::Refusal;
 use tables::refusals::place_of;
 
-// 1 to 6, and 18 just after 4.
-fn check_lent(items: &[u32], literals: &[u32], bytes: &[u8], names: &[u32], tokens: &[u32]) -> Check
-    ensures { λ r. ⌜ r ≡ firstOf (tokenLines (lendNames (now (items .entry)) (now (literals .entry)) (now (bytes .entry)) (now (names .entry))) (now (tokens .entry))) ⌝ }
+// 1 to 6, and 18 just after 4. `off`, here and below: the rules have the switch-off words.
+fn check_lent(
+    off: bool,
+    items: &[u32],
+    literals: &[u32],
+    bytes: &[u8],
+    names: &[u32],
+    tokens: &[u32],
+) -> Check
+    ensures { λ r. ⌜ r ≡ firstOf (tokenLines (under off (lendNames (now (items .entry)) (now (literals .entry)) (now (bytes .entry)) (now (names .entry)))) (now (tokens .entry))) ⌝ }
 {
     let tables = check_tables(items, literals, bytes);
     if let Check::Refused(refusal) = tables {
@@ -37,7 +44,7 @@ fn check_lent(items: &[u32], literals: &[u32], bytes: &[u8], names: &[u32], toke
     if let Check::Refused(refusal) = count {
         return Check::Refused(refusal);
     }
-    check_tokens(items, literals, names, tokens)
+    check_tokens(off, items, literals, names, tokens)
 }
 
 // Of 7 and 8 the one at the smaller place, and 7 on a tie.
@@ -97,6 +104,7 @@ fn resolve(items: &[u32], literals: &[u32], tokens: &[u32], rows: &mut [u32]) ->
 
 // 1 to 9 and 18.
 pub fn prepare(
+    off: bool,
     items: &[u32],
     literals: &[u32],
     bytes: &[u8],
@@ -105,9 +113,9 @@ pub fn prepare(
     rows: &mut [u32],
 ) -> Prepared
     requires { ⌜ 640 ≤ length (now rows) ⌝ }
-    ensures { λ r. ⌜ Prepares (lendNames (now (items .entry)) (now (literals .entry)) (now (bytes .entry)) (now (names .entry))) (now (tokens .entry)) r (now (rows .exit)) ⌝ }
+    ensures { λ r. ⌜ Prepares (under off (lendNames (now (items .entry)) (now (literals .entry)) (now (bytes .entry)) (now (names .entry)))) (now (tokens .entry)) r (now (rows .exit)) ⌝ }
 {
-    let lent = check_lent(items, literals, bytes, names, tokens);
+    let lent = check_lent(off, items, literals, bytes, names, tokens);
     match lent {
         Check::Refused(refusal) => Prepared::Refused(refusal),
         Check::Sound => resolve(items, literals, tokens, rows),

@@ -9,7 +9,6 @@ use lib.Dec.{eqb, ltb}
 use lib.ListN.{length, getD, take, drop, length-drop, drop-of-length-le}
 use lib.Seq.{drop-cons, length-take-le, getD-take, getD-drop}
 use borrow.Author.Tests.{eq-eqb, ne-eqb}
-use Rattle.tables.specs.Tokens.{isItem, isOff, tokenThere}
 use Rattle.description.specs.Grammar.{bytes, same, all, isNameByte}
 use Rattle.spelling.specs.Names.{leading, Known, everyName}
 use Rattle.spelling.specs.Meanings.{count, position}
@@ -18,7 +17,7 @@ use Rattle.naming.specs.declared.Called.{Called}
 use Rattle.naming.specs.declared.Called.the-variants.{Item, Condition, Not}
 use Rattle.naming.specs.Named.{knownAt, Listed, rowBy, calledBy}
 use Rattle.naming.proofs.Finding.{name-at}
-use Rattle.printable.specs.Passing.{passing, mayPrint, There}
+use Rattle.printable.specs.Passing.{passing, There}
 
 module _ (test : ℕ → Bool) (tokens : List ℕ) (i : ℕ) where
   pub passed-end : length tokens ≤ i → passing test (drop i tokens) ≡ 0
@@ -33,11 +32,6 @@ module _ (test : ℕ → Bool) (tokens : List ℕ) (i : ℕ) where
     pub passes-on : test (getD tokens i 0) ≡ true → passing test (drop i tokens) ≡ suc (passing test (drop (i + 1) tokens))
     unfolding passing
     passes-on e = rw (add-one, drop-cons tokens i 0 h, e)
-
--- 3 is an off switch
-pub may-print : (items literals names t : ℕ) (r : Bool) → r ≡ tokenThere true items literals names t
-    → r && not (eqb (t / 65536) 3) ≡ mayPrint items literals names t
-may-print items literals names t r e = ap (λ (a : Bool). a && not (isOff t)) e
 
 -- names
 pub leading-bytes : (rest : List ℕ) → all isNameByte (leading rest) ≡ true

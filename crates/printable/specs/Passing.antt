@@ -1,10 +1,10 @@
 -- Tokens before the first that fails a test.
 use mathlib.Core.Path.{_≡_}
-use mathlib.Core.Bool.{Bool, true, cond, not, _&&_}
+use mathlib.Core.Bool.{Bool, false, cond}
 use mathlib.Core.List.{List, [], _∷_}
 use Prim.Native.Nat.{ℕ, suc, _+_, _/_, _%_, _<_}
 use lib.ListN.{length, getD}
-use Rattle.tables.specs.Tokens.{isOff, tokenThere}
+use Rattle.tables.specs.Tokens.{tokenThere}
 
 -- how many tokens stand before the first that fails a test
 unfoldable pub passing : (ℕ → Bool) → List ℕ → ℕ
@@ -13,7 +13,7 @@ passing test (t ∷ ts) = cond (test t) (suc (passing test ts)) 0
 
 -- `printable`, by the numbers of names and rows
 abbrev pub mayPrint : ℕ → ℕ → ℕ → ℕ → Bool
-mayPrint items literals names t = tokenThere true items literals names t && not (isOff t)
+mayPrint items literals names t = tokenThere false items literals names t
 
 -- an item token and a condition-name have a place
 pub record There (items : ℕ) (places : List ℕ) (t : ℕ) : Type 0 where

@@ -13,11 +13,11 @@ use naming::parts::name_part;
 use tables::tokens::token_there;
 use words::keywords::same_bytes;
 
-// Whether there is such a token, and it is no off switch.
+// Whether there is such a token: an off switch is none.
 fn may_print(token: u32, items: usize, literals: usize, names: usize) -> bool
     ensures { λ r. ⌜ r ≡ mayPrint items literals names token ⌝ }
 {
-    token_there(token, items, literals, names) & (token / 65536 != 3)
+    token_there(false, token, items, literals, names)
 }
 
 // How many tokens stand before the first that there is not.

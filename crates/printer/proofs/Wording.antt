@@ -1,13 +1,13 @@
 -- The word of a token, by its kind.
 use mathlib.Core.Path.{_≡_, refl, sym, ap, _∙_}
-use mathlib.Core.Bool.{Bool, true, false, cond, not, _&&_, _||_}
+use mathlib.Core.Bool.{Bool, true, false, cond, _&&_, _||_, and-false}
 use mathlib.Core.List.{List, [], _∷_, map}
 use Prim.Native.Nat.{ℕ, _+_, _*_, _/_, _%_, _≤_, _<_}
 use native.Mathlib.Omega.{arith}
 use lib.Dec.{eqb, leb, ltb}
 use lib.ListN.{length, getD, take, drop, length-drop}
 use lib.Seq.{length-take-le, getD-take, getD-drop}
-use borrow.Author.Tests.{leb-true, ltb-true, ne-eqb, not-true}
+use borrow.Author.Tests.{leb-true, ltb-true, ne-eqb}
 use Rattle.tables.specs.declared.Row.{Row}
 use Rattle.tables.specs.Rows.{rowCount, rowAt}
 use Rattle.tables.specs.Tokens.{isItem, isLiteral, isOn, isOff, isWord, isName, nameThere}
@@ -79,7 +79,7 @@ module _ (description : List ℕ) (items : ℕ) (places rows content : List ℕ)
   b = isLiteral t && ltb v (rowCount rows)
 
   abbrev c : Bool
-  c = (isOn t || isOff t && true) && leb v 7
+  c = (isOn t || isOff t && false) && leb v 7
 
   abbrev d : Bool
   d = isWord t && leb v 16
@@ -87,12 +87,12 @@ module _ (description : List ℕ) (items : ℕ) (places rows content : List ℕ)
   abbrev n : Bool
   n = nameThere (length (known .conditions)) t
 
-  may : ((a || b || c || d) || n ≡ true) × (isOff t ≡ false)
-  may = let e = both ((a || b || c || d) || n) (not (isOff t)) (P .there) in (e .0, not-true (isOff t) (e .1))
+  may : (a || b || c || d) || n ≡ true
+  may = P .there
 
   -- no condition-name
   there : isName t ≡ false → a || b || c || d ≡ true
-  there e = but-last (a || b || c || d) n (rw e) (may .0)
+  there e = but-last (a || b || c || d) n (rw e) may
 
   -- an item
   module _ (k : t / 65536 ≡ 0) where
@@ -113,7 +113,7 @@ module _ (description : List ℕ) (items : ℕ) (places rows content : List ℕ)
   module _ (k : t / 65536 ≡ 5) where
     pub condition-there : items + v < length places
     condition-there =
-        let e = last (a || b || c || d) n (rw k) (may .0) in
+        let e = last (a || b || c || d) n (rw k) may in
         omega (arith, ltb-true v (length (known .conditions)) (both (isName t) (ltb v (length (known .conditions))) e .1), conditions-length description items places)
 
     pub condition-word : wordOf known rows content t ≡ leading (drop (getD places (items + v) 0) description)
@@ -139,7 +139,7 @@ module _ (description : List ℕ) (items : ℕ) (places rows content : List ℕ)
     pub switch-there : v ≤ 7
     switch-there =
         let e = only-third a b c d (rw k) (rw k) (rw k) (there (rw k)) in
-        leb-true v 7 (both (isOn t || isOff t && true) (leb v 7) e .1)
+        leb-true v 7 (both (isOn t || isOff t && false) (leb v 7) e .1)
 
     pub switch-word : wordOf known rows content t ≡ getD spelt (17 + v) []
     switch-word = rw k (sym (same-true (getD spelt (17 + v) []) (UPSI v) (below 8 switches-right all-switches v (omega (arith, switch-there)))))
@@ -151,7 +151,7 @@ module _ (description : List ℕ) (items : ℕ) (places rows content : List ℕ)
         let i : isItem t ≡ false = ne-eqb (t / 65536) 0 p in
         let l : isLiteral t ≡ false = ne-eqb (t / 65536) 1 q in
         let o : isOn t ≡ false = ne-eqb (t / 65536) 2 r in
-        let e = only-fourth a b c d (rw i) (rw l) (rw (o, may .1)) (there (ne-eqb (t / 65536) 5 s)) in
+        let e = only-fourth a b c d (rw i) (rw l) (rw (o, and-false (isOff t))) (there (ne-eqb (t / 65536) 5 s)) in
         leb-true v 16 (both (isWord t) (leb v 16) e .1)
 
     pub word-word : wordOf known rows content t ≡ getD spelt v []

@@ -1,5 +1,5 @@
 -- What the calls give, over the definitions: of a condition that passes 1 to 9, of one that a line refuses, and of a plan.
-use mathlib.Core.Path.{_≡_, ap₂, _∙_}
+use mathlib.Core.Path.{_≡_, refl, ap₂, _∙_}
 use mathlib.Core.List.{List, [], _∷_, _++_}
 use Prim.Native.Nat.{ℕ, _≤_, _<_}
 use native.Mathlib.Omega.{arith}
@@ -9,6 +9,7 @@ use Rattle.tables.specs.declared.Refusal.{Refusal}
 use Rattle.tables.specs.declared.Refusal.the-variants.{Room}
 use Rattle.tables.specs.declared.Check.{Check}
 use Rattle.tables.specs.declared.Check.the-variants.{Sound, Refused}
+use Rattle.tables.specs.declared.Written.{Written}
 use Rattle.tables.specs.declared.Written.the-variants.{Refused as Unwritten}
 use Rattle.tables.specs.declared.Verdict.the-variants.{Refused as Unjudged}
 use Rattle.tables.specs.Operands.{Lent}
@@ -25,9 +26,13 @@ use Rattle.grammar.specs.Plan.{planned, planCheck, planRows, running}
 use Rattle.grammar.proofs.Size.{few-rows}
 use Rattle.grammar.proofs.Segment.{run-is-judging, run-visits, run-count}
 use Rattle.grammar.proofs.Shapes.{planned-plan-sound}
-use Rattle.rules.specs.Calls.{conditionLines, roomCheck, numbersOf, writing, expandGives, planGives, answers, told, judgeWalk, runWalk, runGives}
+use Rattle.rules.specs.Calls.{Gives, Leaves, conditionLines, roomCheck, numbersOf, writing, expandGives, planGives, answers, told, judgeWalk, runWalk, runGives}
 use Rattle.rules.specs.Demands.{writtenOver, rulesWalk, Refuses}
 use Rattle.rules.proofs.Passing.{typing-passes, after-lines, Passes, read-as, condition-passes, tables-pass, few-tokens, tokens-exist}
+
+-- a call leaves what it gives
+pub leaves-as : {gives : Gives} {answer : Written} {output : List ℕ} → gives ≡ record { answer = answer; output = output } → Leaves gives answer output
+leaves-as e = rw e (record { answered = refl; left = refl })
 
 -- a condition that passes
 module _ {lent : Lent} {tokens : List ℕ} {t : Tree} (p : Passes lent tokens t) where

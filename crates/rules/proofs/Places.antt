@@ -20,7 +20,7 @@ use Rattle.tables.specs.declared.Stop.the-variants.{Digits, Letters}
 use Rattle.tables.specs.declared.Verdict.{Verdict}
 use Rattle.tables.specs.declared.Verdict.the-variants.{True, False, Refused as Unjudged}
 use Rattle.tables.specs.Rows.{rowCount, nameCount}
-use Rattle.tables.specs.Operands.{Lent}
+use Rattle.tables.specs.Operands.{Lent, under}
 use Rattle.tables.specs.Refusals.{place, byteOf, unless, firstFailing, firstOf}
 use Rattle.tables.specs.Tables.{lengthSound, itemTableCheck, itemRowCheck, literalTableCheck, literalRowCheck, tokenCountCheck, tokenCheck, recordCheck}
 use Rattle.values.specs.Names.{nameCheck, lentLines}
@@ -41,7 +41,10 @@ use Rattle.grammar.proofs.Segment.{planned-length, follow-row, follow-true, fol
 use Rattle.grammar.proofs.Sure.{some-rows, sure}
 use Rattle.grammar.specs.Expanded.{expanded}
 use Rattle.grammar.specs.Plan.{onTrue, onFalse, planned, planRow, planRows, planLengthSound, planCheck, follow, run, running}
+use Rattle.grammar.specs.Converted.{convertedTokens, convertedPlan}
+use Rattle.grammar.proofs.ConvertedSound.{converted-length}
 use Rattle.rules.specs.Places.{Small, Modest, Fits}
+use Rattle.rules.specs.Converting.{fitCheck, convertGives, convertPlanGives}
 use Rattle.rules.specs.Calls.{grammarCheck, earlier, typingCheck, conditionLines, roomCheck, writes, numbersOf, writing, expandGives, planGives, answers, told, treeAnswer, judgeWalk, judgeGives, runWalk, runGives}
 use Rattle.rules.proofs.Passing.{both-sound, passed, read-as, few-tokens as short-passed}
 use Rattle.rules.proofs.Answers.{runs-as}
@@ -145,21 +148,25 @@ low-typing lent n (either t u) l =
 few-tokens : (tokens : List ℕ) → tokenCountCheck tokens ≡ Sound → length tokens ≤ 256
 few-tokens tokens e = leb-true _ _ (both (leb 1 (length tokens)) (leb (length tokens) 256) (test-sound _ TokenCount e) .1)
 
--- 1 to 9, and a line after them that is low where none of them applies
-low-condition : (lent : Lent) (tokens : List ℕ) (last : Check) →
-    (rowCount (lent .items) ≤ 64 → length tokens ≤ 256 → Low last) → Low (firstOf (conditionLines lent tokens ++ last ∷ []))
-low-condition lent tokens last h =
+-- 1 to 9, and lines after them that are low where none of them applies
+low-condition : (lent : Lent) (tokens : List ℕ) (others : List Check) →
+    (rowCount (lent .items) ≤ 64 → length tokens ≤ 256 → Low (firstOf others)) → Low (firstOf (conditionLines lent tokens ++ others))
+low-condition lent tokens others h =
     low-tables lent _ (λ few.
     low-first (tokenCountCheck tokens) _ (low-unless (leb 1 (length tokens) && leb (length tokens) 256) TokenCount (omega arith, refl)) (λ five.
     let short = few-tokens tokens five in
     low-first (tokenCheck lent tokens) _ (low-failing _ Token (λ k. (refl, refl)) 0 (length tokens) (omega arith)) (λ six.
     low-first (earlier (grammarCheck (read tokens)) (depthCheck tokens)) _
     (low-earlier (grammarCheck (read tokens)) (depthCheck tokens) (low-grammar tokens short) (low-depth 0 0 tokens (omega arith))) (λ seven.
-    low-first (typingCheck lent (read tokens)) _ (typing short (read tokens) refl) (λ nine. low-last last (h few short))))))
+    low-first (typingCheck lent (read tokens)) _ (typing short (read tokens) refl) (λ nine. h few short)))))
   where
     typing : length tokens ≤ 256 → (r : Reading) → read tokens ≡ r → Low (typingCheck lent r)
     typing short (accepted t) e = low-typing lent 0 t (omega (arith, few-rows (sound tokens t e) short))
     typing short (refused at) e = tt
+
+-- 10, the last line of a writing call
+low-room : (numbers output : List ℕ) → length numbers ≤ 640 → Low (firstOf (roomCheck numbers output ∷ []))
+low-room numbers output l = low-last _ (low-unless (leb (length numbers) (length output)) (Room (length numbers)) (l, refl))
 
 -- a count or a place of a writing call
 small-writes : (line : Check) (numbers output : List ℕ) → Low line → (line ≡ Sound → length numbers ≤ 640) → Small (writes line numbers output .answer)
@@ -179,8 +186,8 @@ module _ (make : Tree → List ℕ) (few : (tokens : List ℕ) (t : Tree) → De
   small-writing lent tokens output =
       let numbers = numbersOf make (read tokens) in
       small-writes _ numbers output
-      (low-condition lent tokens (roomCheck numbers output) (λ few-items short.
-      low-unless (leb (length numbers) (length output)) (Room (length numbers)) (few-numbers tokens short, refl)))
+      (low-condition lent tokens (roomCheck numbers output ∷ []) (λ few-items short.
+      low-room numbers output (few-numbers tokens short)))
       (λ e.
       let (t, p) = passed lent tokens (both-sound (conditionLines lent tokens) (roomCheck numbers output ∷ []) e .0) in
       few-numbers tokens (short-passed p))
@@ -275,6 +282,34 @@ low-plan lent plan =
     leb-true _ _ (both (eqb (length plan % 5) 0 && leb 1 (planRows plan)) (leb (planRows plan) 128) (test-sound _ (PlanFault 0) e) .1) in
     low-last _ (low-failing _ PlanFault (λ k. (refl, refl)) 0 (planRows plan) (omega arith)))
 
+-- the converters
+pub convert-small : (lent : Lent) (tokens output : List ℕ) → Small (convertGives lent tokens output .answer)
+unfolding convertGives
+convert-small lent tokens output =
+    let numbers = convertedTokens tokens in
+    let rest = fitCheck numbers ∷ roomCheck numbers output ∷ [] in
+    small-writes _ numbers output
+    (low-condition (under true lent) tokens rest (λ few short.
+    low-first (fitCheck numbers) _ (low-unless (leb (length numbers) 256) TokenCount (omega arith, refl)) (λ fits.
+    low-room numbers output (fit numbers fits))))
+    (λ e. fit numbers (lines-sound rest (both-sound (conditionLines (under true lent) tokens) rest e .1) .0))
+  where
+    fit : (numbers : List ℕ) → fitCheck numbers ≡ Sound → length numbers ≤ 640
+    fit numbers e = omega (arith, leb-true (length numbers) 256 (test-sound _ TokenCount e))
+
+pub convert-plan-small : (lent : Lent) (plan output : List ℕ) → Small (convertPlanGives lent plan output .answer)
+unfolding convertPlanGives
+convert-plan-small lent plan output =
+    let old = under true lent in
+    let numbers = convertedPlan plan in
+    let rest = planCheck old plan ∷ roomCheck numbers output ∷ [] in
+    small-writes _ numbers output
+    (low-tables old rest (λ few. low-first (planCheck old plan) _ (low-plan old plan) (λ s. low-room numbers output (many s))))
+    (λ e. many (lines-sound rest (both-sound (lentLines old) rest e .1) .0))
+  where
+    many : planCheck (under true lent) plan ≡ Sound → length (convertedPlan plan) ≤ 640
+    many s = omega (arith, converted-length plan, some-rows (under true lent) plan s)
+
 run-modest : (lent : Lent) (plan content : List ℕ) (switches : ℕ) → Modest (runGives lent plan content switches .verdict)
 unfolding runWalk run
 run-modest lent plan content switches =
@@ -293,7 +328,7 @@ judge-modest : (lent : Lent) (tokens content : List ℕ) (switches : ℕ) → Mo
 unfolding judgeWalk
 judge-modest lent tokens content switches =
     modest-answers _ (treeAnswer lent content switches (read tokens))
-    (low-condition lent tokens (recordCheck lent content) (λ few short. low-record lent content few))
+    (low-condition lent tokens (recordCheck lent content ∷ []) (λ few short. low-last _ (low-record lent content few)))
     (λ e.
     let (lines, last) = both-sound (conditionLines lent tokens) (recordCheck lent content ∷ []) e in
     let (t, p) = passed lent tokens lines in

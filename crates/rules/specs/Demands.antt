@@ -1,5 +1,5 @@
 -- Document 01, "How strong a promise is": demands 2 and 3, over the definitions that the calls' contracts cite. Their proofs are
--- in proofs/Demands.antt.
+-- in proofs/Demands.antt. Document 02, l): "demand 3 speaks of plans written from then on": the calls' `Lent` has no switch-off words.
 use mathlib.Core.Path.{_≡_}
 use mathlib.Core.Bool.{true}
 use mathlib.Core.List.{List, _++_}

@@ -8,10 +8,9 @@ use lib.ListN.{length, getD, length-append}
 use lib.Seq.{getD-append-seam}
 use Rattle.tables.specs.declared.Check.the-variants.{Sound}
 use Rattle.tables.specs.declared.Refusal.the-variants.{Token}
-use Rattle.tables.specs.Tokens.{isOff, tokenThere}
+use Rattle.tables.specs.Tokens.{tokenThere}
 use Rattle.tables.specs.Rows.{rowCount, nameCount}
 use Rattle.tables.specs.Refusals.{firstFailing}
-use Rattle.tables.proofs.Tests.{both}
 use Rattle.description.specs.Grammar.{Condition, Table, nameRows, literals}
 use Rattle.description.specs.Limits.{Outcome, table, refusal as faulty, describe}
 use Rattle.spelling.specs.Words.{words}
@@ -62,8 +61,8 @@ module _ (b : Book) (K : Kept b) (text tokens rows bytes items names : List ℕ)
         count-sound = rw (r .tokens-are, r .counted);
         tokens-sound =
             rw (n, m, r .tokens-are, r .rows-are)
-            (passes (printable known all-rows) (λ t. tokenThere true (length (known .items)) (rowCount all-rows) (length (known .conditions)) t)
-            (λ t h. both _ (not (isOff t)) h .0) 6 0 [] (tokensOf b ps) (sound-tokens K ps c f));
+            (passes (printable known all-rows) (λ t. tokenThere false (length (known .items)) (rowCount all-rows) (length (known .conditions)) t)
+            (λ t h. h) 6 0 [] (tokensOf b ps) (sound-tokens K ps c f));
       }
 
 names-length : (k : ℕ) (cs : List Condition) → length (nameRows k cs) ≡ length cs

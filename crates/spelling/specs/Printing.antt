@@ -1,12 +1,12 @@
 -- Document 02, e): tokens written back, "one space between words, relations as symbols".
-use mathlib.Core.Bool.{Bool, true, cond, not, _&&_}
+use mathlib.Core.Bool.{Bool, true, false, cond, not, _&&_}
 use mathlib.Core.List.{List, [], _∷_, _++_, map}
 use Prim.Native.Nat.{ℕ, suc}
 use lib.ListN.{length, getD}
 use lib.Dec.{eqb}
 use Rattle.tables.specs.declared.Check.{Check}
 use Rattle.tables.specs.declared.Check.the-variants.{Sound, Refused}
-use Rattle.tables.specs.Tokens.{indexOf, isItem, isLiteral, isOn, isOff, isName, tokenThere}
+use Rattle.tables.specs.Tokens.{indexOf, isItem, isLiteral, isOn, isName, tokenThere}
 use Rattle.tables.specs.Rows.{rowCount, rowAt, part}
 use Rattle.tables.specs.Operands.{lend}
 use Rattle.tables.specs.Refusals.{number, place}
@@ -53,10 +53,9 @@ unfoldable pub firstToken : (ℕ → Bool) → ℕ → ℕ → List ℕ → Foun
 firstToken sound number at [] = none
 firstToken sound number at (t ∷ ts) = cond (sound t) (firstToken sound number (suc at) ts) (refusal number at)
 
--- "6 for an off switch" too; h): a condition-name beyond the name rows
+-- "6 for an off switch" too, which is no token since l); h): a condition-name beyond the name rows
 abbrev pub printable : Known → List ℕ → ℕ → Bool
-printable known rows t =
-    tokenThere true (length (known .items)) (rowCount rows) (length (known .conditions)) t && not (isOff t)
+printable known rows t = tokenThere false (length (known .items)) (rowCount rows) (length (known .conditions)) t
 
 -- a name that is no FILLER, and no other's
 abbrev pub uniquely : Known → List ℕ → Bool

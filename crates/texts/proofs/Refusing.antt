@@ -12,12 +12,10 @@ use Rattle.tables.specs.declared.Refusal.{Refusal}
 use Rattle.tables.specs.declared.Refusal.the-variants.{LiteralTable, LiteralRow, TokenCount as WrongCount, Token, Room as Short}
 use Rattle.tables.specs.declared.Check.{Check}
 use Rattle.tables.specs.declared.Check.the-variants.{Sound, Refused as Fails}
-use Rattle.tables.specs.Tokens.{isItem, isLiteral, isOn, isOff, isWord, exists}
 use Rattle.tables.specs.Rows.{rowCount, rowAt}
 use Rattle.tables.specs.Operands.{lend}
 use Rattle.tables.specs.Refusals.{number, place, firstFailing, firstOf, unless}
 use Rattle.tables.specs.Tables.{lengthSound, literalSound, tableLines, literalTableCheck, literalRowCheck, tokenCountCheck}
-use Rattle.tables.proofs.Tests.{both}
 use Rattle.description.specs.Limits.{Outcome, table, refusal as undescribed, describe}
 use Rattle.spelling.specs.Names.{Known, knownOf}
 use Rattle.naming.specs.Named.{Listed, knownAt}

@@ -8,7 +8,7 @@ ghost use Rattle.values.specs.Truth.{truth, turned, relationOutcome, classOutco
 use compare::classes::class_holds;
 use compare::orders::relation_holds;
 use compare::orders::sign_holds;
-use compare::switches::switch_holds;
+use compare::switches::switch_on;
 use names::ranges::name_outcome;
 use numbers::fields::read_number;
 use numbers::scaled::compare_scaled;
@@ -163,7 +163,7 @@ pub fn truth_of<'a>(
                 let name = (subject % 65536) as usize;
                 return name_outcome(items, literals, bytes, names, record, name);
             }
-            truth_value(false, switch_holds(switches, subject))
+            truth_value(false, switch_on(switches, subject % 65536))
         }
         Test::Relation { word, negated } => {
             relation_outcome(

@@ -3,8 +3,8 @@ ghost use mathlib.Core.Path.{_≡_};
 ghost use mathlib.Core.Bool.{true, _&&_, _||_};
 ghost use mathlib.Core.List.{[]};
 ghost use lib.Dec.{eqb, leb};
-ghost use Rattle.tables.specs.Operands.{lend, lendNames, operandSound};
-ghost use Rattle.tables.specs.Tokens.{isLiteral, isSwitch, indexOf, nameThere};
+ghost use Rattle.tables.specs.Operands.{lend, lendNames, under, operandSound};
+ghost use Rattle.tables.specs.Tokens.{isLiteral, isOn, isOff, indexOf, nameThere};
 ghost use Rattle.tables.specs.Rows.{nameCount};
 ghost use Rattle.typing.specs.Tests.{testOf};
 ghost use Rattle.typing.specs.Shape.{shapeSound, operandsSound};
@@ -68,17 +68,18 @@ fn operand_exists(items: &[u32], literals: &[u32], token: u32) -> bool
     }
 }
 
-fn switch_exists(token: u32) -> bool
-    ensures { λ r. ⌜ r ≡ (isSwitch token && leb (indexOf token) 7) ⌝ }
+// `off`, here and below: the rules have the switch-off words.
+fn switch_exists(off: bool, token: u32) -> bool
+    ensures { λ r. ⌜ r ≡ ((isOn token || isOff token && off) && leb (indexOf token) 7) ⌝ }
 {
-    ((token / 65536 == 2) | (token / 65536 == 3)) & (token % 65536 <= 7)
+    ((token / 65536 == 2) | ((token / 65536 == 3) & off)) & (token % 65536 <= 7)
 }
 
 // A switch, or a condition-name of its table.
-fn alone_exists(names: &[u32], token: u32) -> bool
-    ensures { λ r. ⌜ r ≡ (isSwitch token && leb (indexOf token) 7 || nameThere (nameCount (now (names .entry))) token) ⌝ }
+fn alone_exists(off: bool, names: &[u32], token: u32) -> bool
+    ensures { λ r. ⌜ r ≡ ((isOn token || isOff token && off) && leb (indexOf token) 7 || nameThere (nameCount (now (names .entry))) token) ⌝ }
 {
-    if switch_exists(token) {
+    if switch_exists(off, token) {
         return true;
     }
     name_there(token, names.len() / 18)
@@ -102,6 +103,7 @@ fn one_operand(items: &[u32], literals: &[u32], subject: u32, object: u32) -> bo
 
 // Whether the tokens are within their tables, and of the kinds that the test asks.
 fn shape_sound(
+    off: bool,
     items: &[u32],
     literals: &[u32],
     names: &[u32],
@@ -109,10 +111,10 @@ fn shape_sound(
     subject: u32,
     object: u32,
 ) -> bool
-    ensures { λ r. ⌜ r ≡ shapeSound (lendNames (now (items .entry)) (now (literals .entry)) [] (now (names .entry))) test subject object ⌝ }
+    ensures { λ r. ⌜ r ≡ shapeSound (under off (lendNames (now (items .entry)) (now (literals .entry)) [] (now (names .entry)))) test subject object ⌝ }
 {
     match test {
-        Test::Alone => alone_exists(names, subject) & (object == 0),
+        Test::Alone => alone_exists(off, names, subject) & (object == 0),
         Test::Relation {
             word: _,
             negated: _,
@@ -213,6 +215,7 @@ pub fn well_typed(items: &[u32], literals: &[u32], subject: u32, relation: u32, 
 
 // The shape and the typing of a row that a caller lends.
 pub fn condition_sound(
+    off: bool,
     items: &[u32],
     literals: &[u32],
     names: &[u32],
@@ -220,10 +223,10 @@ pub fn condition_sound(
     relation: u32,
     object: u32,
 ) -> bool
-    ensures { λ r. ⌜ r ≡ (shapeSound (lendNames (now (items .entry)) (now (literals .entry)) [] (now (names .entry))) (testOf relation) subject object && typed (lendNames (now (items .entry)) (now (literals .entry)) [] (now (names .entry))) subject relation object) ⌝ }
+    ensures { λ r. ⌜ r ≡ (shapeSound (under off (lendNames (now (items .entry)) (now (literals .entry)) [] (now (names .entry)))) (testOf relation) subject object && typed (under off (lendNames (now (items .entry)) (now (literals .entry)) [] (now (names .entry)))) subject relation object) ⌝ }
 {
     let test = test_of(relation);
-    if !shape_sound(items, literals, names, test, subject, object) {
+    if !shape_sound(off, items, literals, names, test, subject, object) {
         return false;
     }
     test_typed(items, literals, test, subject, object)

@@ -4,7 +4,7 @@ use Prim.Native.Nat.{ℕ, _/_, _≤_}
 use native.Mathlib.Omega.{arith}
 use native.Mathlib.Decide.{ℕ-discrete}
 use mathlib.Core.Path.{_≡_, refl, sym, subst⁻¹, _∙_}
-use mathlib.Core.Bool.{Bool, true, false, cond, _&&_, or-false}
+use mathlib.Core.Bool.{Bool, true, false, cond, _&&_, or-false, false≢true}
 use mathlib.Core.List.{List, [], _∷_}
 use mathlib.Core.Logic.{⊎-elim}
 use lib.Dec.{eqb, leb}
@@ -58,13 +58,13 @@ module _ (lent : Lent) (content : List ℕ) (x : ℕ) (tables : firstOf (tableLi
   pub sided : Sided lent content x
   sided = record { within = operand-within; fit = record { sound = row-lies .0; sized = operand-length operand-within refl } }
 
--- a switch that is there is one of 0 to 7
-switch-index : (lent : Lent) (x : ℕ) → switchSound lent x ≡ true → indexOf x ≤ 7
-switch-index lent x e =
+-- a switch that is there by the rules without switch-off words is an on switch, one of 0 to 7
+switch-index : (lent : Lent) → lent .off ≡ false → (x : ℕ) → switchSound lent x ≡ true → (isOn x ≡ true) × (indexOf x ≤ 7)
+switch-index lent none x e =
     let p = both (isSwitch x) (exists (lent .off) (rowCount (lent .items)) (rowCount (lent .literals)) x) e in
     ⊎-elim
-    (λ on. leb-true _ _ (simp or-false at (rw (eqb-true (x / 65536) 2 on) at (p .1))))
-    (λ off. leb-true _ _ (both (lent .off) (leb (indexOf x) 7) (simp or-false at (rw (eqb-true (x / 65536) 3 off) at (p .1))) .1))
+    (λ on. (on, leb-true _ _ (simp or-false at (rw (eqb-true (x / 65536) 2 on) at (p .1)))))
+    (λ off. absurd (false≢true (sym none ∙ both (lent .off) (leb (indexOf x) 7) (simp or-false at (rw (eqb-true (x / 65536) 3 off) at (p .1))) .0)))
     (either (isOn x) (isOff x) (p .0))
 
 -- a fit side has bytes
@@ -144,8 +144,8 @@ module _ {lent : Lent} {content : List ℕ} {subject relation object : ℕ} (rea
   alone-there : testOf relation ≡ Alone → aloneSound lent subject ≡ true
   alone-there e = both (aloneSound lent subject) _ (rw e at (readable .shape)) .0
 
-  pub read-switch : testOf relation ≡ Alone → isName subject ≡ false → indexOf subject ≤ 7
-  read-switch e n = switch-index lent subject (simp or-false at (rw n at (alone-there e)))
+  pub read-switch : lent .off ≡ false → testOf relation ≡ Alone → isName subject ≡ false → (isOn subject ≡ true) × (indexOf subject ≤ 7)
+  read-switch none e n = switch-index lent none subject (simp or-false at (rw n at (alone-there e)))
 
   pub read-name : testOf relation ≡ Alone → isName subject ≡ true → Named lent content (indexOf subject)
   read-name e n =

@@ -12,7 +12,7 @@ pub fn compare<S: Subject>(
     what: &str,
     seed: u64,
     count: u64,
-    differences: fn(&S) -> Vec<String>,
+    mut differences: impl FnMut(&S) -> Vec<String>,
 ) -> u64 {
     const PROGRESS: u64 = 50_000;
     const SHOWN: u64 = 5;

@@ -23,4 +23,5 @@ pub mod show;
 pub mod spelling;
 pub mod stats;
 pub mod subject;
+pub mod sweep;
 pub mod texts;

@@ -4,7 +4,7 @@ use second::answers;
 use second::case::{self, Case};
 use second::subject::{self, Subject};
 use second::{
-    convert, descriptions, differ, generate, looked, mend, merge, spelling, stats, texts,
+    convert, descriptions, differ, generate, looked, mend, merge, spelling, stats, sweep, texts,
 };
 use std::env;
 use std::io::{self, BufReader, BufWriter, Write};
@@ -19,7 +19,7 @@ second show SEED INDEX               one case in readable form
 second compare SEED COUNT            the library against the rules (feature library)
 second generate-SUBJECT SEED COUNT, answers-SUBJECT, show-SUBJECT SEED INDEX,
 second compare-SUBJECT SEED COUNT: the same for a SUBJECT: descriptions, spelling, differ,
-mend, merge, convert, looked
+mend, merge, convert, looked, sweep
 second differ FILE FILE FILE          what the program that lists differences prints
 second differ-files SEED INDEX FOLDER three files for it";
 
@@ -118,6 +118,8 @@ fn about(verb: &str, subject: &str, numbers: &[&str]) -> io::Result<ExitCode> {
         ("compare", "convert") => compare(numbers, convert::compare::compare),
         #[cfg(feature = "looked")]
         ("compare", "looked") => compare(numbers, looked::compare::compare),
+        #[cfg(feature = "sweep")]
+        ("compare", "sweep") => compare(numbers, sweep::compare::compare),
         #[cfg(feature = "merge")]
         ("compare", "merge") => compare(numbers, merge::compare::compare),
         (_, "spelling") => of_subject::<spelling::case::Case>(verb, numbers),
@@ -125,6 +127,7 @@ fn about(verb: &str, subject: &str, numbers: &[&str]) -> io::Result<ExitCode> {
         (_, "mend") => of_subject::<mend::case::Case>(verb, numbers),
         (_, "convert") => of_subject::<convert::case::Case>(verb, numbers),
         (_, "looked") => of_subject::<looked::case::Case>(verb, numbers),
+        (_, "sweep") => of_subject::<sweep::case::Case>(verb, numbers),
         (_, "merge") => of_subject::<merge::case::Case>(verb, numbers),
         _ => Err(invalid(USAGE)),
     }

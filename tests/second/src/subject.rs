@@ -32,6 +32,10 @@ impl Raw {
         self.bytes.extend_from_slice(&(number as u16).to_le_bytes());
     }
 
+    pub fn number(&mut self, number: u32) {
+        self.bytes.extend_from_slice(&number.to_le_bytes());
+    }
+
     pub fn text(&mut self, text: &[u8]) {
         self.short(text.len());
         self.bytes.extend_from_slice(text);
@@ -39,9 +43,7 @@ impl Raw {
 
     pub fn numbers(&mut self, numbers: &[u32]) {
         self.short(numbers.len());
-        for number in numbers {
-            self.bytes.extend_from_slice(&number.to_le_bytes());
-        }
+        numbers.iter().for_each(|&number| self.number(number));
     }
 }
 

@@ -95,6 +95,58 @@ pub fn put_zeros(random: &mut Random, items: &[u32], record: &mut [u8]) {
     }
 }
 
+/// Unsigned numbers of a few digits, apart, and a record that holds them.
+pub fn counters(random: &mut Random) -> Case {
+    let theme = Theme::choose(random);
+    let most = random.pick(&[1, 4, 8, 8, 10]);
+    let mut case = Case::default();
+    let mut end = 0;
+    for _ in 0..random.between(1, 6) {
+        let digits = match random.chance(500) {
+            true => most,
+            false => random.between(1, most),
+        };
+        let scale = random.pick(&[0, 0, 0, 1]);
+        case.items.extend([3, end, digits, scale, digits]);
+        end += digits + random.pick(&[0, 0, 0, 1]);
+    }
+    tables::fill_record(random, &theme, &mut case);
+    case
+}
+
+/// Valid content in each elementary item that the record holds.
+pub fn put_valid(random: &mut Random, items: &[u32], record: &mut [u8]) {
+    let theme = Theme::choose(random);
+    for numbers in items.chunks_exact(ROW) {
+        let row = Row::of(numbers);
+        if let Some(bytes) = record.get_mut(row.bytes()).filter(|_| !row.is_group()) {
+            content::put(random, &theme, numbers, bytes);
+        }
+    }
+}
+
+/// A copy of a record with a fault in one byte of an elementary item: places count the
+/// bytes of these items in row order, and begin again behind the last.
+pub fn spoiled(random: &mut Random, items: &[u32], record: &[u8], place: usize) -> Vec<u8> {
+    let held = |row: &Row| !row.is_group() && row.part(record).is_some();
+    let places = || {
+        rows(items)
+            .filter(held)
+            .flat_map(|row| row.bytes().map(move |at| (row, at)))
+    };
+    let mut copy = record.to_vec();
+    let count = places().count();
+    if let Some((row, at)) = places().nth(place.checked_rem(count).unwrap_or(0)) {
+        let byte = &mut copy[at..=at];
+        match row.kind {
+            1 => content::spoil_letters(random, byte),
+            8 | 9 => content::spoil_halves(random, byte),
+            _ => content::spoil(random, byte),
+        }
+    }
+    copy
+}
+
 /// The record mostly stays, or loses or gets bytes.
 pub fn cut(random: &mut Random, record: &mut Vec<u8>) {
     let length = record.len();

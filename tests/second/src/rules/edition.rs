@@ -1,4 +1,4 @@
-//! The rules before and after token kind 3 is retired (02, l).
+//! The rules before token kind 3 was retired (02, l), and those since.
 
 /// "Members misread them, so token kind 3 is retired. Expand, plan and judge refuse
 /// it with 6, run with 11."
@@ -9,9 +9,8 @@ pub enum Edition {
 }
 
 impl Edition {
-    /// The rules that the library is compared with: those of the calls that lend no
-    /// edition. Request l) lands by naming the other one here.
-    pub const CURRENT: Edition = Edition::WithOffSwitches;
+    /// The rules of all calls but the converters, which read by the old ones.
+    pub const CURRENT: Edition = Edition::WithoutOffSwitches;
 }
 
 impl Default for Edition {

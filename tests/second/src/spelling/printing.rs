@@ -10,7 +10,7 @@ use crate::show::WORDS;
 /// doubled name at its token".
 pub fn text(names: &Names, tables: &Tables, tokens: &[u32]) -> Result<Vec<u8>, Refusal> {
     check_literals(tables)?;
-    check_each_token(tokens, |token| exists(tables, token) && kind_of(token) != 3)?;
+    check_each_token(tokens, |token| exists(tables, token))?;
     let mut words = Vec::new();
     for (place, &token) in tokens.iter().enumerate() {
         match word(names, tables, token) {

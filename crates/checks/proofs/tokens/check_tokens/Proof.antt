@@ -1,7 +1,6 @@
 -- What `token_there` ensures, and the laws of a loop that seeks the first place that fails a test.
 use Prim.Native.Nat.{_-_}
 use native.Mathlib.Omega.{arith}
-use mathlib.Core.Bool.{true}
 use lib.ListN.{length, getD}
 use Rattle.tables.specs.Tokens.{tokenThere}
 use Rattle.tables.specs.declared.Refusal.the-variants.{Token}
@@ -10,10 +9,10 @@ use Rattle.checks.proofs.tokens.check_tokens.Statement.{statement}
 use Rattle.checks.proofs.tokens.check_tokens.Tie as tie
 
 abbrev Inv-loop : tie.InvT-loop
-Inv-loop items literals names tokens item-rows literal-rows name-rows i₀ i = Passed (λ k. tokenThere true item-rows literal-rows name-rows (getD tokens k 0)) Token (length tokens) i
+Inv-loop off items literals names tokens item-rows literal-rows name-rows i₀ i = Passed (λ k. tokenThere off item-rows literal-rows name-rows (getD tokens k 0)) Token (length tokens) i
 
 abbrev μ-loop : tie.MeasureT-loop
-μ-loop items literals names tokens item-rows literal-rows name-rows i₀ i = length tokens - i
+μ-loop off items literals names tokens item-rows literal-rows name-rows i₀ i = length tokens - i
 
 loop-holds : tie.Need-loop-holds Inv-loop μ-loop
 loop-holds c = passed-none _ _ _

@@ -8,7 +8,7 @@ use denote.Ref.{now}
 use borrow.Author.Needs.{needs}
 use Rattle.tables.specs.declared.Check.{Check}
 use Rattle.tables.specs.declared.Refusal.the-variants.{PlanRow as PlanFault}
-use Rattle.tables.specs.Operands.{lendNames}
+use Rattle.tables.specs.Operands.{lendNames, under}
 use Rattle.tables.specs.Refusals.{unless, firstOf}
 use Rattle.tables.proofs.Lines.{test-passed, test-failed, Passed, passed-none, passed-more, failed-at, passed-all, line-sound, line-refused, line-last}
 use Rattle.grammar.specs.Plan.{planRow, planRowSound, planLengthSound}
@@ -20,10 +20,10 @@ past : (plan : List ℕ) {line : Check} → not (planLengthSound plan) ≡ false
 past plan e = sym (line-sound _ (test-passed {b = planLengthSound plan} (PlanFault 0) refl e) ∙ line-last _)
 
 abbrev Inv-loop : tie.InvT-loop
-Inv-loop items literals names plan rows k₀ k = Passed (λ v. planRowSound (lendNames items literals [] names) rows v (planRow plan v)) PlanFault rows k
+Inv-loop off items literals names plan rows k₀ k = Passed (λ v. planRowSound (under off (lendNames items literals [] names)) rows v (planRow plan v)) PlanFault rows k
 
 abbrev μ-loop : tie.MeasureT-loop
-μ-loop items literals names plan rows k₀ k = rows - k
+μ-loop off items literals names plan rows k₀ k = rows - k
 
 returns : tie.Need-returns Inv-loop μ-loop
 returns c =

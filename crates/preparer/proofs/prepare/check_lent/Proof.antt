@@ -1,7 +1,7 @@
 -- The lines 1 to 4, 18, 5 and 6, tried in order.
 use mathlib.Core.Path.{refl, sym, _∙_}
 use borrow.Author.Needs.{needs}
-use Rattle.tables.specs.Operands.{lendNames}
+use Rattle.tables.specs.Operands.{lendNames, under}
 use Rattle.names.proofs.Lines.{tables-refused as tables-stop, names-tried}
 use Rattle.preparer.proofs.Preparing.{tables-refused, count-refused, tokens-checked}
 use Rattle.preparer.proofs.prepare.check_lent.Statement.{statement}
@@ -16,7 +16,7 @@ enum-known-tables c = search needs
 returns : tie.Need-returns
 returns c =
     let a = c .before .before .before .before .before .before .before .before .before .args in
-    let lent = lendNames (a .items .now) (a .literals .now) (a .bytes .now) (a .names .now) in
+    let lent = under (a .off) (lendNames (a .items .now) (a .literals .now) (a .bytes .now) (a .names .now)) in
     tables-refused lent (a .tokens .now) refl (tables-stop lent (c .before .before .before .check-tables .ensures) (c .before .tables .given .1))
 
 enum-told : tie.Need-enum-told
@@ -31,7 +31,7 @@ enum-known-named c = search needs
 returns-2 : tie.Need-returns-2
 returns-2 c =
     let a = c .before .before .before .before .before .before .before .before .before .before .before .before .args in
-    let lent = lendNames (a .items .now) (a .literals .now) (a .bytes .now) (a .names .now) in
+    let lent = under (a .off) (lendNames (a .items .now) (a .literals .now) (a .bytes .now) (a .names .now)) in
     let tried = names-tried lent (c .before .before .before .before .before .before .check-tables .ensures) (c .before .before .before .before .enum-told .given .1)
     (c .before .before .before .check-names .ensures) in
     tables-refused lent (a .tokens .now) tried (c .before .named .given .1)
@@ -49,7 +49,7 @@ returns-3 : tie.Need-returns-3
 returns-3 c =
     let n = c .before .before .before .before .before .before in
     let a = n .before .before .before .before .before .before .before .before .before .args in
-    let lent = lendNames (a .items .now) (a .literals .now) (a .bytes .now) (a .names .now) in
+    let lent = under (a .off) (lendNames (a .items .now) (a .literals .now) (a .bytes .now) (a .names .now)) in
     let tried = names-tried lent (n .before .before .before .check-tables .ensures) (n .before .enum-told .given .1) (n .check-names .ensures) in
     count-refused lent (a .tokens .now) tried (c .before .before .before .before .enum-told2 .given .1) (c .before .before .before .check-token-count .ensures) (c .before .count .given .1)
 
@@ -63,7 +63,7 @@ returns-4 : tie.Need-returns-4
 returns-4 c =
     let n = c .before .before .before .before .before .before in
     let a = n .before .before .before .before .before .before .before .before .before .args in
-    let lent = lendNames (a .items .now) (a .literals .now) (a .bytes .now) (a .names .now) in
+    let lent = under (a .off) (lendNames (a .items .now) (a .literals .now) (a .bytes .now) (a .names .now)) in
     let tried = names-tried lent (n .before .before .before .check-tables .ensures) (n .before .enum-told .given .1) (n .check-names .ensures) in
     tokens-checked lent (a .tokens .now) tried (c .before .before .before .before .enum-told2 .given .1) (c .before .before .before .check-token-count .ensures)
     (c .before .enum-told3 .given .1) (c .check-tokens .ensures)

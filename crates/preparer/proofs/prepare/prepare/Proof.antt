@@ -14,16 +14,29 @@ enum-told : tie.Need-enum-told
 enum-told c = search needs
 
 resolve-requires : tie.Need-resolve-requires
-resolve-requires c κs = let h = resolvable (c .before .before .before .before .before .before .before .before .before .before .args .items .now) (c .before .before .before .before .before .before .before .before .before .before .args .literals .now) (c .before .before .before .before .before .before .before .before .before .before .args .bytes .now) (c .before .before .before .before .before .before .before .before .before .before .args .names .now) (c .before .before .before .before .before .before .before .before .before .before .args .tokens .now) (c .before .before .before .check-lent .ensures) (c .before .enum-told .given .1) in (h .0, h .1, c .before .before .before .before .before .before .before .before .before .before .pre)
+resolve-requires c κs =
+    let t = c .before .before .before in
+    let start = t .before .before .before .before .before .before .before in
+    let a = start .args in
+    let h = resolvable (a .off) (a .items .now) (a .literals .now) (a .bytes .now) (a .names .now) (a .tokens .now) (t .check-lent .ensures) (c .before .enum-told .given .1) in
+    (h .0, h .1, start .pre)
 
 returns : tie.Need-returns
-returns c = lent-refused (c .before .before .before .before .before .before .before .before .before .before .args .items .now) (c .before .before .before .before .before .before .before .before .before .before .args .literals .now) (c .before .before .before .before .before .before .before .before .before .before .args .bytes .now) (c .before .before .before .before .before .before .before .before .before .before .args .names .now) (c .before .before .before .before .before .before .before .before .before .before .args .tokens .now) (c .before .before .before .check-lent .ensures) (c .before .lent .given .1)
+returns c =
+    let t = c .before .before .before in
+    let a = t .before .before .before .before .before .before .before .args in
+    lent-refused (a .off) (a .items .now) (a .literals .now) (a .bytes .now) (a .names .now) (a .tokens .now) (t .check-lent .ensures) (c .before .lent .given .1)
 
 same-length : tie.Need-same-length
 same-length c = search needs
 
 returns-2 : tie.Need-returns-2
-returns-2 c = prepared (c .before .before .before .before .before .before .before .before .before .before .before .before .before .args .items .now) (c .before .before .before .before .before .before .before .before .before .before .before .before .before .args .literals .now) (c .before .before .before .before .before .before .before .before .before .before .before .before .before .args .bytes .now) (c .before .before .before .before .before .before .before .before .before .before .before .before .before .args .names .now) (c .before .before .before .before .before .before .before .before .before .before .before .before .before .args .tokens .now) (c .before .before .before .before .before .before .check-lent .ensures) (c .before .before .before .before .enum-told .given .1) (c .before .before .resolve .ensures)
+returns-2 c =
+    let t = c .before .before .before .before .before .before in
+    let a = t .before .before .before .before .before .before .before .args in
+    let six = t .check-lent .ensures in
+    let told = c .before .before .before .before .enum-told .given .1 in
+    prepared (a .off) (a .items .now) (a .literals .now) (a .bytes .now) (a .names .now) (a .tokens .now) six told (c .before .before .resolve .ensures)
 
 pub prepare-spec : {M : Type 1} → statement M
 prepare-spec =

@@ -1,7 +1,8 @@
 -- Rests on the variant that `test_of` gives, which picks its case of the definition, and on what a readable condition gives to each case.
-use mathlib.Core.Path.{sym, ap, _∙_}
+use mathlib.Core.Path.{refl, sym, ap, _∙_}
 use borrow.Author.Needs.{needs}
 use borrow.Author.Tests.{eq-eqb, ne-eqb}
+use Rattle.compare.specs.Switches.{switchHolds}
 use Rattle.values.specs.Truth.{truth, outcome}
 use Rattle.values.proofs.Reading.{side-unnamed, read-switch, read-name, read-relation, read-class, read-sign}
 use Rattle.truth.proofs.conditions.truth_of.Statement.{statement}
@@ -27,10 +28,10 @@ returns c =
     let told = c .before .before in
     rw (sym (told .before .before .test-of .ensures) ∙ told .enum-told .given .1, eq-eqb _ 5 (c .before .if1 .taken)) (c .name-outcome .ensures)
 
-switch-holds-requires : tie.Need-switch-holds-requires
-switch-holds-requires c κs =
+switch-on-requires : tie.Need-switch-on-requires
+switch-on-requires c κs =
     let t = c .before .before .before in
-    read-switch (t .before .before .before .before .before .before .pre) (sym (t .test-of .ensures) ∙ c .before .enum-told .given .1) (ne-eqb _ 5 (c .if1 .left))
+    read-switch (t .before .before .before .before .before .before .pre) refl (sym (t .test-of .ensures) ∙ c .before .enum-told .given .1) (ne-eqb _ 5 (c .if1 .left)) .1
 
 truth-value-requires : tie.Need-truth-value-requires
 truth-value-requires c κs = search needs
@@ -65,11 +66,14 @@ enum-told-2 : tie.Need-enum-told-2
 enum-told-2 c = search needs
 
 returns-2 : tie.Need-returns-2
-unfolding outcome
+unfolding outcome switchHolds
 returns-2 c =
     let told = c .before .before .before in
-    rw (sym (told .before .before .test-of .ensures) ∙ told .enum-told .given .1, ne-eqb _ 5 (c .before .before .if1 .left))
-    (c .truth-value .ensures ∙ ap truth (c .before .switch-holds .ensures))
+    let t = told .before .before in
+    let test = sym (t .test-of .ensures) ∙ told .enum-told .given .1 in
+    let no-name = ne-eqb _ 5 (c .before .before .if1 .left) in
+    let on = read-switch (t .before .before .before .before .before .before .pre) refl test no-name .0 in
+    rw (test, no-name, on) (c .truth-value .ensures ∙ ap truth (c .before .switch-on .ensures))
 
 returns-3 : tie.Need-returns-3
 unfolding outcome
@@ -102,7 +106,7 @@ truth-of-spec =
     cast-name
     name-outcome-requires
     returns
-    switch-holds-requires
+    switch-on-requires
     truth-value-requires
     enum-known-test
     relation-outcome-requires

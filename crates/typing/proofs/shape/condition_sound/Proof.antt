@@ -18,7 +18,7 @@ returns c = rw (← c .before .before .test-of .ensures, fails (c .before .shape
 
 test-typed-requires : tie.Need-test-typed-requires
 test-typed-requires c κs =
-    shape-operands _ _ _ _ (c .before .before .test-of .result) _ _ (passes (c .before .shape-sound .ensures) (c .if1 .left))
+    shape-operands _ _ _ _ _ (c .before .before .test-of .result) _ _ (passes (c .before .shape-sound .ensures) (c .if1 .left))
 
 returns-2 : tie.Need-returns-2
 unfolding typed
@@ -28,7 +28,7 @@ returns-2 c =
     rw (
       ← shape .before .test-of .ensures,
       passes (shape .shape-sound .ensures) (c .before .if1 .left),
-      test-lent (a .items .now) (a .literals .now) [] (a .names .now) (shape .before .test-of .result) (a .subject) (a .object),
+      test-lent (a .off) (a .items .now) (a .literals .now) [] (a .names .now) (shape .before .test-of .result) (a .subject) (a .object),
     ) (c .test-typed .ensures)
 
 pub condition-sound-spec : {M : Type 1} → statement M

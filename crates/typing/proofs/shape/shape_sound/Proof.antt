@@ -2,22 +2,26 @@
 use Prim.Native.Nat.{ℕ, _/_}
 use native.Mathlib.Decide.{ℕ-discrete}
 use mathlib.Core.Path.{_≡_}
-use mathlib.Core.Bool.{true, _&&_, or-false}
+use mathlib.Core.Bool.{Bool, _&&_, _||_, or-false}
+use mathlib.Core.List.{[]}
 use lib.Dec.{leb}
 use borrow.Author.Needs.{needs}
 use borrow.Author.Tests.{ne-eqb}
-use Rattle.tables.specs.Tokens.{isSwitch, indexOf, exists}
+use Rattle.tables.specs.Tokens.{isOn, isOff, isSwitch, indexOf, exists}
+use Rattle.tables.specs.Operands.{lendNames}
+use Rattle.typing.proofs.Lending.{operand-rules}
 use Rattle.typing.proofs.shape.shape_sound.Statement.{statement}
 use Rattle.typing.proofs.shape.shape_sound.Tie as tie
 
 -- whether a switch exists is not asked of the tables
-switch-there : (items literals token : ℕ) → isSwitch token && leb (indexOf token) 7 ≡ isSwitch token && exists true items literals token
-switch-there items literals token = by (ℕ-discrete (token / 65536) 2) (ℕ-discrete (token / 65536) 3)
+switch-there : (off : Bool) (items literals token : ℕ)
+    → (isOn token || isOff token && off) && leb (indexOf token) 7 ≡ isSwitch token && exists off items literals token
+switch-there off items literals token = by (ℕ-discrete (token / 65536) 2) (ℕ-discrete (token / 65536) 3)
   where
     by : Dec (token / 65536 ≡ 2) → Dec (token / 65536 ≡ 3)
-        → isSwitch token && leb (indexOf token) 7 ≡ isSwitch token && exists true items literals token
+        → (isOn token || isOff token && off) && leb (indexOf token) 7 ≡ isSwitch token && exists off items literals token
     by (yes on) d = simp (on, or-false)
-    by (no not-on) (yes off) = simp (off, or-false)
+    by (no not-on) (yes is-off) = simp (is-off, or-false)
     by (no not-on) (no not-off) = rw (ne-eqb _ _ not-on, ne-eqb _ _ not-off)
 
 enum-told : tie.Need-enum-told
@@ -51,13 +55,22 @@ returns : tie.Need-returns
 returns c = rw (c .before .enum-told .given .1, c .alone-exists .ensures, ← switch-there)
 
 returns-2 : tie.Need-returns-2
-returns-2 c = rw (c .before .enum-told2 .given .1) (c .two-operands .ensures)
+returns-2 c =
+    let a = c .before .before .before .before .before .before .args in
+    let rules = operand-rules (a .off) (lendNames (a .items .now) (a .literals .now) [] (a .names .now)) in
+    rw (c .before .enum-told2 .given .1, rules (a .subject), rules (a .object)) (c .two-operands .ensures)
 
 returns-3 : tie.Need-returns-3
-returns-3 c = rw (c .before .enum-told3 .given .1) (c .one-operand .ensures)
+returns-3 c =
+    let a = c .before .before .before .before .before .before .args in
+    let rules = operand-rules (a .off) (lendNames (a .items .now) (a .literals .now) [] (a .names .now)) in
+    rw (c .before .enum-told3 .given .1, rules (a .subject)) (c .one-operand .ensures)
 
 returns-4 : tie.Need-returns-4
-returns-4 c = rw (c .before .enum-told4 .given .1) (c .one-operand2 .ensures)
+returns-4 c =
+    let a = c .before .before .before .before .before .before .args in
+    let rules = operand-rules (a .off) (lendNames (a .items .now) (a .literals .now) [] (a .names .now)) in
+    rw (c .before .enum-told4 .given .1, rules (a .subject)) (c .one-operand2 .ensures)
 
 returns-5 : tie.Need-returns-5
 returns-5 c = search needs

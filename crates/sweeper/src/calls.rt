@@ -1,0 +1,123 @@
+// The call that users make: one plan over a file of records.
+ghost use mathlib.Core.Path.{_≡_};
+ghost use mathlib.Core.List.{_++_};
+ghost use Prim.Native.Nat.{_*_, _/_};
+ghost use lib.ListN.{length, drop};
+ghost use Rattle.tables.specs.Operands.{lendNames};
+ghost use Rattle.tables.specs.Refusals.{firstOf};
+ghost use Rattle.sweeper.specs.Sweep.{evenly, ruleLines, sweptNumbers, sweepGives, Leaves, Sweepable};
+use crate::Swept;
+use crate::answers::put_answer;
+use checks::lent::check_record;
+use checks::lent::check_tables;
+use names::table::check_names;
+use plans::checks::check_plan;
+use runner::run_rows;
+use tables::Check;
+use tables::Refusal;
+
+// The numbers of one record.
+const WIDTH: usize = 4;
+
+// As many records as an answer of C can count numbers for.
+const MOST: usize = 1073741823;
+
+// 1 to 4, 18 and 11.
+fn check_rules(items: &[u32], literals: &[u32], bytes: &[u8], names: &[u32], plan: &[u32]) -> Check
+    ensures { λ r. ⌜ r ≡ firstOf (ruleLines (lendNames (now (items .entry)) (now (literals .entry)) (now (bytes .entry)) (now (names .entry))) (now (plan .entry))) ⌝ }
+{
+    let tables = check_tables(items, literals, bytes);
+    if let Check::Refused(refusal) = tables {
+        return Check::Refused(refusal);
+    }
+    let named = check_names(items, literals, bytes, names);
+    if let Check::Refused(refusal) = named {
+        return Check::Refused(refusal);
+    }
+    check_plan(false, items, literals, names, plan)
+}
+
+// Whether records of this size fill so many bytes.
+fn is_even(size: usize, bytes: usize) -> bool
+    ensures { λ r. ⌜ r ≡ evenly size bytes ⌝ }
+{
+    if size == 0 {
+        return false;
+    }
+    (bytes % size == 0) & (bytes / size <= MOST)
+}
+
+// Each record's four numbers, one record after another.
+fn sweep_records<'a>(
+    items: &[u32],
+    literals: &[u32],
+    bytes: &'a [u8],
+    names: &[u32],
+    plan: &[u32],
+    records: &'a [u8],
+    size: usize,
+    switches: u8,
+    answers: &mut [u32],
+)
+    requires { ⌜ Sweepable (lendNames (now items) (now literals) (now bytes) (now names)) (now plan) (now records) size (length (now answers)) ⌝ }
+    ensures { λ _. ⌜ now (answers .exit) ≡ sweptNumbers (lendNames (now (items .entry)) (now (literals .entry)) (now (bytes .entry)) (now (names .entry))) (now (plan .entry)) (now (records .entry)) size switches ++ drop (length (now (records .entry)) / size * 4) (now (answers .entry)) ⌝ }
+{
+    let mut left = records.len() / size;
+    let mut from: usize = 0;
+    let mut at: usize = 0;
+    while left > 0 {
+        let content = &records[from..from + size];
+        let judged = run_rows(items, literals, bytes, names, plan, content, switches);
+        put_answer(answers, at, judged);
+        left -= 1;
+        from += size;
+        at += WIDTH;
+    }
+}
+
+// Runs a plan over records of one size, laid one after another: for each four numbers, its truth or its refusal's number, place and
+// byte, and how many simple conditions were judged. A refusal changes nothing.
+pub fn sweep<'a>(
+    items: &[u32],
+    literals: &[u32],
+    bytes: &'a [u8],
+    names: &[u32],
+    plan: &[u32],
+    records: &'a [u8],
+    size: usize,
+    switches: u8,
+    answers: &mut [u32],
+) -> Swept
+    ensures { λ r. ⌜ Leaves (sweepGives (lendNames (now (items .entry)) (now (literals .entry)) (now (bytes .entry)) (now (names .entry))) (now (plan .entry)) (now (records .entry)) size switches (now (answers .entry))) r (now (answers .exit)) ⌝ }
+{
+    let rules = check_rules(items, literals, bytes, names, plan);
+    if let Check::Refused(refusal) = rules {
+        return Swept::Refused(refusal);
+    }
+    if !is_even(size, records.len()) {
+        return Swept::Uneven;
+    }
+    if records.len() == 0 {
+        return Swept::Count(0);
+    }
+    let held = check_record(items, &records[..size]);
+    if let Check::Refused(refusal) = held {
+        return Swept::Refused(refusal);
+    }
+    let count = records.len() / size * WIDTH;
+    if answers.len() < count {
+        return Swept::Refused(Refusal::Room(count));
+    }
+    sweep_records(
+        items,
+        literals,
+        bytes,
+        names,
+        plan,
+        records,
+        size,
+        switches,
+        answers,
+    );
+    Swept::Count(count)
+}
