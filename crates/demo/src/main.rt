@@ -6,6 +6,7 @@ use descriptions::Described;
 use descriptions::calls::describe;
 use grammar::PlanRow;
 use libc::STDOUT_FILENO;
+use looks::calls::looked_at_plan;
 use plans::Target;
 use plans::checks::plan_row;
 use tables::Judged;
@@ -384,6 +385,39 @@ fn the_verdicts(rows: &[u32], literals: &[u32], bytes: &[u8], plan: &[u32]) {
     verdicts(rows, literals, bytes, By::Plan, plan);
 }
 
+// The items that a run on one entry came to: an item's row is its token.
+fn looked_line<'a>(
+    rows: &[u32],
+    literals: &[u32],
+    bytes: &'a [u8],
+    plan: &[u32],
+    n: usize,
+    record: &'a [u8],
+) {
+    let mut list = [0u32; 64];
+    let listed = looked_at_plan(rows, literals, bytes, &NAMES, plan, record, 0, &mut list);
+    if let Written::Count(k) = listed {
+        write(b"  entry ");
+        number(n, 3);
+        words(literals, bytes, front(&list, k), 0);
+        write(b"\n");
+    }
+}
+
+fn the_looks(rows: &[u32], literals: &[u32], bytes: &[u8], plan: &[u32]) {
+    let entries = ENTRIES;
+    write(
+        b"\n\
+          5. What a run looked at\n\
+          \n\
+          `looked_at_plan` lists the items that a run came to. Whatever else changes in the entry, its\n\
+          verdict stays, and that is proved.\n\
+          \n",
+    );
+    looked_line(rows, literals, bytes, plan, 1, &entries[..17]);
+    looked_line(rows, literals, bytes, plan, 5, &entries[68..85]);
+}
+
 // The rule with all its calls, from its tokens on.
 fn guarded(rows: &[u32], literals: &[u32], bytes: &[u8], tokens: &[u32]) {
     let mut numbers = [0u32; 640];
@@ -393,13 +427,14 @@ fn guarded(rows: &[u32], literals: &[u32], bytes: &[u8], tokens: &[u32]) {
         let plan = front(&numbers, n);
         the_plan(literals, bytes, plan);
         the_verdicts(rows, literals, bytes, plan);
+        the_looks(rows, literals, bytes, plan);
     }
 }
 
 fn unguarded(rows: &[u32], literals: &[u32], bytes: &[u8], tokens: &[u32]) {
     write(
         b"\n\
-          5. The same rule without its guard\n\
+          6. The same rule without its guard\n\
           \n\
           HOURS NUMERIC is taken away, and nothing keeps a blank meter from being compared.\n\
           \n",
