@@ -1,0 +1,125 @@
+// The files that the arguments name.
+use crate::print::complaint;
+use lines::text::put;
+
+// How many bytes a file has, or that a message was given.
+pub enum Loaded {
+    Bytes(usize),
+    Failed,
+}
+
+// The first n numbers, or all.
+pub fn front(numbers: &[u32], n: usize) -> &[u32] {
+    if n <= numbers.len() {
+        return &numbers[0..n];
+    }
+    numbers
+}
+
+// The first n bytes, or all.
+pub fn front_bytes(bytes: &[u8], n: usize) -> &[u8] {
+    if n <= bytes.len() {
+        return &bytes[0..n];
+    }
+    bytes
+}
+
+// A number of a table as an index.
+pub fn wide(number: u32) -> usize {
+    number as usize
+}
+
+// The bytes from n on.
+pub fn back_bytes(bytes: &[u8], n: usize) -> &[u8] {
+    if n <= bytes.len() {
+        return &bytes[n..];
+    }
+    bytes
+}
+
+// The file that argument i names, open for reading, or -1.
+pub fn open(i: usize) -> i32 {
+    let mut name = io::buffer();
+    let n = os::arg(i, &mut name);
+    let path = front_bytes(&name, n);
+    let file = os::open_read(path);
+    if file < 0 {
+        os::fail(path);
+    }
+    file
+}
+
+// All of the file that argument i names. The room is one byte more than it may have.
+pub fn load(i: usize, bytes: &mut [u8]) -> Loaded {
+    let file = open(i);
+    if file < 0 {
+        return Loaded::Failed;
+    }
+    let count = io::read_full(file, bytes);
+    libc::close(file);
+    if count == bytes.len() {
+        complaint(i, b": this file is too long\n");
+        return Loaded::Failed;
+    }
+    Loaded::Bytes(count)
+}
+
+// Whether nothing has the name that argument i gives, so that a new file may take it.
+pub fn is_free(i: usize) -> bool {
+    let mut name = io::buffer();
+    let n = os::arg(i, &mut name);
+    let path = front_bytes(&name, n);
+    let file = os::open_read(path);
+    if file >= 0 {
+        libc::close(file);
+        complaint(
+            i,
+            b": this file is there already, and nothing is overwritten\n",
+        );
+        return false;
+    }
+    if os::errno() != libc::ENOENT {
+        os::fail(path);
+        return false;
+    }
+    true
+}
+
+// All bytes to a file that is made for them.
+fn write_new(path: &[u8], bytes: &[u8]) -> bool {
+    let file = os::create(path);
+    if file < 0 {
+        os::fail(path);
+        return false;
+    }
+    let written = io::write_all(file, bytes);
+    let kept = libc::fsync(file);
+    libc::close(file);
+    if written & (kept == 0) {
+        return true;
+    }
+    os::fail(path);
+    os::unlink(path);
+    false
+}
+
+// A new file under the name that argument i gives. It is written under another and renamed, so that a run that is interrupted leaves
+// no part of a file under its name.
+pub fn save(i: usize, bytes: &[u8]) -> bool {
+    let mut name = io::buffer();
+    let n = os::arg(i, &mut name);
+    let path = front_bytes(&name, n);
+    let mut other = io::buffer();
+    let end = put(&mut other, 0, path);
+    let last = put(&mut other, end, b".new");
+    let draft = front_bytes(&other, last);
+    if !write_new(draft, bytes) {
+        return false;
+    }
+    if os::rename(draft, path) < 0 {
+        os::fail(path);
+        os::unlink(draft);
+        return false;
+    }
+    true
+}

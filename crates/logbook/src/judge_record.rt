@@ -1,0 +1,136 @@
+// judge: what a rule says of one record.
+use crate::files::Loaded;
+use crate::files::front_bytes;
+use crate::files::load;
+use crate::print::number;
+use crate::print::text;
+use crate::refusals::numbered;
+use crate::refusals::of_record;
+use crate::verdicts::stop;
+use conditions::calls::run;
+use libc::STDOUT_FILENO;
+use tables::Refusal;
+use tables::Verdict;
+
+// No item ends after byte 131,070.
+const RECORD: usize = 131072;
+
+fn judged_line(count: usize) {
+    text(STDOUT_FILENO, b"conditions judged: ");
+    number(STDOUT_FILENO, count);
+    text(STDOUT_FILENO, b"\n");
+}
+
+// A refusal of a run: a stop on what an item holds, or a record that is too short.
+pub fn refused(
+    description: &[u8],
+    items: &[u32],
+    places: &[u32],
+    literals: &[u32],
+    bytes: &[u8],
+    plan: &[u32],
+    record: &[u8],
+    refusal: Refusal,
+) {
+    match refusal {
+        Refusal::Data { condition, byte } => {
+            numbered(STDOUT_FILENO, b"stopped: ", 13);
+            stop(
+                description,
+                items,
+                places,
+                literals,
+                bytes,
+                plan,
+                record,
+                condition,
+                byte,
+            );
+        }
+        Refusal::Letters { condition, byte } => {
+            numbered(STDOUT_FILENO, b"stopped: ", 17);
+            stop(
+                description,
+                items,
+                places,
+                literals,
+                bytes,
+                plan,
+                record,
+                condition,
+                byte,
+            );
+        }
+        _ => of_record(refusal, description, places),
+    }
+}
+
+// The verdict on standard output, and the status.
+fn judge_loaded<'a>(
+    description: &[u8],
+    items: &[u32],
+    places: &[u32],
+    names: &[u32],
+    literals: &[u32],
+    bytes: &'a [u8],
+    plan: &[u32],
+    record: &'a [u8],
+    switches: u8,
+) -> u32 {
+    let judged = run(items, literals, bytes, names, plan, record, switches);
+    let verdict = judged.verdict;
+    match verdict {
+        Verdict::True => {
+            text(STDOUT_FILENO, b"TRUE\n");
+            judged_line(judged.count);
+            0
+        }
+        Verdict::False => {
+            text(STDOUT_FILENO, b"FALSE\n");
+            judged_line(judged.count);
+            1
+        }
+        Verdict::Refused(refusal) => {
+            refused(
+                description,
+                items,
+                places,
+                literals,
+                bytes,
+                plan,
+                record,
+                refusal,
+            );
+            judged_line(judged.count);
+            2
+        }
+    }
+}
+
+pub fn judge_record(
+    description: &[u8],
+    items: &[u32],
+    places: &[u32],
+    names: &[u32],
+    literals: &[u32],
+    bytes: &[u8],
+    plan: &[u32],
+    switches: u8,
+) -> u32 {
+    let mut record = [0u8; RECORD];
+    let loaded = load(4, &mut record);
+    match loaded {
+        Loaded::Failed => 2,
+        Loaded::Bytes(n) => judge_loaded(
+            description,
+            items,
+            places,
+            names,
+            literals,
+            bytes,
+            plan,
+            front_bytes(&record, n),
+            switches,
+        ),
+    }
+}

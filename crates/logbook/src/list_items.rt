@@ -1,0 +1,173 @@
+// items: a table of what a description says.
+use crate::files::front_bytes;
+use crate::files::wide;
+use crate::print::cell;
+use crate::print::number_cell;
+use crate::print::text;
+use crate::wording::item;
+use crate::wording::name_at;
+use crate::wording::words;
+use libc::STDOUT_FILENO;
+use report::kinds::put_kind;
+use tables::Row;
+use tables::rows::row_at;
+
+// A literal's token is this and the literal's row.
+const LITERAL: u32 = 65536;
+
+// The numbers of a name row, and how many rows there may be.
+const NAME: usize = 18;
+
+const ROWS: usize = 64;
+
+fn kind_cell(kind: u32) {
+    let mut line = [0u8; 32];
+    let end = put_kind(&mut line, 0, kind);
+    cell(STDOUT_FILENO, front_bytes(&line, end), 25);
+}
+
+fn row_line(description: &[u8], places: &[u32], v: usize, row: Row) {
+    number_cell(STDOUT_FILENO, v, 5);
+    item(STDOUT_FILENO, description, places, v, 32);
+    kind_cell(row.kind);
+    number_cell(STDOUT_FILENO, row.offset as usize, 8);
+    number_cell(STDOUT_FILENO, row.size as usize, 7);
+    number_cell(STDOUT_FILENO, row.digits as usize, 8);
+    number_cell(STDOUT_FILENO, row.scale as usize, 0);
+    text(STDOUT_FILENO, b"\n");
+}
+
+fn literal(description: &[u8], literals: &[u32], bytes: &[u8], row: u32) {
+    if row < LITERAL {
+        let token = [LITERAL + row];
+        words(STDOUT_FILENO, description, literals, bytes, &token, 0);
+    }
+}
+
+// One value, or a range of them.
+fn value(description: &[u8], literals: &[u32], bytes: &[u8], low: u32, high: u32) {
+    text(STDOUT_FILENO, b" ");
+    literal(description, literals, bytes, low);
+    if low != high {
+        text(STDOUT_FILENO, b" THRU ");
+        literal(description, literals, bytes, high);
+    }
+}
+
+// The values in a row of the name table.
+fn values(description: &[u8], literals: &[u32], bytes: &[u8], name: &[u32]) {
+    if name.len() < NAME {
+        return;
+    }
+    let count = wide(name[1]);
+    if 8 < count {
+        return;
+    }
+    let mut i: usize = 0;
+    while i < count {
+        value(
+            description,
+            literals,
+            bytes,
+            name[2 * i + 2],
+            name[2 * i + 3],
+        );
+        i += 1;
+    }
+}
+
+// The name table from row k on.
+fn names_from(names: &[u32], k: usize) -> &[u32] {
+    if k < ROWS {
+        let from = k * NAME;
+        if from <= names.len() {
+            return &names[from..];
+        }
+    }
+    names
+}
+
+fn name_line(description: &[u8], place: usize, name: &[u32], literals: &[u32], bytes: &[u8]) {
+    text(STDOUT_FILENO, b"       88 ");
+    cell(STDOUT_FILENO, name_at(description, place), 0);
+    text(STDOUT_FILENO, b" VALUE");
+    values(description, literals, bytes, name);
+    text(STDOUT_FILENO, b"\n");
+}
+
+// Row k of the name table, if it belongs to an item.
+fn name_of(
+    description: &[u8],
+    place: usize,
+    name: &[u32],
+    literals: &[u32],
+    bytes: &[u8],
+    v: usize,
+) {
+    if name.len() > 0 {
+        if wide(name[0]) == v {
+            name_line(description, place, name, literals, bytes);
+        }
+    }
+}
+
+// The condition-names of one item.
+fn names_of(
+    description: &[u8],
+    names: &[u32],
+    name_places: &[u32],
+    literals: &[u32],
+    bytes: &[u8],
+    v: usize,
+) {
+    let mut k: usize = 0;
+    while k < name_places.len() {
+        let place = wide(name_places[k]);
+        name_of(description, place, names_from(names, k), literals, bytes, v);
+        k += 1;
+    }
+}
+
+// A line for each row, and those of its condition-names.
+fn row_lines(
+    description: &[u8],
+    items: &[u32],
+    places: &[u32],
+    names: &[u32],
+    name_places: &[u32],
+    literals: &[u32],
+    bytes: &[u8],
+) {
+    let rows = items.len() / 5;
+    let mut v: usize = 0;
+    while v < rows {
+        row_line(description, places, v, row_at(items, v));
+        names_of(description, names, name_places, literals, bytes, v);
+        v += 1;
+    }
+}
+
+pub fn list_items(
+    description: &[u8],
+    items: &[u32],
+    places: &[u32],
+    names: &[u32],
+    name_places: &[u32],
+    literals: &[u32],
+    bytes: &[u8],
+) -> u32 {
+    text(
+        STDOUT_FILENO,
+        b"row  name                            kind                     offset  size   digits  scale\n",
+    );
+    row_lines(
+        description,
+        items,
+        places,
+        names,
+        name_places,
+        literals,
+        bytes,
+    );
+    0
+}

@@ -1,0 +1,95 @@
+// Items by their names, and conditions by their words.
+use crate::files::front_bytes;
+use crate::files::wide;
+use crate::print::cell;
+use tables::Row;
+use tables::rows::is_group;
+use tables::rows::row_at;
+use texts::Printed;
+use texts::calls::print;
+
+// No row of a plan has more bytes of words: two literals of 256 quotes each, NOT and a relation.
+const WORDS: usize = 2048;
+
+// Whether a name ends before this byte.
+fn ends_name(byte: u8) -> bool {
+    (byte == 0x20) | (byte == 0x0A) | (byte == 0x2E)
+}
+
+// The bytes of a word from its first on.
+fn first_word(rest: &[u8]) -> &[u8] {
+    let mut end: usize = 0;
+    while end < rest.len() {
+        if ends_name(rest[end]) {
+            return front_bytes(rest, end);
+        }
+        end += 1;
+    }
+    rest
+}
+
+// The name that stands at a place of a description.
+pub fn name_at(description: &[u8], place: usize) -> &[u8] {
+    if place < description.len() {
+        return first_word(&description[place..]);
+    }
+    description
+}
+
+// The place of row v, or the end of the description.
+fn place_of_row(description: &[u8], places: &[u32], v: usize) -> usize {
+    if v < places.len() {
+        return wide(places[v]);
+    }
+    description.len()
+}
+
+// The name of row v in a column.
+pub fn item(to: i32, description: &[u8], places: &[u32], v: usize, width: usize) {
+    let place = place_of_row(description, places, v);
+    cell(to, name_at(description, place), width);
+}
+
+// Tokens as words; nothing where they can't be printed.
+pub fn words(
+    to: i32,
+    description: &[u8],
+    literals: &[u32],
+    bytes: &[u8],
+    tokens: &[u32],
+    width: usize,
+) {
+    let mut line = [0u8; WORDS];
+    let printed = print(description, literals, bytes, tokens, &mut line);
+    if let Printed::Count(n) = printed {
+        cell(to, front_bytes(&line, n), width);
+    }
+}
+
+fn holds(row: Row, byte: usize) -> bool {
+    let start = row.offset as usize;
+    let size = row.size as usize;
+    if byte < start {
+        return false;
+    }
+    byte - start < size
+}
+
+// The elementary item that has a byte of the record, of at most 64; 64 where none has it.
+pub fn item_with(items: &[u32], byte: usize) -> usize {
+    let count = items.len() / 5;
+    if 64 < count {
+        return 64;
+    }
+    let mut v: usize = 0;
+    while v < count {
+        let row = row_at(items, v);
+        if !is_group(row) {
+            if holds(row, byte) {
+                return v;
+            }
+        }
+        v += 1;
+    }
+    64
+}

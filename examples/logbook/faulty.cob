@@ -1,0 +1,3 @@
+  01 ENTRY.
+     05 DRIVE PIC X(6).
+     05 HOURS PIK 9(4).

@@ -1,0 +1,1 @@
+UPSI-0 OR UPSI-7

@@ -1,0 +1,1 @@
+HOURS NOT < LIMIT
