@@ -1,7 +1,7 @@
 /* Oboecurlew: COBOL conditions, read and printed, expanded, planned, judged and run; record descriptions, read; records, compared,
  * merged and mended; what a rule looks at, listed.
  *
- * Build the archive with `rt staticlib conditions_c` (target/staticlib/libconditions_c.a) and link it.
+ * Build the archive with `tests/archive` (target/staticlib/liboboecurlew.a) and link it.
  *
  * Every call returns the refusal's number, OBOECURLEW_OK (0) on success, and writes all nine numbers of the answer; what a call
  * has nothing to say of is 0. A refusal changes no output. No call needs heap, and none asks the caller to check anything first:

@@ -1,144 +1,135 @@
-      *> A logbook rule over a described entry: both read as printed,
-      *> planned once, run on each entry.
+      *> A rule over a logbook: the entries of a file that the rule is
+      *> true of, and those that it stops at. Description and rule are
+      *> read as printed and planned once; the entries are laid one
+      *> after another and swept.
        IDENTIFICATION DIVISION.
        PROGRAM-ID. LOGRULE.
+       ENVIRONMENT DIVISION.
+       INPUT-OUTPUT SECTION.
+       FILE-CONTROL.
+           COPY "logfiles.cpy".
+           SELECT LOGBOOK-FILE     ASSIGN TO "logbook.entries"
+               ORGANIZATION IS LINE SEQUENTIAL.
        DATA DIVISION.
+       FILE SECTION.
+       COPY "logcards.cpy".
+       FD  LOGBOOK-FILE.
+       01  LOG-ENTRY                PIC X(80).
        WORKING-STORAGE SECTION.
        COPY "oboecurlew.cpy".
-      *> An entry's description and the rule, as COBOL prints them.
-       01  DESCRIPTION-TEXT.
-           05  FILLER      PIC X(34) VALUE "01 LOG-ENTRY.".
-           05  FILLER      PIC X(34) VALUE "05 DRIVE PIC X(6).".
-           05  FILLER      PIC X(34) VALUE "05 HOURS PIC 9(4)V9.".
-           05  FILLER      PIC X(34) VALUE
-               "88 OVERDUE VALUE 1000 THRU 9000.".
-           05  FILLER      PIC X(34) VALUE "05 LIMIT PIC 9(4).".
-       01  RULE-TEXT       PIC X(60) VALUE
-           "HOURS NUMERIC AND OVERDUE AND HOURS NOT < LIMIT".
-       01  ITEM-NUMBERS.
-           05  ITEM-NUMBER          BINARY-LONG UNSIGNED OCCURS 320.
-       01  NAME-PLACES.
-           05  NAME-PLACE           BINARY-LONG UNSIGNED OCCURS 64.
-       01  LITERAL-NUMBERS.
-           05  LITERAL-NUMBER       BINARY-LONG UNSIGNED OCCURS 320.
-       01  LITERAL-BYTES            PIC X(4096).
-       01  CONDITION-NAMES.
-           05  CONDITION-NUMBER     BINARY-LONG UNSIGNED OCCURS 1152.
-       01  CONDITION-PLACES.
-           05  CONDITION-PLACE      BINARY-LONG UNSIGNED OCCURS 64.
-       01  TOKENS.
-           05  TOKEN                BINARY-LONG UNSIGNED OCCURS 256.
-       01  PLAN-NUMBERS.
-           05  PLAN-NUMBER          BINARY-LONG UNSIGNED OCCURS 640.
-       01  LENGTHS.
-           05  DESCRIPTION-SIZE     BINARY-DOUBLE UNSIGNED VALUE 170.
-           05  RULE-SIZE            BINARY-DOUBLE UNSIGNED VALUE 60.
-           05  ROW-ROOM             BINARY-DOUBLE UNSIGNED VALUE 320.
-           05  PLACE-ROOM           BINARY-DOUBLE UNSIGNED VALUE 64.
-           05  NAME-ROOM            BINARY-DOUBLE UNSIGNED VALUE 1152.
-           05  BYTE-ROOM            BINARY-DOUBLE UNSIGNED VALUE 4096.
-           05  TOKEN-ROOM           BINARY-DOUBLE UNSIGNED VALUE 256.
-           05  PLAN-ROOM            BINARY-DOUBLE UNSIGNED VALUE 640.
-           05  ITEM-COUNT           BINARY-DOUBLE UNSIGNED VALUE 0.
-           05  LITERAL-COUNT        BINARY-DOUBLE UNSIGNED VALUE 0.
-           05  BYTE-COUNT           BINARY-DOUBLE UNSIGNED VALUE 0.
-           05  NAME-COUNT           BINARY-DOUBLE UNSIGNED VALUE 0.
-           05  TOKEN-COUNT          BINARY-DOUBLE UNSIGNED VALUE 0.
-           05  PLAN-COUNT           BINARY-DOUBLE UNSIGNED VALUE 0.
-           05  RECORD-SIZE          BINARY-DOUBLE UNSIGNED VALUE 15.
-       01  SWITCHES                 BINARY-CHAR UNSIGNED VALUE 0.
-       01  LOGBOOK.
-           05  FILLER               PIC X(15) VALUE "TU-56 123451000".
-           05  FILLER               PIC X(15) VALUE "TU-56 099991000".
-           05  FILLER               PIC X(15) VALUE "TU-56      1000".
-           05  FILLER               PIC X(15) VALUE "TU-56 1234 1000".
-       01  FILLER REDEFINES LOGBOOK.
-           05  LOG-ENTRY            PIC X(15) OCCURS 4.
-       01  N                        PIC 9.
-       01  SHOWN-VALUE              PIC ZZZ9.
-       01  SHOWN-NUMBER             PIC Z9.
+       COPY "logtabs.cpy".
+      *> As many as are swept by one call: few, so that the sample
+      *> takes more calls than one.
+       78  ENTRIES-AT-ONCE          VALUE 4.
+       01  ENTRY-BYTES.
+           05  FILLER               PIC X(ENTRY-LINE-SIZE)
+                                    OCCURS ENTRIES-AT-ONCE.
+       01  SWEEP-ANSWERS.
+           05  SWEEP-ANSWER         OCCURS ENTRIES-AT-ONCE.
+               10  VERDICT          BINARY-LONG UNSIGNED.
+                   88  RULE-FALSE   VALUE ENTRY-FALSE.
+                   88  RULE-TRUE    VALUE ENTRY-TRUE.
+                   88  RULE-STOPPED VALUES NUMERIC-DATA-STOP
+                                    LETTERS-STOP.
+               10  STOP-CONDITION   BINARY-LONG UNSIGNED.
+               10  STOP-BYTE        BINARY-LONG UNSIGNED.
+               10  HOW-MANY-JUDGED  BINARY-LONG UNSIGNED.
+       01  SWEEP-LENGTHS.
+           05  ENTRY-BYTE-COUNT     BINARY-DOUBLE UNSIGNED VALUE 0.
+           05  ANSWER-ROOM          BINARY-DOUBLE UNSIGNED VALUE 0.
+       01  NEXT-BYTE                PIC 9(4).
+       01  LAID                     PIC 99.
+       01  N                        PIC 99.
+       01  ENTRY-NUMBER             PIC 99 VALUE 0.
+       01  TOTALS.
+           05  TRUE-TOTAL           PIC 99 VALUE 0.
+           05  FALSE-TOTAL          PIC 99 VALUE 0.
+           05  STOPPED-TOTAL        PIC 99 VALUE 0.
        PROCEDURE DIVISION.
        MAIN-LINE.
-           PERFORM READ-DESCRIPTION
-           PERFORM READ-RULE
-           PERFORM PLAN-RULE
-           PERFORM VARYING N FROM 1 BY 1 UNTIL N > 4
-               PERFORM RUN-RULE
+           PERFORM PREPARE-RULE
+           COMPUTE ANSWER-ROOM = ENTRIES-AT-ONCE * NUMBERS-FOR-AN-ENTRY
+           OPEN INPUT LOGBOOK-FILE
+           PERFORM READ-ENTRY
+           PERFORM UNTIL AT-END-OF-FILE
+               PERFORM LAY-ENTRIES
+               PERFORM SWEEP-ENTRIES
            END-PERFORM
+           CLOSE LOGBOOK-FILE
+           PERFORM SAY-TOTALS
            STOP RUN.
-      *> The literals of its condition-names are written again with
-      *> those of the rule, which come after them.
-       READ-DESCRIPTION.
-           CALL STATIC "oboecurlew_describe" USING
-               BY REFERENCE DESCRIPTION-TEXT BY VALUE DESCRIPTION-SIZE
-               BY REFERENCE ITEM-NUMBERS     BY VALUE ROW-ROOM
-               BY REFERENCE NAME-PLACES      BY VALUE PLACE-ROOM
-               BY REFERENCE CONDITION-NAMES  BY VALUE NAME-ROOM
-               BY REFERENCE CONDITION-PLACES BY VALUE PLACE-ROOM
-               BY REFERENCE LITERAL-NUMBERS  BY VALUE ROW-ROOM
-               BY REFERENCE LITERAL-BYTES    BY VALUE BYTE-ROOM
-               BY REFERENCE OBOECURLEW-ANSWER
-               RETURNING OBOECURLEW-REFUSAL
-           END-CALL
-           PERFORM STOP-IF-REFUSED
-           MOVE NUMBERS-WRITTEN (1) TO ITEM-COUNT
-           MOVE NUMBERS-WRITTEN (3) TO NAME-COUNT.
-       READ-RULE.
-           CALL STATIC "oboecurlew_read" USING
-               BY REFERENCE DESCRIPTION-TEXT BY VALUE DESCRIPTION-SIZE
-               BY REFERENCE RULE-TEXT        BY VALUE RULE-SIZE
-               BY REFERENCE TOKENS           BY VALUE TOKEN-ROOM
-               BY REFERENCE LITERAL-NUMBERS  BY VALUE ROW-ROOM
-               BY REFERENCE LITERAL-BYTES    BY VALUE BYTE-ROOM
-               BY REFERENCE OBOECURLEW-ANSWER
-               RETURNING OBOECURLEW-REFUSAL
-           END-CALL
-           PERFORM STOP-IF-REFUSED
-           MOVE NUMBERS-WRITTEN (1) TO TOKEN-COUNT
-           MOVE NUMBERS-WRITTEN (2) TO LITERAL-COUNT
-           MOVE NUMBERS-WRITTEN (3) TO BYTE-COUNT.
-       PLAN-RULE.
-           CALL STATIC "oboecurlew_plan" USING
-               BY REFERENCE ITEM-NUMBERS    BY VALUE ITEM-COUNT
-               BY REFERENCE LITERAL-NUMBERS BY VALUE LITERAL-COUNT
-               BY REFERENCE LITERAL-BYTES   BY VALUE BYTE-COUNT
-               BY REFERENCE CONDITION-NAMES BY VALUE NAME-COUNT
-               BY REFERENCE TOKENS          BY VALUE TOKEN-COUNT
-               BY REFERENCE PLAN-NUMBERS    BY VALUE PLAN-ROOM
-               BY REFERENCE OBOECURLEW-ANSWER
-               RETURNING OBOECURLEW-REFUSAL
-           END-CALL
-           PERFORM STOP-IF-REFUSED
-           MOVE NUMBERS-WRITTEN (1) TO PLAN-COUNT
-           MOVE NUMBERS-WRITTEN (1) TO SHOWN-VALUE
-           DISPLAY "PLAN OF" SHOWN-VALUE " NUMBERS".
-       RUN-RULE.
-           CALL STATIC "oboecurlew_run" USING
+       READ-ENTRY.
+           SET NOT-AT-END-OF-FILE TO TRUE
+           READ LOGBOOK-FILE
+               AT END SET AT-END-OF-FILE TO TRUE
+           END-READ.
+       LAY-ENTRIES.
+           MOVE 1 TO NEXT-BYTE
+           PERFORM VARYING LAID FROM 0 BY 1
+               UNTIL LAID = ENTRIES-AT-ONCE OR AT-END-OF-FILE
+               STRING LOG-ENTRY (1:ENTRY-SIZE) DELIMITED BY SIZE
+                   INTO ENTRY-BYTES
+                   WITH POINTER NEXT-BYTE
+               END-STRING
+               PERFORM READ-ENTRY
+           END-PERFORM
+           COMPUTE ENTRY-BYTE-COUNT = NEXT-BYTE - 1.
+       SWEEP-ENTRIES.
+           CALL STATIC "oboecurlew_sweep" USING
                BY REFERENCE ITEM-NUMBERS    BY VALUE ITEM-COUNT
                BY REFERENCE LITERAL-NUMBERS BY VALUE LITERAL-COUNT
                BY REFERENCE LITERAL-BYTES   BY VALUE BYTE-COUNT
                BY REFERENCE CONDITION-NAMES BY VALUE NAME-COUNT
                BY REFERENCE PLAN-NUMBERS    BY VALUE PLAN-COUNT
-               BY REFERENCE LOG-ENTRY (N)   BY VALUE RECORD-SIZE
+               BY REFERENCE ENTRY-BYTES     BY VALUE ENTRY-BYTE-COUNT
+               BY VALUE ENTRY-SIZE
                BY VALUE SWITCHES
+               BY REFERENCE SWEEP-ANSWERS   BY VALUE ANSWER-ROOM
                BY REFERENCE OBOECURLEW-ANSWER
                RETURNING OBOECURLEW-REFUSAL
            END-CALL
-           DISPLAY LOG-ENTRY (N) ": " WITH NO ADVANCING
+           PERFORM STOP-IF-REFUSED
+           PERFORM VARYING N FROM 1 BY 1 UNTIL N > LAID
+               PERFORM SAY-VERDICT
+           END-PERFORM.
+       SAY-VERDICT.
+           ADD 1 TO ENTRY-NUMBER
+           MOVE ENTRY-NUMBER TO SHOWN-NUMBER
            EVALUATE TRUE
-               WHEN REFUSED         PERFORM SAY-REFUSAL
-               WHEN ANSWER-TRUE     DISPLAY "TRUE," NO ADVANCING
-               WHEN OTHER           DISPLAY "FALSE," NO ADVANCING
-           END-EVALUATE
-           MOVE CONDITIONS-JUDGED TO SHOWN-NUMBER
-           DISPLAY SHOWN-NUMBER " JUDGED".
-       STOP-IF-REFUSED.
-           IF REFUSED
-               PERFORM SAY-REFUSAL
-               STOP RUN
-           END-IF.
-       SAY-REFUSAL.
-           MOVE OBOECURLEW-REFUSAL TO SHOWN-NUMBER
-           MOVE ANSWER-VALUE TO SHOWN-VALUE
-           DISPLAY "REFUSED WITH" SHOWN-NUMBER " AT" SHOWN-VALUE ","
-               NO ADVANCING.
+               WHEN RULE-TRUE (N)
+                   ADD 1 TO TRUE-TOTAL
+                   DISPLAY "ENTRY" SHOWN-NUMBER ": TRUE, "
+                       NO ADVANCING
+                   PERFORM SAY-JUDGED
+               WHEN RULE-FALSE (N)
+                   ADD 1 TO FALSE-TOTAL
+               WHEN RULE-STOPPED (N)
+                   ADD 1 TO STOPPED-TOTAL
+                   PERFORM FIND-STOP-ITEM
+                   DISPLAY "ENTRY" SHOWN-NUMBER ": STOPS AT "
+                       FUNCTION TRIM (ITEM-NAME) ", " NO ADVANCING
+                   PERFORM SAY-JUDGED
+           END-EVALUATE.
+       SAY-JUDGED.
+           MOVE HOW-MANY-JUDGED (N) TO SHOWN-NUMBER
+           DISPLAY FUNCTION TRIM (SHOWN-NUMBER) " JUDGED".
+      *> The elementary item that has the byte at which the rule stops.
+       FIND-STOP-ITEM.
+           PERFORM VARYING ROW-NUMBER FROM 1 BY 1
+               UNTIL NOT ROW-IS-GROUP (ROW-NUMBER)
+                 AND STOP-BYTE (N) >= ROW-OFFSET (ROW-NUMBER)
+                 AND STOP-BYTE (N) < ROW-OFFSET (ROW-NUMBER)
+                                     + ROW-SIZE (ROW-NUMBER)
+               CONTINUE
+           END-PERFORM
+           PERFORM FIND-ITEM-NAME.
+       SAY-TOTALS.
+           MOVE ENTRY-NUMBER TO SHOWN-NUMBER
+           DISPLAY SHOWN-NUMBER " ENTRIES:" NO ADVANCING
+           MOVE TRUE-TOTAL TO SHOWN-NUMBER
+           DISPLAY SHOWN-NUMBER " TRUE," NO ADVANCING
+           MOVE FALSE-TOTAL TO SHOWN-NUMBER
+           DISPLAY SHOWN-NUMBER " FALSE," NO ADVANCING
+           MOVE STOPPED-TOTAL TO SHOWN-NUMBER
+           DISPLAY SHOWN-NUMBER " STOPPED".
+       COPY "logread.cpy".

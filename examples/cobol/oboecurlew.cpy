@@ -1,6 +1,6 @@
       *> What a program needs to call Oboecurlew: the refusal that a
       *> call returns, the answer that it writes, and names for the
-      *> numbers of rows and tokens.
+      *> numbers of rows, tokens, plans and lists.
       *>
       *> CALL STATIC "oboecurlew_plan" USING
       *>     BY REFERENCE item-numbers    BY VALUE how-many
@@ -12,32 +12,44 @@
       *>     BY REFERENCE OBOECURLEW-ANSWER
       *>     RETURNING OBOECURLEW-REFUSAL
       *>
-      *> oboecurlew_expand takes the same, and so do
-      *> oboecurlew_convert_condition and, with a plan in the tokens'
-      *> place, oboecurlew_convert_plan. oboecurlew_judge takes the
-      *> record's bytes in the output's place and then, BY VALUE, the
-      *> switch byte; oboecurlew_run the same with a plan in the
-      *> tokens' place. oboecurlew_describe takes a text, item rows,
-      *> places of names, condition-names, places of these, literal
-      *> numbers and literal bytes, each with its length, and the
-      *> answer;
-      *> oboecurlew_read a description, a condition's text, tokens,
-      *> literal numbers and literal bytes; oboecurlew_print a
-      *> description, literal numbers, literal bytes, tokens and a
-      *> text; oboecurlew_differ item rows, two records and the output
-      *> for rows and marks; oboecurlew_mend item rows, the record,
-      *> which it mends in place, and the output for offsets, old and
-      *> new bytes; oboecurlew_looked_at and
-      *> oboecurlew_looked_at_plan what oboecurlew_judge and
-      *> oboecurlew_run take and, before the answer, the output for
-      *> item rows; oboecurlew_named_items what oboecurlew_plan takes;
-      *> oboecurlew_sweep what oboecurlew_run takes with a file's
-      *> records in the record's place, then, BY VALUE, the size of
-      *> one record and the switch byte, then four numbers for each
-      *> record.
+      *> The calls, and what each takes in order: a table, text or
+      *> record BY REFERENCE and how many numbers or bytes it has BY
+      *> VALUE; SWITCHES and SIZE BY VALUE alone; then the answer. What
+      *> it writes is in brackets. "Tables" are item-numbers,
+      *> literal-numbers, literal-bytes and name-numbers.
+      *>
+      *> oboecurlew_describe  text, [item-numbers], [places],
+      *>                      [name-numbers], [name-places],
+      *>                      [literal-numbers], [literal-bytes]
+      *> oboecurlew_read      description, text, [tokens],
+      *>                      [literal-numbers], [literal-bytes]
+      *> oboecurlew_print     description, literal-numbers,
+      *>                      literal-bytes, tokens, [text]
+      *> oboecurlew_expand    tables, tokens, [tokens]
+      *> oboecurlew_plan      tables, tokens, [plan]
+      *> oboecurlew_judge     tables, tokens, record, SWITCHES
+      *> oboecurlew_run       tables, plan, record, SWITCHES
+      *> oboecurlew_sweep     tables, plan, records, SIZE, SWITCHES,
+      *>                      [four numbers for each record]
+      *> oboecurlew_merge     tables, plan, old, first, second,
+      *>                      SWITCHES, [merged], [contested rows]
+      *> oboecurlew_differ    item-numbers, first, second,
+      *>                      [rows and marks]
+      *> oboecurlew_mend      item-numbers, [record], [changes]
+      *> oboecurlew_looked_at tables, tokens, record, SWITCHES, [rows]
+      *> oboecurlew_looked_at_plan
+      *>                      tables, plan, record, SWITCHES, [rows]
+      *> oboecurlew_named_items
+      *>                      tables, tokens, [rows]
+      *> oboecurlew_convert_condition
+      *>                      tables, tokens, [tokens]
+      *> oboecurlew_convert_plan
+      *>                      tables, plan, [plan]
+      *>
       *> A row is five numbers: kind, offset, size, scale, digits.
-      *> Numbers are BINARY-LONG UNSIGNED, lengths BINARY-DOUBLE
-      *> UNSIGNED, the switch byte BINARY-CHAR UNSIGNED.
+      *> Numbers are BINARY-LONG UNSIGNED, lengths and SIZE
+      *> BINARY-DOUBLE UNSIGNED, SWITCHES is BINARY-CHAR UNSIGNED.
+      *> A place, a row and a byte are counted from 0.
        01  OBOECURLEW-REFUSAL       BINARY-LONG UNSIGNED.
            88  REFUSED              VALUE 1 THRU 4294967295.
            88  ITEM-TABLE-UNSOUND   VALUE 1.
@@ -71,7 +83,15 @@
                88  ANSWER-TRUE      VALUE 1.
            05  ANSWER-BYTE          BINARY-LONG UNSIGNED.
            05  CONDITIONS-JUDGED    BINARY-LONG UNSIGNED.
-           05  NUMBERS-WRITTEN      BINARY-LONG UNSIGNED OCCURS 6.
+           05  WRITTEN-IN-TURN.
+               10  FIRST-WRITTEN    BINARY-LONG UNSIGNED.
+               10  SECOND-WRITTEN   BINARY-LONG UNSIGNED.
+               10  THIRD-WRITTEN    BINARY-LONG UNSIGNED.
+               10  FOURTH-WRITTEN   BINARY-LONG UNSIGNED.
+               10  FIFTH-WRITTEN    BINARY-LONG UNSIGNED.
+               10  SIXTH-WRITTEN    BINARY-LONG UNSIGNED.
+           05  FILLER REDEFINES WRITTEN-IN-TURN.
+               10  NUMBERS-WRITTEN  BINARY-LONG UNSIGNED OCCURS 6.
       *> Kinds of rows.
        78  GROUP-ROW                VALUE 0.
        78  ALPHABETIC-ROW           VALUE 1.
@@ -110,3 +130,45 @@
        78  NEGATIVE-WORD            VALUE 262159.
        78  ZERO-WORD                VALUE 262160.
        78  FIRST-CONDITION          VALUE 327680.
+      *> A plan's row is five numbers: subject, relation, object, and
+      *> where to go if true and if false, to a later row or to these.
+      *> A relation is its word less OPEN-WORD, and NEGATED-RELATION
+      *> more where NOT belongs to it.
+       78  NEGATED-RELATION         VALUE 32.
+       78  TARGET-FALSE             VALUE 65534.
+       78  TARGET-TRUE              VALUE 65535.
+      *> sweep's four numbers: ENTRY-FALSE, ENTRY-TRUE or a refusal's
+      *> number, its place and byte, the conditions judged.
+       78  ENTRY-FALSE              VALUE 0.
+       78  ENTRY-TRUE               VALUE 1.
+       78  NUMERIC-DATA-STOP        VALUE 13.
+       78  LETTERS-STOP             VALUE 17.
+      *> differ's marks: V, B and I as numbers.
+       78  OTHER-VALUE-MARK         VALUE 86.
+       78  SAME-VALUE-MARK          VALUE 66.
+       78  INVALID-MARK             VALUE 73.
+      *> The switch byte is the sum of those that are on.
+       78  ALL-SWITCHES-OFF         VALUE 0.
+       78  UPSI-0-ON                VALUE 128.
+       78  UPSI-1-ON                VALUE 64.
+       78  UPSI-2-ON                VALUE 32.
+       78  UPSI-3-ON                VALUE 16.
+       78  UPSI-4-ON                VALUE 8.
+       78  UPSI-5-ON                VALUE 4.
+       78  UPSI-6-ON                VALUE 2.
+       78  UPSI-7-ON                VALUE 1.
+      *> Room that no call needs more of, in numbers or bytes. mend
+      *> lists three numbers for a byte; sweep needs
+      *> NUMBERS-FOR-AN-ENTRY for each.
+       78  DESCRIPTION-BYTES        VALUE 4096.
+       78  CONDITION-BYTES          VALUE 2048.
+       78  TABLE-ROWS               VALUE 64.
+       78  TABLE-NUMBERS            VALUE 320.
+       78  NAME-NUMBERS             VALUE 1152.
+       78  LITERAL-ROOM             VALUE 6144.
+       78  CONDITION-TOKENS         VALUE 256.
+       78  EXPANDED-TOKENS          VALUE 634.
+       78  PLAN-ROOM-NUMBERS        VALUE 640.
+       78  DIFFERENCE-NUMBERS       VALUE 128.
+       78  NUMBERS-FOR-A-CHANGE     VALUE 3.
+       78  NUMBERS-FOR-AN-ENTRY     VALUE 4.

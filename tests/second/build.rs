@@ -10,8 +10,8 @@ fn main() {
         return;
     }
     let folder = env::var("OBOECURLEW_LIB")
-        .expect("OBOECURLEW_LIB must name the folder that holds libconditions_c.a");
-    println!("cargo:rerun-if-changed={folder}/libconditions_c.a");
+        .expect("OBOECURLEW_LIB must name the folder that holds liboboecurlew.a");
+    println!("cargo:rerun-if-changed={folder}/liboboecurlew.a");
     println!("cargo:rustc-link-search=native={folder}");
-    println!("cargo:rustc-link-lib=static=conditions_c");
+    println!("cargo:rustc-link-lib=static=oboecurlew");
 }

@@ -5,11 +5,11 @@ use crate::store::LITERALS;
 use crate::store::NAMES;
 use crate::store::PLAN;
 use crate::store::TOKENS;
-use crate::store::front;
 use crate::store::keep;
 use crate::store::part;
 use crate::store::switches;
 use conditions::calls;
+use fronts::front;
 use tables::Written;
 
 // The most numbers of an output.
@@ -23,7 +23,7 @@ fn expand_in(store: &[u32], bytes: &[u8], output: &mut [u32]) -> Written {
     calls::expand(items, literals, bytes, names, tokens, output)
 }
 
-pub fn expand(store: &[u32], bytes: &[u8], room: usize) {
+pub(crate) fn expand(store: &[u32], bytes: &[u8], room: usize) {
     let mut output = [7u32; ROOM];
     if room <= ROOM {
         let lent = &mut output[0..room];
@@ -49,14 +49,14 @@ fn plan_kept(store: &mut [u32], bytes: &[u8], output: &mut [u32]) {
     }
 }
 
-pub fn plan(store: &mut [u32], bytes: &[u8], room: usize) {
+pub(crate) fn plan(store: &mut [u32], bytes: &[u8], room: usize) {
     let mut output = [7u32; ROOM];
     if room <= ROOM {
         plan_kept(store, bytes, &mut output[0..room]);
     }
 }
 
-pub fn judge<'a>(store: &[u32], bytes: &'a [u8], record: &'a [u8]) {
+pub(crate) fn judge<'a>(store: &[u32], bytes: &'a [u8], record: &'a [u8]) {
     let items = part(store, ITEMS);
     let literals = part(store, LITERALS);
     let names = part(store, NAMES);
@@ -73,7 +73,7 @@ pub fn judge<'a>(store: &[u32], bytes: &'a [u8], record: &'a [u8]) {
     print::judged(b"judge: ", given);
 }
 
-pub fn run<'a>(store: &[u32], bytes: &'a [u8], record: &'a [u8]) {
+pub(crate) fn run<'a>(store: &[u32], bytes: &'a [u8], record: &'a [u8]) {
     let items = part(store, ITEMS);
     let literals = part(store, LITERALS);
     let names = part(store, NAMES);
@@ -83,7 +83,7 @@ pub fn run<'a>(store: &[u32], bytes: &'a [u8], record: &'a [u8]) {
 }
 
 // All four; run only where there is a plan.
-pub fn all<'a>(store: &mut [u32], bytes: &'a [u8], record: &'a [u8], room: usize) {
+pub(crate) fn all<'a>(store: &mut [u32], bytes: &'a [u8], record: &'a [u8], room: usize) {
     expand(store, bytes, room);
     plan(store, bytes, room);
     judge(store, bytes, record);

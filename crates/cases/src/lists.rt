@@ -65,7 +65,7 @@ fn quoted(store: &mut [u32], part: usize, text: &[u8]) {
     }
 }
 
-pub fn set(store: &mut [u32], part: usize, text: &[u8]) {
+pub(crate) fn set(store: &mut [u32], part: usize, text: &[u8]) {
     put(store, part, 0);
     if first(text) == b'"' {
         quoted(store, part, text);

@@ -6,6 +6,8 @@ mod print;
 mod store;
 mod words;
 
+use fronts::front_bytes;
+use fronts::narrow;
 use libc::STDIN_FILENO;
 use store::BYTES;
 use store::ITEMS;
@@ -17,8 +19,6 @@ use store::STEP;
 use store::STORE;
 use store::SWITCHES;
 use store::TOKENS;
-use store::front_bytes;
-use store::narrow;
 use store::part;
 use words::digits;
 use words::find;

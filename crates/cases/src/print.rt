@@ -1,13 +1,13 @@
 // What the program writes: texts, numbers and answers.
 use libc::STDOUT_FILENO;
+use refusal_numbers::number_of;
+use refusal_numbers::place_of;
 use tables::Judged;
 use tables::Refusal;
 use tables::Verdict;
 use tables::Written;
-use tables::refusals::number_of;
-use tables::refusals::place_of;
 
-pub fn text(bytes: &[u8]) {
+pub(crate) fn text(bytes: &[u8]) {
     io::write_all(STDOUT_FILENO, bytes);
 }
 
@@ -55,7 +55,7 @@ fn count(given: Written) {
     }
 }
 
-pub fn written(call: &[u8], given: Written, output: &[u32]) {
+pub(crate) fn written(call: &[u8], given: Written, output: &[u32]) {
     text(call);
     number(output.len());
     text(b": ");
@@ -73,7 +73,7 @@ fn truth(given: Verdict) {
     }
 }
 
-pub fn judged(call: &[u8], given: Judged) {
+pub(crate) fn judged(call: &[u8], given: Judged) {
     text(call);
     let verdict = given.verdict;
     truth(verdict);

@@ -1,4 +1,6 @@
 // What is lent to the calls, in one array of numbers: each part a count and then its numbers, with room beyond every limit.
+use fronts::front;
+use fronts::low_byte;
 
 // From one part to the next.
 pub const STEP: usize = 2048;
@@ -27,14 +29,14 @@ pub const STORE: usize = 18432;
 // The most numbers of a part.
 const MOST: u32 = 2047;
 
-pub fn get(store: &[u32], at: usize) -> u32 {
+pub(crate) fn get(store: &[u32], at: usize) -> u32 {
     if at < store.len() {
         return store[at];
     }
     0
 }
 
-pub fn put(store: &mut [u32], at: usize, number: u32) {
+pub(crate) fn put(store: &mut [u32], at: usize, number: u32) {
     if at < store.len() {
         store[at] = number;
     }
@@ -48,7 +50,7 @@ fn place(part: usize, i: u32) -> usize {
     STORE
 }
 
-pub fn push(store: &mut [u32], part: usize, number: u32) {
+pub(crate) fn push(store: &mut [u32], part: usize, number: u32) {
     let count = get(store, part);
     if count < MOST {
         put(store, place(part, count), number);
@@ -66,7 +68,7 @@ fn again(store: &mut [u32], part: usize, from: u32, end: u32) {
 }
 
 // The numbers from the mark on, so many times in all.
-pub fn repeat(store: &mut [u32], part: usize, times: u32) {
+pub(crate) fn repeat(store: &mut [u32], part: usize, times: u32) {
     let from = get(store, MARK);
     let end = get(store, part);
     let mut done: u32 = 1;
@@ -76,15 +78,7 @@ pub fn repeat(store: &mut [u32], part: usize, times: u32) {
     }
 }
 
-// The first n numbers, or all.
-pub fn front(numbers: &[u32], n: usize) -> &[u32] {
-    if n <= numbers.len() {
-        return &numbers[0..n];
-    }
-    numbers
-}
-
-pub fn part(store: &[u32], part: usize) -> &[u32] {
+pub(crate) fn part(store: &[u32], part: usize) -> &[u32] {
     if part < store.len() {
         let rest = &store[part + 1..];
         return front(rest, get(store, part) as usize);
@@ -93,7 +87,7 @@ pub fn part(store: &[u32], part: usize) -> &[u32] {
 }
 
 // A part becomes these numbers.
-pub fn keep(store: &mut [u32], part: usize, numbers: &[u32]) {
+pub(crate) fn keep(store: &mut [u32], part: usize, numbers: &[u32]) {
     put(store, part, 0);
     let mut i: usize = 0;
     while i < numbers.len() {
@@ -102,32 +96,7 @@ pub fn keep(store: &mut [u32], part: usize, numbers: &[u32]) {
     }
 }
 
-fn low_byte(number: u32) -> u8 {
-    (number % 256) as u8
-}
-
 // The switch byte.
-pub fn switches(store: &[u32]) -> u8 {
+pub(crate) fn switches(store: &[u32]) -> u8 {
     low_byte(get(store, SWITCHES + 1))
-}
-
-// Numbers as bytes; how many they are.
-pub fn narrow(numbers: &[u32], bytes: &mut [u8]) -> usize {
-    let mut i: usize = 0;
-    while i < numbers.len() {
-        if i >= bytes.len() {
-            return i;
-        }
-        bytes[i] = low_byte(numbers[i]);
-        i += 1;
-    }
-    i
-}
-
-// The first n bytes, or all.
-pub fn front_bytes(bytes: &[u8], n: usize) -> &[u8] {
-    if n <= bytes.len() {
-        return &bytes[0..n];
-    }
-    bytes
 }

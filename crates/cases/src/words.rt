@@ -71,7 +71,7 @@ fn token_of_word(word: &[u8]) -> u32 {
 }
 
 // Its token; a decimal number is itself.
-pub fn token_of(word: &[u8]) -> u32 {
+pub(crate) fn token_of(word: &[u8]) -> u32 {
     match first(word) {
         b'0'..=b'9' => digits(word, 10),
         _ => token_of_word(word),
@@ -79,7 +79,7 @@ pub fn token_of(word: &[u8]) -> u32 {
 }
 
 // 0 where there is none.
-pub fn first(text: &[u8]) -> u8 {
+pub(crate) fn first(text: &[u8]) -> u8 {
     if text.len() > 0 {
         return text[0];
     }
@@ -87,7 +87,7 @@ pub fn first(text: &[u8]) -> u8 {
 }
 
 // Where a byte stands next, from a place on, or the end.
-pub fn find(text: &[u8], start: usize, byte: u8) -> usize
+pub(crate) fn find(text: &[u8], start: usize, byte: u8) -> usize
     requires { ⌜ start ≤ length (now text) ⌝ }
     ensures { λ r. ⌜ (start ≤ r) × (r ≤ length (now (text .entry))) ⌝ }
 {
@@ -126,7 +126,7 @@ fn append(value: u32, digit: u32, radix: u32) -> u32 {
 }
 
 // The number that the digits of a text spell, radix 10 or 16.
-pub fn digits(text: &[u8], radix: u32) -> u32 {
+pub(crate) fn digits(text: &[u8], radix: u32) -> u32 {
     let mut value: u32 = 0;
     let mut i: usize = 0;
     while i < text.len() {

@@ -57,13 +57,13 @@ module _ (xs ys : List ℕ) where
       rw (add-one, take-suc xs k 0 hx, take-suc ys k 0 hy, before refl, eqb-true (getD xs k 0) (getD ys k 0) e)
   alike-more false k hx hy before e = absurd (false≢true e)
 
-  pub alike-block : (i : ℕ) → 32 ≤ length xs - i → 32 ≤ length ys - i → take i xs ≡ take i ys
-      → take 32 (take (length xs - i) (drop i xs)) ≡ take 32 (take (length ys - i) (drop i ys))
-      → take (i + 32) xs ≡ take (i + 32) ys
-  alike-block i hx hy before block =
-      take-add i 32 xs
-      ∙ ap₂ _++_ before (sym (take-take 32 _ (drop i xs) hx) ∙ block ∙ take-take 32 _ (drop i ys) hy)
-      ∙ sym (take-add i 32 ys)
+  pub alike-block : (i n : ℕ) → n ≤ length xs - i → n ≤ length ys - i → take i xs ≡ take i ys
+      → take n (take (length xs - i) (drop i xs)) ≡ take n (take (length ys - i) (drop i ys))
+      → take (i + n) xs ≡ take (i + n) ys
+  alike-block i n hx hy before block =
+      take-add i n xs
+      ∙ ap₂ _++_ before (sym (take-take n _ (drop i xs) hx) ∙ block ∙ take-take n _ (drop i ys) hy)
+      ∙ sym (take-add i n ys)
 
   pub alike-unsigned : (s t : Bool) (i : ℕ) → s || t ≡ false → take i xs ≡ take i ys
       → take i (unsignedLast s xs) ≡ take i (unsignedLast t ys)

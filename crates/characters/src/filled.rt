@@ -39,33 +39,59 @@ fn shorter(a: usize, b: usize) -> usize
     a
 }
 
-// Whether the first 32 bytes are the same. The loop has no exit, so that it becomes a few compares of many bytes each.
-fn block_same(left: &[u8], right: &[u8]) -> bool
-    requires { ⌜ (32 ≤ length (now left)) × (32 ≤ length (now right)) ⌝ }
-    ensures { λ r. ⌜ (r ≡ true → take 32 (now (left .entry)) ≡ take 32 (now (right .entry))) ⌝ }
+// Whether the first bytes are the same, as many as a block has. The loop has no exit, so that for a constant size it becomes a few compares of
+// many bytes each.
+fn block_same(left: &[u8], right: &[u8], size: usize) -> bool
+    requires { ⌜ (size ≤ length (now left)) × (size ≤ length (now right)) ⌝ }
+    ensures { λ r. ⌜ (r ≡ true → take size (now (left .entry)) ≡ take size (now (right .entry))) ⌝ }
 {
     let mut same = true;
     let mut k: usize = 0;
-    while k < 32 {
+    while k < size {
         same = same & (left[k] == right[k]);
         k += 1;
     }
     same
 }
 
-// How many bytes the blocks have that come before the first one that differs.
-fn same_blocks(left: &[u8], right: &[u8]) -> usize
+// Where the first block of this size that differs begins, of those from a place on before which all is the same.
+fn same_blocks(left: &[u8], right: &[u8], size: usize, from: usize) -> usize
+    requires { ⌜ 1 ≤ size ⌝ }
+    requires { ⌜ (from ≤ length (now left)) × (from ≤ length (now right)) × (take from (now left) ≡ take from (now right)) ⌝ }
     ensures { λ r. ⌜ (r ≤ length (now (left .entry))) × (r ≤ length (now (right .entry))) × (take r (now (left .entry)) ≡ take r (now (right .entry))) ⌝ }
 {
     let n = shorter(left.len(), right.len());
-    let mut i: usize = 0;
-    while 32 <= n - i {
-        if !block_same(&left[i..], &right[i..]) {
+    let mut i = from;
+    while size <= n - i {
+        if !block_same(&left[i..], &right[i..], size) {
             return i;
         }
-        i += 32;
+        i += size;
     }
     i
+}
+
+// The longest blocks first. Most texts that differ do so at once, and there no long block is looked at.
+fn same_long(left: &[u8], right: &[u8]) -> usize
+    ensures { λ r. ⌜ (r ≤ length (now (left .entry))) × (r ≤ length (now (right .entry))) × (take r (now (left .entry)) ≡ take r (now (right .entry))) ⌝ }
+{
+    if shorter(left.len(), right.len()) < 8 {
+        return 0;
+    }
+    if !block_same(left, right, 8) {
+        return 0;
+    }
+    let long = same_blocks(left, right, 256, 0);
+    let short = same_blocks(left, right, 32, long);
+    same_blocks(left, right, 8, short)
+}
+
+// Then byte by byte.
+fn same_bytes(left: &[u8], right: &[u8]) -> usize
+    ensures { λ r. ⌜ (r ≤ length (now (left .entry))) × (r ≤ length (now (right .entry))) × (take r (now (left .entry)) ≡ take r (now (right .entry))) ⌝ }
+{
+    let long = same_long(left, right);
+    same_blocks(left, right, 1, long)
 }
 
 // How many characters from the left need no look of their own: none where a last byte has a sign, since such a side is short.
@@ -75,7 +101,7 @@ fn same_start(left: &[u8], left_signed: bool, right: &[u8], right_signed: bool) 
     if left_signed | right_signed {
         return 0;
     }
-    same_blocks(left, right)
+    same_bytes(left, right)
 }
 
 pub fn compare_characters(left: &[u8], left_signed: bool, right: &[u8], right_signed: bool) -> Order

@@ -4,7 +4,7 @@ ghost use mathlib.Core.List.{[]};
 ghost use Rattle.tables.specs.Operands.{lend};
 ghost use Rattle.tables.specs.Refusals.{firstOf};
 ghost use Rattle.tables.specs.Tables.{lengthSound, literalSound, itemRowCheck, literalRowCheck, tableLines, recordCheck};
-use content::fields::valid_content;
+use fields::held::valid_content;
 use tables::Check;
 use tables::Refusal;
 use tables::Row;

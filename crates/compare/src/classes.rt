@@ -3,8 +3,8 @@ ghost use mathlib.Core.Path.{_≡_};
 ghost use Prim.Native.Nat.{_≤_};
 ghost use lib.ListN.{length};
 ghost use Rattle.compare.specs.Classes.{classHolds};
-use content::fields::valid_content;
 use content::letters::all_in_alphabet;
+use fields::held::valid_content;
 
 pub fn class_holds(word: u32, kind: u32, digits: u32, bytes: &[u8]) -> bool
     requires { ⌜ 1 ≤ length (now bytes) ⌝ }

@@ -1,8 +1,8 @@
 // The converters of the rules that had switch-off words, for C and COBOL.
 ghost use Rattle.tables.specs.Operands.{lendNames};
 ghost use Rattle.rules.specs.Converting.{convertGives, convertPlanGives};
-ghost use Rattle.conditions_c.specs.Answer.{Leaves};
-use crate::tell_written;
+ghost use Rattle.answers.specs.Answer.{Leaves};
+use answers::written::tell_written;
 
 #[no_mangle]
 pub extern "C" fn oboecurlew_convert_condition(

@@ -1,3 +1,1 @@
-pub mod Progress
-pub mod Begun
 pub mod Calling

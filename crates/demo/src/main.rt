@@ -1,14 +1,18 @@
 // A rule of a tape drive logbook, from its COBOL text to its verdicts, by the calls of the library. A description and a rule are
 // read as printed: no row, token or target is typed by hand.
 ghost use Prim.Native.Nat.{_≤_};
+use books::Printed;
+use books::Recognized;
 use conditions::calls;
-use descriptions::Described;
+use describing::Described;
 use descriptions::calls::describe;
+use fronts::front;
+use fronts::front_bytes;
 use grammar::PlanRow;
 use libc::STDOUT_FILENO;
 use looks::calls::looked_at_plan;
+use plan_checks::plan_row;
 use plans::Target;
-use plans::checks::plan_row;
 use tables::Judged;
 use tables::Refusal;
 use tables::Row;
@@ -16,8 +20,6 @@ use tables::Verdict;
 use tables::Written;
 use tables::rows::is_group;
 use tables::rows::row_at;
-use texts::Printed;
-use texts::Recognized;
 use texts::calls::print;
 use texts::calls::read;
 
@@ -68,20 +70,6 @@ enum By {
 
 fn write(bytes: &[u8]) {
     io::write_all(STDOUT_FILENO, bytes);
-}
-
-fn front(numbers: &[u32], n: usize) -> &[u32] {
-    if n <= numbers.len() {
-        return &numbers[0..n];
-    }
-    numbers
-}
-
-fn front_bytes(bytes: &[u8], n: usize) -> &[u8] {
-    if n <= bytes.len() {
-        return &bytes[0..n];
-    }
-    bytes
 }
 
 // Text, and blanks up to a width.

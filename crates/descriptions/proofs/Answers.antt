@@ -18,11 +18,11 @@ use Rattle.description.specs.Limits as Limits
 use Rattle.description.proofs.Bytes.{apart, leb-so, leb-no}
 use Rattle.entries.specs.declared.Noted.{Noted}
 use Rattle.entries.specs.Entries.{capNoted, entryOf}
-use Rattle.describer.specs.declared.Found.{Found}
-use Rattle.describer.specs.declared.Names.{Names}
-use Rattle.describer.specs.Stored.{notedFrom}
-use Rattle.describer.specs.Naming.{limitOf, Stores}
-use Rattle.describer.specs.Reads.{readingOf, ReadBy}
+use Rattle.storing.specs.declared.Found.{Found}
+use Rattle.storing.specs.declared.Names.{Names}
+use Rattle.storing.specs.Stored.{notedFrom}
+use Rattle.storing.specs.Naming.{limitOf, Stores}
+use Rattle.storing.specs.Reads.{readingOf, ReadBy}
 use Rattle.layouts.specs.declared.Laid.{Laid}
 use Rattle.layouts.specs.declared.Laid.the-variants.{Over, Fine}
 use Rattle.layouts.specs.Layouts.{firstOver, entriesIn, rowNumbers, overPlace, LaidOut}
@@ -32,10 +32,10 @@ use Rattle.name_entries.specs.declared.Tally.{Tally}
 use Rattle.outputs.specs.Noted.{namedOf, rowsFrom, bytesFrom}
 use Rattle.outputs.proofs.Copying.{named-length, rows-length}
 use Rattle.outputs.proofs.Noting.{rows-noted, bytes-noted, words-noted}
-use Rattle.descriptions.specs.Calls as Calls
-use Rattle.descriptions.specs.Calls.{rowsOf, placeOfName, placesOf, namesOf, namePlacesOf, DescribedBy, ReadsWithin, SoonerBy, Ready, Given}
-use Rattle.descriptions.specs.declared.Described.{Described}
-use Rattle.descriptions.specs.declared.Described.the-variants.{Faulty}
+use Rattle.describing.specs.Calls as Calls
+use Rattle.describing.specs.Calls.{rowsOf, placeOfName, placesOf, namesOf, namePlacesOf, DescribedBy, ReadsWithin, SoonerBy, Ready, Given}
+use Rattle.describing.specs.declared.Described.{Described}
+use Rattle.describing.specs.declared.Described.the-variants.{Faulty}
 
 -- Byte 4,096.
 rises : (text : List ℕ) (w : Bool) (d : Parts) (p : ℕ) → readText text ≡ readingOf w d p → (n : ℕ) × Rise d n

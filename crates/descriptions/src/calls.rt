@@ -2,14 +2,14 @@
 ghost use mathlib.Core.Path.{_≡_};
 ghost use Prim.Native.Nat.{_≤_};
 ghost use lib.ListN.{length};
-ghost use Rattle.descriptions.specs.Calls.{ReadsWithin, SoonerBy, DescribedBy};
-use crate::Described;
-use crate::giving::give;
-use describer::Found;
-use describer::Names;
+ghost use Rattle.describing.specs.Calls.{ReadsWithin, SoonerBy, DescribedBy};
 use describer::reading::read_entries;
+use describing::Described;
+use describing::giving::give;
 use layouts::Laid;
 use layouts::rows::lay_rows;
+use storing::Found;
+use storing::Names;
 
 // The entries of a text: byte 4,096 is faulty.
 fn read_within(

@@ -1,20 +1,5 @@
 // The files that the arguments name.
-
-// The first n numbers, or all.
-pub fn front(numbers: &[u32], n: usize) -> &[u32] {
-    if n <= numbers.len() {
-        return &numbers[0..n];
-    }
-    numbers
-}
-
-// The first n bytes, or all.
-pub fn front_bytes(bytes: &[u8], n: usize) -> &[u8] {
-    if n <= bytes.len() {
-        return &bytes[0..n];
-    }
-    bytes
-}
+use fronts::front_bytes;
 
 // As many bytes of a file as there is room for, none where it can't be read; how many they are.
 fn read_path(path: &[u8], bytes: &mut [u8]) -> usize {
@@ -28,7 +13,7 @@ fn read_path(path: &[u8], bytes: &mut [u8]) -> usize {
 }
 
 // The same of the file that argument i names.
-pub fn read_file(i: usize, bytes: &mut [u8]) -> usize {
+pub(crate) fn read_file(i: usize, bytes: &mut [u8]) -> usize {
     let mut name = io::buffer();
     let n = os::arg(i, &mut name);
     read_path(front_bytes(&name, n), bytes)

@@ -3,12 +3,12 @@
 mod files;
 mod print;
 
-use descriptions::Described;
+use describing::Described;
 use descriptions::calls::describe;
 use differences::calls::differ;
-use files::front;
-use files::front_bytes;
 use files::read_file;
+use fronts::front;
+use fronts::front_bytes;
 
 // A text of 4,096 bytes is the longest that may be valid; one byte more tells that a file is longer.
 const TEXT: usize = 4097;

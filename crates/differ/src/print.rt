@@ -1,10 +1,10 @@
 // Lines on standard output.
-use crate::files::front;
+use fronts::front;
 use libc::STDOUT_FILENO;
+use refusal_numbers::number_of;
 use tables::Written;
-use tables::refusals::number_of;
 
-pub fn refusal(number: u32) {
+pub(crate) fn refusal(number: u32) {
     io::write_all(STDOUT_FILENO, b"R ");
     io::print_decimal(STDOUT_FILENO, number as u64);
     io::write_all(STDOUT_FILENO, b"\n");
@@ -29,7 +29,7 @@ fn items(list: &[u32]) {
     }
 }
 
-pub fn written(written: Written, output: &[u32]) {
+pub(crate) fn written(written: Written, output: &[u32]) {
     match written {
         Written::Count(n) => items(front(output, n)),
         Written::Refused(refused) => refusal(number_of(refused)),

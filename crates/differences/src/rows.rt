@@ -9,15 +9,15 @@ ghost use Rattle.tables.specs.Rows.{part};
 ghost use Rattle.differences.specs.Differ.{differs, mark, entryOf, Held};
 use compare::orders::relation_holds;
 use items::parts::same_bytes;
-use numbers::fields::read_number;
-use numbers::scaled::compare_scaled;
+use numbers::reading::read_number;
+use scaled::compare_scaled;
 use tables::Row;
 use tables::rows::is_group;
 use tables::rows::is_numeric;
 use tables::rows::row_part;
 
 // Whether an elementary item's bytes differ.
-pub fn item_differs(row: Row, first: &[u8], second: &[u8]) -> bool
+pub(crate) fn item_differs(row: Row, first: &[u8], second: &[u8]) -> bool
     requires { ⌜ Held row (now first) (now second) ⌝ }
     ensures { λ r. ⌜ r ≡ differs row (part row (now (first .entry))) (part row (now (second .entry))) ⌝ }
 {
@@ -61,7 +61,7 @@ fn put_entry(list: &mut [u32], place: usize, row: u32, mark: u32)
 }
 
 // Row v listed behind so many numbers, where it differs; and how many there are then.
-pub fn list_row(
+pub(crate) fn list_row(
     row: Row,
     v: u32,
     first: &[u8],

@@ -127,7 +127,7 @@ fn picture_clause(text: &[u8], n: usize) -> Clauses
 }
 
 // What follows an item's name at n.
-pub fn clauses_at(text: &[u8], n: usize) -> Clauses
+pub(crate) fn clauses_at(text: &[u8], n: usize) -> Clauses
     requires { ⌜ (n ≤ length (now text)) × (length (now text) ≤ 4096) ⌝ }
     ensures { λ r. ⌜ r ≡ capClauses (clausesAt (now (text .entry)) n) ⌝ }
 {

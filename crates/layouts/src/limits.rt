@@ -20,7 +20,7 @@ fn most_of(kind: u32) -> usize
 }
 
 // Whether the row with i rows before it passes a limit.
-pub fn is_over(i: usize, row: ItemRow) -> bool
+pub(crate) fn is_over(i: usize, row: ItemRow) -> bool
     ensures { λ r. ⌜ r ≡ over i (shownRow row) ⌝ }
 {
     let most = most_of(row.kind);

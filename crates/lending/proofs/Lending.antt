@@ -24,12 +24,12 @@ use Rattle.description.specs.Limits.{Outcome, table, refusal, describe, ruled}
 use Rattle.description.proofs.Keeping.{Within, within}
 use Rattle.spelling.proofs.Given.{AllFitting, entries-fit}
 use Rattle.spelling.proofs.Describing.{few-bytes}
-use Rattle.describer.specs.Naming.{nameNumbers}
+use Rattle.storing.specs.Naming.{nameNumbers}
 use Rattle.layouts.specs.Layouts.{rowNumbers}
-use Rattle.descriptions.specs.declared.Described.{Described}
-use Rattle.descriptions.specs.declared.Described.the-variants.{Counts, Faulty, Room}
-use Rattle.descriptions.specs.Calls as Calls
-use Rattle.descriptions.specs.Calls.{rowsOf, placesOf, namesOf, namePlacesOf}
+use Rattle.describing.specs.declared.Described.{Described}
+use Rattle.describing.specs.declared.Described.the-variants.{Counts, Faulty, Room}
+use Rattle.describing.specs.Calls as Calls
+use Rattle.describing.specs.Calls.{rowsOf, placesOf, namesOf, namePlacesOf}
 use Rattle.lending.specs.Lending.{lent, lentOf, Lendable, NamesLendable, OutputsLendable}
 use Rattle.lending.proofs.Rows.{count-is, length-sound, row-at}
 use Rattle.lending.proofs.Items.{rows-low}

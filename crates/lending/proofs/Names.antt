@@ -18,7 +18,7 @@ use Rattle.description.specs.Grammar.{Row, row, Literal, Value, Condition, lite
 use Rattle.description.specs.Limits.{ruled, anyBarred}
 use Rattle.name_entries.specs.Named.{pairNumbers}
 use Rattle.name_entries.proofs.Holding.{numbers-length}
-use Rattle.describer.specs.Naming.{rowNumbers, nameNumbers}
+use Rattle.storing.specs.Naming.{rowNumbers, nameNumbers}
 use Rattle.layouts.specs.Layouts as Layouts
 use Rattle.lending.proofs.Rows.{count-is, row-at}
 use Rattle.lending.proofs.Literals.{nothing}

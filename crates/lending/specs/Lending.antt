@@ -10,8 +10,8 @@ use Rattle.tables.specs.Refusals.{firstOf}
 use Rattle.values.specs.Names.{nameCheck, lentLines}
 use Rattle.description.specs.Grammar.{Table}
 use Rattle.description.specs.Limits.{describe, table}
-use Rattle.descriptions.specs.declared.Described.the-variants.{Counts}
-use Rattle.descriptions.specs.Calls.{rowsOf, namesOf, literalsOf, DescribedBy}
+use Rattle.describing.specs.declared.Described.the-variants.{Counts}
+use Rattle.describing.specs.Calls.{rowsOf, namesOf, literalsOf, DescribedBy}
 
 abbrev pub lent : Bool → List ℕ → List ℕ → List ℕ → List ℕ → Lent
 lent off items literals bytes names = record { off = off; items = items; literals = literals; bytes = bytes; names = names }

@@ -77,7 +77,7 @@ fn add_token(t: u32, held: Gathered, past: usize, tokens: &mut [u32]) -> Gathere
 }
 
 // The piece of the word from `at` to `end`.
-pub fn add(
+pub(crate) fn add(
     description: &[u8],
     places: &[u32],
     items: usize,

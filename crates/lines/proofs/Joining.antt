@@ -11,7 +11,7 @@ use lib.Seq.{paste, length-take-le, take-all, take-at, drop-at, drop-drop, take-
 use lib.Dec.{leb, ltb}
 use borrow.Author.Tests.{leb-true, leb-false, ltb-true, ltb-false}
 use Rattle.io.specs.Digits.{digits, Fewest}
-use Rattle.lines.specs.Put.{fitting, Puts, Decimal, PutsNumber}
+use Rattle.lines.specs.Put.{fitting, Puts, Decimal, PutsNumber, PutsNumberColumn}
 
 -- one number or the other is no smaller
 either : (m n : ℕ) → (m ≤ n) ⊎ (n ≤ m)
@@ -176,9 +176,15 @@ wide-enough {out} {at} {width} {end} {text} {after} h P =
     let none : width - length text ≡ 0 = omega (arith, h) in
     rw none (subst (λ (l : List ℕ). Puts out at l end after) (sym (append-nil text)) P)
 
--- a number
-pub number-put : {out : List ℕ} {at number end : ℕ} {after : List ℕ} (spelling : List ℕ) (n : ℕ) → n ≤ length spelling → Fewest 10 1 number n
-    → take n spelling ≡ digits 10 n number → Puts out at (take n spelling) end after → PutsNumber out at number end after
-number-put {out} {at} {number} {end} {after} spelling n h few e P =
-    let long : length (take n spelling) ≡ n = length-take-le n spelling h in
-    record { text = take n spelling; decimal = record { few = rw long few; spelled = rw long e }; puts = P }
+-- a number, alone and in a column
+module _ {number : ℕ} (spelling : List ℕ) (n : ℕ) (h : n ≤ length spelling) (few : Fewest 10 1 number n)
+    (e : take n spelling ≡ digits 10 n number) where
+  decimal : Decimal number (take n spelling)
+  decimal = let long : length (take n spelling) ≡ n = length-take-le n spelling h in record { few = rw long few; spelled = rw long e }
+
+  pub number-put : {out : List ℕ} {at end : ℕ} {after : List ℕ} → Puts out at (take n spelling) end after → PutsNumber out at number end after
+  number-put P = record { text = take n spelling; decimal = decimal; puts = P }
+
+  pub column-put : {out : List ℕ} {at width end : ℕ} {after : List ℕ} → Puts out at (take n spelling ++ replicate (width - length (take n spelling)) 0x20) end after
+      → PutsNumberColumn out at number width end after
+  column-put P = record { text = take n spelling; decimal = decimal; puts = P }

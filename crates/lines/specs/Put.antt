@@ -1,9 +1,9 @@
 -- A text put into a lent buffer, and a number as text.
 use mathlib.Core.Path.{_≡_}
 use mathlib.Core.List.{List, [], _∷_, _++_}
-use Prim.Native.Nat.{ℕ, zero, suc, _+_, _-_}
-use lib.ListN.{length, take, drop}
-use Rattle.io.specs.Digits.{digits, Fewest}
+use Prim.Native.Nat.{ℕ, zero, suc, _+_, _-_, _/_, _%_}
+use lib.ListN.{length, take, drop, replicate}
+use Rattle.io.specs.Digits.{digits, Fewest, glyph}
 
 -- as much of a text as there is room for from a place on
 abbrev pub fitting : List ℕ → ℕ → List ℕ → List ℕ
@@ -24,3 +24,13 @@ pub record PutsNumber (out : List ℕ) (at number end : ℕ) (after : List ℕ) 
   pub text : List ℕ
   pub decimal : Decimal number text
   pub puts : Puts out at text end after
+
+-- and spaces after them up to a width
+pub record PutsNumberColumn (out : List ℕ) (at number width end : ℕ) (after : List ℕ) : Type 0 where
+  pub text : List ℕ
+  pub decimal : Decimal number text
+  pub puts : Puts out at (text ++ replicate (width - length text) 0x20) end after
+
+-- a byte as two hexadecimal digits
+abbrev pub hexadecimal : ℕ → List ℕ
+hexadecimal byte = glyph (byte / 16) ∷ glyph (byte % 16) ∷ []

@@ -62,7 +62,7 @@ fn step(state: u32, b: u8) -> u32
 }
 
 // How many bytes may begin a literal.
-pub fn spell(rest: &[u8]) -> Span
+pub(crate) fn spell(rest: &[u8]) -> Span
     ensures { λ r. ⌜ (r .length ≡ spelledFar 0 (now (rest .entry))) × (r .state ≡ spelledState 0 (now (rest .entry))) ⌝ }
 {
     let mut state: u32 = 0;

@@ -9,13 +9,13 @@ ghost use Rattle.spelling.specs.Literals.{literalDigits, pointPlace, withoutPoi
 ghost use Rattle.literal_words.specs.Found.{numberFound, rowBy};
 ghost use Rattle.content.specs.WrongByte.{validContent};
 use crate::Number;
-use content::fields::is_sign;
-use content::fields::valid_content;
+use fields::held::is_sign;
+use fields::held::valid_content;
 use tables::Row;
 use tables::rows::row_sound;
 
 // The place of the first point, or the length.
-pub fn point_place(word: &[u8]) -> usize
+pub(crate) fn point_place(word: &[u8]) -> usize
     ensures { λ r. ⌜ r ≡ pointPlace (now (word .entry)) ⌝ }
 {
     let mut i: usize = 0;

@@ -1,5 +1,6 @@
 // The files that the arguments name.
 use crate::print::complaint;
+use fronts::front_bytes;
 use lines::text::put;
 
 // How many bytes a file has, or that a message was given.
@@ -8,29 +9,13 @@ pub enum Loaded {
     Failed,
 }
 
-// The first n numbers, or all.
-pub fn front(numbers: &[u32], n: usize) -> &[u32] {
-    if n <= numbers.len() {
-        return &numbers[0..n];
-    }
-    numbers
-}
-
-// The first n bytes, or all.
-pub fn front_bytes(bytes: &[u8], n: usize) -> &[u8] {
-    if n <= bytes.len() {
-        return &bytes[0..n];
-    }
-    bytes
-}
-
 // A number of a table as an index.
-pub fn wide(number: u32) -> usize {
+pub(crate) fn wide(number: u32) -> usize {
     number as usize
 }
 
 // The bytes from n on.
-pub fn back_bytes(bytes: &[u8], n: usize) -> &[u8] {
+pub(crate) fn back_bytes(bytes: &[u8], n: usize) -> &[u8] {
     if n <= bytes.len() {
         return &bytes[n..];
     }
@@ -38,7 +23,7 @@ pub fn back_bytes(bytes: &[u8], n: usize) -> &[u8] {
 }
 
 // The file that argument i names, open for reading, or -1.
-pub fn open(i: usize) -> i32 {
+pub(crate) fn open(i: usize) -> i32 {
     let mut name = io::buffer();
     let n = os::arg(i, &mut name);
     let path = front_bytes(&name, n);
@@ -50,7 +35,7 @@ pub fn open(i: usize) -> i32 {
 }
 
 // All of the file that argument i names. The room is one byte more than it may have.
-pub fn load(i: usize, bytes: &mut [u8]) -> Loaded {
+pub(crate) fn load(i: usize, bytes: &mut [u8]) -> Loaded {
     let file = open(i);
     if file < 0 {
         return Loaded::Failed;
@@ -65,7 +50,7 @@ pub fn load(i: usize, bytes: &mut [u8]) -> Loaded {
 }
 
 // Whether nothing has the name that argument i gives, so that a new file may take it.
-pub fn is_free(i: usize) -> bool {
+pub(crate) fn is_free(i: usize) -> bool {
     let mut name = io::buffer();
     let n = os::arg(i, &mut name);
     let path = front_bytes(&name, n);
@@ -105,7 +90,7 @@ fn write_new(path: &[u8], bytes: &[u8]) -> bool {
 
 // A new file under the name that argument i gives. It is written under another and renamed, so that a run that is interrupted leaves
 // no part of a file under its name.
-pub fn save(i: usize, bytes: &[u8]) -> bool {
+pub(crate) fn save(i: usize, bytes: &[u8]) -> bool {
     let mut name = io::buffer();
     let n = os::arg(i, &mut name);
     let path = front_bytes(&name, n);

@@ -1,13 +1,13 @@
 // judge: what a rule says of one record.
 use crate::files::Loaded;
-use crate::files::front_bytes;
 use crate::files::load;
-use crate::print::number;
-use crate::print::text;
 use crate::refusals::numbered;
 use crate::refusals::of_record;
+use crate::verdicts::judged;
 use crate::verdicts::stop;
+use crate::verdicts::verdict;
 use conditions::calls::run;
+use fronts::front_bytes;
 use libc::STDOUT_FILENO;
 use tables::Refusal;
 use tables::Verdict;
@@ -15,14 +15,8 @@ use tables::Verdict;
 // No item ends after byte 131,070.
 const RECORD: usize = 131072;
 
-fn judged_line(count: usize) {
-    text(STDOUT_FILENO, b"conditions judged: ");
-    number(STDOUT_FILENO, count);
-    text(STDOUT_FILENO, b"\n");
-}
-
 // A refusal of a run: a stop on what an item holds, or a record that is too short.
-pub fn refused(
+pub(crate) fn refused(
     description: &[u8],
     items: &[u32],
     places: &[u32],
@@ -77,17 +71,15 @@ fn judge_loaded<'a>(
     record: &'a [u8],
     switches: u8,
 ) -> u32 {
-    let judged = run(items, literals, bytes, names, plan, record, switches);
-    let verdict = judged.verdict;
-    match verdict {
+    let answer = run(items, literals, bytes, names, plan, record, switches);
+    let said = answer.verdict;
+    match said {
         Verdict::True => {
-            text(STDOUT_FILENO, b"TRUE\n");
-            judged_line(judged.count);
+            verdict(true, answer.count);
             0
         }
         Verdict::False => {
-            text(STDOUT_FILENO, b"FALSE\n");
-            judged_line(judged.count);
+            verdict(false, answer.count);
             1
         }
         Verdict::Refused(refusal) => {
@@ -101,13 +93,13 @@ fn judge_loaded<'a>(
                 record,
                 refusal,
             );
-            judged_line(judged.count);
+            judged(answer.count);
             2
         }
     }
 }
 
-pub fn judge_record(
+pub(crate) fn judge_record(
     description: &[u8],
     items: &[u32],
     places: &[u32],

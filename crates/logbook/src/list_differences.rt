@@ -2,12 +2,12 @@
 use crate::changes::change;
 use crate::changes::part;
 use crate::files::Loaded;
-use crate::files::front;
-use crate::files::front_bytes;
 use crate::files::load;
 use crate::files::wide;
 use crate::refusals::of_record;
 use differences::calls::differ;
+use fronts::front;
+use fronts::front_bytes;
 use tables::Written;
 use tables::rows::row_at;
 
@@ -104,7 +104,7 @@ fn with_second(description: &[u8], items: &[u32], places: &[u32], first: &[u8]) 
     }
 }
 
-pub fn list_differences(description: &[u8], items: &[u32], places: &[u32]) -> u32 {
+pub(crate) fn list_differences(description: &[u8], items: &[u32], places: &[u32]) -> u32 {
     let mut first = [0u8; RECORD];
     let loaded = load(3, &mut first);
     match loaded {

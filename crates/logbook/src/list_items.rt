@@ -1,14 +1,12 @@
 // items: a table of what a description says.
-use crate::files::front_bytes;
 use crate::files::wide;
-use crate::print::cell;
-use crate::print::number_cell;
 use crate::print::text;
-use crate::wording::item;
+use crate::wording::item_name;
 use crate::wording::name_at;
 use crate::wording::words;
+use fronts::front_bytes;
+use item_lines::rows::put_item;
 use libc::STDOUT_FILENO;
-use report::kinds::put_kind;
 use tables::Row;
 use tables::rows::row_at;
 
@@ -20,27 +18,24 @@ const NAME: usize = 18;
 
 const ROWS: usize = 64;
 
-fn kind_cell(kind: u32) {
-    let mut line = [0u8; 32];
-    let end = put_kind(&mut line, 0, kind);
-    cell(STDOUT_FILENO, front_bytes(&line, end), 25);
-}
+// A name of 30 bytes and columns.
+const LINE: usize = 128;
+
+// A literal of 256 quotes.
+const VALUE: usize = 520;
 
 fn row_line(description: &[u8], places: &[u32], v: usize, row: Row) {
-    number_cell(STDOUT_FILENO, v, 5);
-    item(STDOUT_FILENO, description, places, v, 32);
-    kind_cell(row.kind);
-    number_cell(STDOUT_FILENO, row.offset as usize, 8);
-    number_cell(STDOUT_FILENO, row.size as usize, 7);
-    number_cell(STDOUT_FILENO, row.digits as usize, 8);
-    number_cell(STDOUT_FILENO, row.scale as usize, 0);
-    text(STDOUT_FILENO, b"\n");
+    let mut line = [0u8; LINE];
+    let end = put_item(&mut line, 0, v, item_name(description, places, v), row);
+    text(STDOUT_FILENO, front_bytes(&line, end));
 }
 
 fn literal(description: &[u8], literals: &[u32], bytes: &[u8], row: u32) {
     if row < LITERAL {
         let token = [LITERAL + row];
-        words(STDOUT_FILENO, description, literals, bytes, &token, 0);
+        let mut value = [0u8; VALUE];
+        let n = words(description, literals, bytes, &token, &mut value);
+        text(STDOUT_FILENO, front_bytes(&value, n));
     }
 }
 
@@ -89,7 +84,7 @@ fn names_from(names: &[u32], k: usize) -> &[u32] {
 
 fn name_line(description: &[u8], place: usize, name: &[u32], literals: &[u32], bytes: &[u8]) {
     text(STDOUT_FILENO, b"       88 ");
-    cell(STDOUT_FILENO, name_at(description, place), 0);
+    text(STDOUT_FILENO, name_at(description, place));
     text(STDOUT_FILENO, b" VALUE");
     values(description, literals, bytes, name);
     text(STDOUT_FILENO, b"\n");
@@ -147,7 +142,7 @@ fn row_lines(
     }
 }
 
-pub fn list_items(
+pub(crate) fn list_items(
     description: &[u8],
     items: &[u32],
     places: &[u32],

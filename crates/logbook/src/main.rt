@@ -14,13 +14,14 @@ mod show_rule; // rule
 mod sweep_file; // sweep
 mod verdicts; // where a rule stops
 
+use books::Recognized;
 use conditions::calls::plan;
-use descriptions::Described;
+use describing::Described;
 use descriptions::calls::describe;
 use files::Loaded;
-use files::front;
-use files::front_bytes;
 use files::load;
+use fronts::front;
+use fronts::front_bytes;
 use items::parts::same_bytes;
 use judge_record::judge_record;
 use libc::STDERR_FILENO;
@@ -37,7 +38,6 @@ use refusals::sentence;
 use show_rule::show_rule;
 use sweep_file::sweep_file;
 use tables::Written;
-use texts::Recognized;
 use texts::calls::read;
 
 // A description has at most 4,096 bytes; one byte more tells that a file is longer.
@@ -173,7 +173,16 @@ fn planned(
     plan: &[u32],
 ) -> u32 {
     match command {
-        Command::Rule => show_rule(description, items, names, literals, bytes, tokens, plan),
+        Command::Rule => show_rule(
+            description,
+            items,
+            places,
+            names,
+            literals,
+            bytes,
+            tokens,
+            plan,
+        ),
         Command::Judge => {
             let given = given_switches();
             match given {
@@ -202,6 +211,8 @@ fn with_tokens(
     items: &[u32],
     places: &[u32],
     names: &[u32],
+    name_places: &[u32],
+    rule: &[u8],
     literals: &[u32],
     bytes: &[u8],
     tokens: &[u32],
@@ -221,7 +232,7 @@ fn with_tokens(
             front(&numbers, n),
         ),
         Written::Refused(refusal) => {
-            of_rule(refusal, description, literals, bytes, tokens);
+            of_rule(refusal, description, places, name_places, rule, tokens);
             2
         }
     }
@@ -234,6 +245,7 @@ fn with_rule(
     items: &[u32],
     places: &[u32],
     names: &[u32],
+    name_places: &[u32],
     rule: &[u8],
 ) -> u32 {
     let mut tokens = [0u32; TOKENS];
@@ -248,6 +260,8 @@ fn with_rule(
                 items,
                 places,
                 names,
+                name_places,
+                rule,
                 front(&literals, l),
                 front_bytes(&bytes, b),
                 front(&tokens, t),
@@ -268,6 +282,7 @@ fn load_rule(
     items: &[u32],
     places: &[u32],
     names: &[u32],
+    name_places: &[u32],
 ) -> u32 {
     let mut rule = [0u8; RULE];
     let loaded = load(3, &mut rule);
@@ -279,6 +294,7 @@ fn load_rule(
             items,
             places,
             names,
+            name_places,
             front_bytes(&rule, n),
         ),
     }
@@ -307,7 +323,7 @@ fn described(
         ),
         Command::Differ => list_differences(description, items, places),
         Command::Mend => mend_record(description, items, places),
-        _ => load_rule(command, description, items, places, names),
+        _ => load_rule(command, description, items, places, names, name_places),
     }
 }
 

@@ -2,13 +2,13 @@
 use crate::changes::change;
 use crate::changes::part;
 use crate::files::Loaded;
-use crate::files::front_bytes;
 use crate::files::is_free;
 use crate::files::load;
 use crate::files::save;
 use crate::print::argument;
 use crate::print::text;
 use crate::refusals::of_record;
+use fronts::front_bytes;
 use items::parts::same_bytes;
 use libc::STDOUT_FILENO;
 use mender::calls::mend;
@@ -90,7 +90,7 @@ fn mend_copy(description: &[u8], items: &[u32], places: &[u32], old: &[u8]) -> u
     2
 }
 
-pub fn mend_record(description: &[u8], items: &[u32], places: &[u32]) -> u32 {
+pub(crate) fn mend_record(description: &[u8], items: &[u32], places: &[u32]) -> u32 {
     if !is_free(4) {
         return 2;
     }

@@ -2,18 +2,17 @@
 use crate::changes::change;
 use crate::changes::part;
 use crate::files::Loaded;
-use crate::files::front;
-use crate::files::front_bytes;
 use crate::files::is_free;
 use crate::files::load;
 use crate::files::save;
 use crate::files::wide;
 use crate::judge_record::refused;
-use crate::print::argument;
-use crate::print::number;
 use crate::print::text;
 use crate::refusals::of_record;
 use conditions::calls::run;
+use fronts::front;
+use fronts::front_bytes;
+use item_lines::changes::put_merged;
 use items::parts::same_bytes;
 use libc::STDOUT_FILENO;
 use merger::calls::merge;
@@ -27,6 +26,9 @@ use tables::rows::row_at;
 const RECORD: usize = 131072;
 
 const ROWS: usize = 64;
+
+// A file's name and what is said around it.
+const LINE: usize = 4224;
 
 // Whether a row is in the list.
 fn is_listed(list: &[u32], v: usize) -> bool {
@@ -185,16 +187,20 @@ fn reason<'a>(
     }
 }
 
+fn merged_line(file: &[u8], contested: usize) {
+    let mut line = [0u8; LINE];
+    let end = put_merged(&mut line, 0, file, contested);
+    text(STDOUT_FILENO, front_bytes(&line, end));
+}
+
 // The last line, and the status: 1 where something is contested.
 fn outcome(merged: &[u8], contested: usize) -> u32 {
     if !save(7, merged) {
         return 2;
     }
-    text(STDOUT_FILENO, b"merged to ");
-    argument(STDOUT_FILENO, 7);
-    text(STDOUT_FILENO, b", contested items: ");
-    number(STDOUT_FILENO, contested);
-    text(STDOUT_FILENO, b"\n");
+    let mut name = io::buffer();
+    let n = os::arg(7, &mut name);
+    merged_line(front_bytes(&name, n), contested);
     if contested == 0 {
         return 0;
     }
@@ -347,7 +353,7 @@ fn with_first<'a>(
     }
 }
 
-pub fn merge_copies(
+pub(crate) fn merge_copies(
     description: &[u8],
     items: &[u32],
     places: &[u32],

@@ -1,14 +1,15 @@
 // A refusal as sentences on standard error.
 use crate::files::back_bytes;
-use crate::files::front;
-use crate::files::front_bytes;
 use crate::print::argument;
-use crate::print::number;
 use crate::print::text;
-use crate::wording::item;
-use crate::wording::words;
+use crate::wording::item_name;
+use fronts::front;
+use fronts::front_bytes;
 use libc::STDERR_FILENO;
 use lines::text::put;
+use positions::refusals::refusal_place;
+use refusal_numbers::number_of;
+use refusal_numbers::place_of;
 use report::messages::put_caret;
 use report::messages::put_refusal;
 use report::messages::put_spot;
@@ -16,20 +17,21 @@ use report::places::line_number;
 use report::places::line_rest;
 use report::places::line_start;
 use tables::Refusal;
-use tables::refusals::number_of;
-use tables::refusals::place_of;
 
 // A line of a text, and a caret as far on in the next.
 const LINE: usize = 8400;
 
+// As many names as a description may have.
+const NAMES: usize = 128;
+
 // A refusal's number and what it means, after a word.
-pub fn numbered(to: i32, word: &[u8], refused: u32) {
+pub(crate) fn numbered(to: i32, word: &[u8], refused: u32) {
     let mut line = [0u8; LINE];
     let end = put_refusal(&mut line, 0, word, refused);
     text(to, front_bytes(&line, end));
 }
 
-pub fn sentence(refused: u32) {
+pub(crate) fn sentence(refused: u32) {
     numbered(STDERR_FILENO, b"refused: ", refused);
 }
 
@@ -51,7 +53,7 @@ fn spot(before: &[u8], begun: &[u8]) {
 }
 
 // A refusal of a text, which argument i names, at a place of it.
-pub fn in_text(refused: u32, i: usize, content: &[u8], place: usize) {
+pub(crate) fn in_text(refused: u32, i: usize, content: &[u8], place: usize) {
     let before = front_bytes(content, place);
     let begun = back_bytes(before, line_start(before));
     sentence(refused);
@@ -63,12 +65,12 @@ pub fn in_text(refused: u32, i: usize, content: &[u8], place: usize) {
 // The item of a refused row.
 fn item_line(description: &[u8], places: &[u32], v: usize) {
     text(STDERR_FILENO, b"item ");
-    item(STDERR_FILENO, description, places, v, 0);
+    text(STDERR_FILENO, item_name(description, places, v));
     text(STDERR_FILENO, b"\n");
 }
 
 // A refusal of a record, whose place is the row of an item, or of the copies as a whole.
-pub fn of_record(refusal: Refusal, description: &[u8], places: &[u32]) {
+pub(crate) fn of_record(refusal: Refusal, description: &[u8], places: &[u32]) {
     let refused = number_of(refusal);
     sentence(refused);
     if (refused == 2) | (refused == 12) | (refused == 19) {
@@ -76,34 +78,75 @@ pub fn of_record(refusal: Refusal, description: &[u8], places: &[u32]) {
     }
 }
 
-// The words of a rule before the one that can't follow.
-fn words_before(description: &[u8], literals: &[u32], bytes: &[u8], tokens: &[u32]) {
-    text(STDERR_FILENO, b"after: ");
-    words(STDERR_FILENO, description, literals, bytes, tokens, 0);
-    text(STDERR_FILENO, b"\n");
+// Numbers from a place on, as far as there is room; and the place after them.
+fn put_numbers(out: &mut [u32; NAMES], at: usize, numbers: &[u32]) -> usize {
+    if at > NAMES {
+        return at;
+    }
+    let room = NAMES - at;
+    let mut i: usize = 0;
+    while (i < numbers.len()) & (i < room) {
+        out[at + i] = numbers[i];
+        i += 1;
+    }
+    at + i
 }
 
-fn condition_line(n: usize) {
-    text(STDERR_FILENO, b"condition ");
-    number(STDERR_FILENO, n);
-    text(STDERR_FILENO, b", counted from 0\n");
-}
-
-// A refusal of a rule whose words are known.
-pub fn of_rule(
+// A refusal of a rule whose words are known, at the word that it means. Names are at these places of the description, the items' first.
+fn at_word(
     refusal: Refusal,
     description: &[u8],
-    literals: &[u32],
-    bytes: &[u8],
+    places: &[u32],
+    items: usize,
+    rule: &[u8],
     tokens: &[u32],
 ) {
     let refused = number_of(refusal);
-    let place = place_of(refusal);
-    sentence(refused);
-    if (refused == 7) | (refused == 8) {
-        words_before(description, literals, bytes, front(tokens, place));
+    if (refused < 6) | (refused > 9) | (places.len() > NAMES) | (items > places.len()) {
+        return sentence(refused);
     }
-    if refused == 9 {
-        condition_line(place);
-    }
+    let place = refusal_place(
+        description,
+        places,
+        items,
+        rule,
+        tokens,
+        refused,
+        place_of(refusal),
+    );
+    in_text(refused, 3, rule, place);
+}
+
+// The first `count` of these places.
+fn with_places(
+    refusal: Refusal,
+    description: &[u8],
+    places: &[u32; NAMES],
+    count: usize,
+    items: usize,
+    rule: &[u8],
+    tokens: &[u32],
+) {
+    at_word(
+        refusal,
+        description,
+        front(places, count),
+        items,
+        rule,
+        tokens,
+    );
+}
+
+pub(crate) fn of_rule(
+    refusal: Refusal,
+    description: &[u8],
+    places: &[u32],
+    name_places: &[u32],
+    rule: &[u8],
+    tokens: &[u32],
+) {
+    let mut every = [0u32; NAMES];
+    let items = put_numbers(&mut every, 0, places);
+    let count = put_numbers(&mut every, items, name_places);
+    with_places(refusal, description, &every, count, items, rule, tokens);
 }

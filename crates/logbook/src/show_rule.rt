@@ -1,25 +1,33 @@
-// rule: the rule as read, in full, and as a plan.
-use crate::files::front;
-use crate::files::front_bytes;
-use crate::print::number;
-use crate::print::number_cell;
+// rule: the rule as read, in full, as a plan, and the items that it may look at.
+use crate::files::wide;
 use crate::print::text;
-use crate::refusals::of_rule;
 use crate::refusals::sentence;
 use crate::verdicts::condition;
+use crate::wording::item_name;
+use books::Printed;
 use conditions::calls::expand;
+use fronts::front;
+use fronts::front_bytes;
 use grammar::PlanRow;
+use item_lines::plans::put_plan_row;
 use libc::STDOUT_FILENO;
-use plans::Target;
-use plans::checks::plan_row;
+use looks::calls::named_items;
+use plan_checks::plan_row;
+use refusal_numbers::number_of;
 use tables::Written;
-use texts::Printed;
 use texts::calls::print;
 
 // Words enough for 634 tokens, unless they repeat the longest literals.
 const WORDS: usize = 131072;
 
 const EXPANDED: usize = 634;
+
+// The words of one row, and its line.
+const ROW_WORDS: usize = 2048;
+
+const LINE: usize = 2304;
+
+const ROWS: usize = 64;
 
 // Tokens as a line of words.
 fn line(description: &[u8], literals: &[u32], bytes: &[u8], tokens: &[u32]) {
@@ -45,30 +53,20 @@ fn in_full(
     let expanded = expand(items, literals, bytes, names, tokens, &mut full);
     match expanded {
         Written::Count(n) => line(description, literals, bytes, front(&full, n)),
-        Written::Refused(refusal) => of_rule(refusal, description, literals, bytes, tokens),
+        Written::Refused(refusal) => sentence(number_of(refusal)),
     }
 }
 
-fn target(to: u32) {
-    if to == Target::TRUE {
-        return text(STDOUT_FILENO, b"TRUE");
-    }
-    if to == Target::FALSE {
-        return text(STDOUT_FILENO, b"FALSE");
-    }
-    text(STDOUT_FILENO, b"row ");
-    number(STDOUT_FILENO, to as usize);
+fn arrows(k: usize, words: &[u8], holds: u32, fails: u32) {
+    let mut line = [0u8; LINE];
+    let end = put_plan_row(&mut line, 0, k, words, holds, fails);
+    text(STDOUT_FILENO, front_bytes(&line, end));
 }
 
 fn row_line(description: &[u8], literals: &[u32], bytes: &[u8], k: usize, row: PlanRow) {
-    text(STDOUT_FILENO, b"row ");
-    number_cell(STDOUT_FILENO, k, 5);
-    condition(description, literals, bytes, row, 40);
-    text(STDOUT_FILENO, b" true -> ");
-    target(row.holds);
-    text(STDOUT_FILENO, b", false -> ");
-    target(row.fails);
-    text(STDOUT_FILENO, b"\n");
+    let mut words = [0u8; ROW_WORDS];
+    let n = condition(description, literals, bytes, row, &mut words);
+    arrows(k, front_bytes(&words, n), row.holds, row.fails);
 }
 
 fn plan_lines(description: &[u8], literals: &[u32], bytes: &[u8], plan: &[u32]) {
@@ -80,9 +78,50 @@ fn plan_lines(description: &[u8], literals: &[u32], bytes: &[u8], plan: &[u32]) 
     }
 }
 
-pub fn show_rule(
+fn name_line(description: &[u8], places: &[u32], v: usize) {
+    text(STDOUT_FILENO, item_name(description, places, v));
+    text(STDOUT_FILENO, b"\n");
+}
+
+// A line for each of these items.
+fn name_lines(description: &[u8], places: &[u32], rows: &[u32]) {
+    let mut i: usize = 0;
+    while i < rows.len() {
+        name_line(description, places, wide(rows[i]));
+        i += 1;
+    }
+}
+
+fn looks(description: &[u8], places: &[u32], rows: &[u32]) {
+    if rows.len() == 0 {
+        return text(STDOUT_FILENO, b"It looks at no item.\n");
+    }
+    text(STDOUT_FILENO, b"It may look at:\n");
+    name_lines(description, places, rows);
+}
+
+// Every item that the rule names, looked at or not.
+fn named(
     description: &[u8],
     items: &[u32],
+    places: &[u32],
+    names: &[u32],
+    literals: &[u32],
+    bytes: &[u8],
+    tokens: &[u32],
+) {
+    let mut rows = [0u32; ROWS];
+    let listed = named_items(items, literals, bytes, names, tokens, &mut rows);
+    match listed {
+        Written::Count(n) => looks(description, places, front(&rows, n)),
+        Written::Refused(refusal) => sentence(number_of(refusal)),
+    }
+}
+
+pub(crate) fn show_rule(
+    description: &[u8],
+    items: &[u32],
+    places: &[u32],
     names: &[u32],
     literals: &[u32],
     bytes: &[u8],
@@ -95,5 +134,6 @@ pub fn show_rule(
     in_full(description, items, names, literals, bytes, tokens);
     text(STDOUT_FILENO, b"Its plan:\n");
     plan_lines(description, literals, bytes, plan);
+    named(description, items, places, names, literals, bytes, tokens);
     0
 }

@@ -1,7 +1,5 @@
 // sweep: one rule over a file of entries of the description's length, read in parts that are whole entries.
 ghost use Prim.Native.Nat.{_≤_};
-use crate::files::front;
-use crate::files::front_bytes;
 use crate::files::open;
 use crate::files::wide;
 use crate::print::complaint;
@@ -10,13 +8,17 @@ use crate::print::text;
 use crate::refusals::of_record;
 use crate::refusals::sentence;
 use crate::verdicts::stop;
+use fronts::front;
+use fronts::front_bytes;
 use libc::STDERR_FILENO;
 use libc::STDOUT_FILENO;
 use std::num::wrapping_add_usize;
 use std::num::wrapping_sub_usize;
-use sweeper::Swept;
 use sweeper::calls::sweep;
+use sweeps::Swept;
 use tables::rows::row_at;
+use verdict_lines::entries::put_entry;
+use verdict_lines::entries::put_totals;
 
 // The bytes that are read at once: no entry has more than 131,070.
 const PART: usize = 131072;
@@ -31,6 +33,9 @@ const PARTS: usize = 1048576;
 
 // After so many parts, 8 MiB, a line tells how far it has come.
 const OFTEN: usize = 64;
+
+// Four numbers and what is said around them.
+const LINE: usize = 128;
 
 // How many entries there were so far, and of what kind; whether something was refused, and whether the file has ended.
 pub struct Totals {
@@ -106,9 +111,9 @@ fn entry_from(records: &[u8], from: usize, size: usize) -> &[u8] {
 }
 
 fn entry_number(n: usize) {
-    text(STDOUT_FILENO, b"entry ");
-    number(STDOUT_FILENO, n);
-    text(STDOUT_FILENO, b": ");
+    let mut line = [0u8; LINE];
+    let end = put_entry(&mut line, 0, n);
+    text(STDOUT_FILENO, front_bytes(&line, end));
 }
 
 fn one_more_if(n: usize, counts: bool) -> usize {
@@ -399,17 +404,22 @@ fn none() -> Totals {
     }
 }
 
-fn total(n: usize, what: &[u8]) {
-    number(STDOUT_FILENO, n);
-    text(STDOUT_FILENO, what);
+fn totals_line(totals: Totals) {
+    let mut line = [0u8; LINE];
+    let end = put_totals(
+        &mut line,
+        0,
+        totals.entries,
+        totals.held,
+        totals.failed,
+        totals.stopped,
+    );
+    text(STDOUT_FILENO, front_bytes(&line, end));
 }
 
 // The last line, and the status: 2 where an entry stops or the file is refused, 1 where an entry is false.
 fn outcome(totals: Totals) -> u32 {
-    total(totals.entries, b" entries: ");
-    total(totals.held, b" true, ");
-    total(totals.failed, b" false, ");
-    total(totals.stopped, b" stopped\n");
+    totals_line(totals);
     if (totals.stopped > 0) | totals.refused {
         return 2;
     }
@@ -419,7 +429,7 @@ fn outcome(totals: Totals) -> u32 {
     0
 }
 
-pub fn sweep_file(
+pub(crate) fn sweep_file(
     description: &[u8],
     items: &[u32],
     places: &[u32],

@@ -1,19 +1,27 @@
 // What a rule says of a record: its verdict, or where it stops and on what.
-use crate::files::front;
-use crate::print::hex;
-use crate::print::number;
 use crate::print::text;
-use crate::wording::item;
+use crate::wording::item_name;
 use crate::wording::item_with;
 use crate::wording::words;
+use fronts::front;
+use fronts::front_bytes;
 use grammar::PlanRow;
 use libc::STDOUT_FILENO;
-use plans::checks::plan_row;
+use plan_checks::plan_row;
+use verdict_lines::verdicts::put_judged;
+use verdict_lines::verdicts::put_stop;
+use verdict_lines::verdicts::put_verdict;
 
 // A word's token is this and the word's number.
 const WORD: u32 = 262144;
 
 const NOT: u32 = WORD + 2;
+
+// No condition has more bytes of words: two literals of 256 quotes each, NOT and a relation.
+const WORDS: usize = 2048;
+
+// With an item's name and what is said around them.
+const LINES: usize = 2304;
 
 // Whether a relation has an object: class and sign words, from 10 on, have none.
 fn has_object(relation: u32) -> bool {
@@ -44,52 +52,61 @@ fn row_tokens(row: PlanRow, tokens: &mut [u32; 4]) -> usize {
     3
 }
 
-// The first tokens of four, in a column.
+// The first tokens of four, in words.
 fn first_words(
     description: &[u8],
     literals: &[u32],
     bytes: &[u8],
     tokens: &[u32; 4],
     n: usize,
-    width: usize,
-) {
-    words(
-        STDOUT_FILENO,
-        description,
-        literals,
-        bytes,
-        front(tokens, n),
-        width,
-    );
+    out: &mut [u8],
+) -> usize {
+    words(description, literals, bytes, front(tokens, n), out)
 }
 
-// A row's condition in words.
-pub fn condition(description: &[u8], literals: &[u32], bytes: &[u8], row: PlanRow, width: usize) {
+// A row's condition in words; how many bytes they have.
+pub(crate) fn condition(
+    description: &[u8],
+    literals: &[u32],
+    bytes: &[u8],
+    row: PlanRow,
+    out: &mut [u8],
+) -> usize {
     let mut tokens = [0u32; 4];
     let n = row_tokens(row, &mut tokens);
-    first_words(description, literals, bytes, &tokens, n, width);
+    first_words(description, literals, bytes, &tokens, n, out)
 }
 
-// The condition in row k of a plan.
-fn condition_at(description: &[u8], literals: &[u32], bytes: &[u8], plan: &[u32], k: usize) {
+// The condition in row k of a plan; nothing where there is no such row.
+fn condition_at(
+    description: &[u8],
+    literals: &[u32],
+    bytes: &[u8],
+    plan: &[u32],
+    k: usize,
+    out: &mut [u8],
+) -> usize {
     if k < plan.len() / 5 {
-        condition(description, literals, bytes, plan_row(plan, k), 0);
+        return condition(description, literals, bytes, plan_row(plan, k), out);
     }
+    0
 }
 
-// What stands at a byte of the record.
-fn byte_line(record: &[u8], byte: usize) {
-    text(STDOUT_FILENO, b", byte ");
-    number(STDOUT_FILENO, byte);
+fn stop_lines(condition: &[u8], item: &[u8], byte: usize, held: u8) {
+    let mut lines = [0u8; LINES];
+    let end = put_stop(&mut lines, 0, condition, item, byte, held);
+    text(STDOUT_FILENO, front_bytes(&lines, end));
+}
+
+// At a byte that lies in the record: the calls stop at no other.
+fn stop_at(condition: &[u8], item: &[u8], record: &[u8], byte: usize) {
     if byte < record.len() {
-        text(STDOUT_FILENO, b" of the record, which holds hex ");
-        hex(STDOUT_FILENO, record[byte]);
+        stop_lines(condition, item, byte, record[byte]);
     }
-    text(STDOUT_FILENO, b"\n");
 }
 
 // Where a rule stops: the condition, the item and the byte.
-pub fn stop(
+pub(crate) fn stop(
     description: &[u8],
     items: &[u32],
     places: &[u32],
@@ -100,15 +117,21 @@ pub fn stop(
     at: usize,
     byte: usize,
 ) {
-    text(STDOUT_FILENO, b"the rule stops at: ");
-    condition_at(description, literals, bytes, plan, at);
-    text(STDOUT_FILENO, b"\nat ");
-    item(
-        STDOUT_FILENO,
-        description,
-        places,
-        item_with(items, byte),
-        0,
-    );
-    byte_line(record, byte);
+    let mut asked = [0u8; WORDS];
+    let n = condition_at(description, literals, bytes, plan, at, &mut asked);
+    let item = item_name(description, places, item_with(items, byte));
+    stop_at(front_bytes(&asked, n), item, record, byte);
+}
+
+// The verdict, and how many conditions were judged.
+pub(crate) fn verdict(truth: bool, count: usize) {
+    let mut lines = [0u8; LINES];
+    let end = put_verdict(&mut lines, 0, truth, count);
+    text(STDOUT_FILENO, front_bytes(&lines, end));
+}
+
+pub(crate) fn judged(count: usize) {
+    let mut line = [0u8; LINES];
+    let end = put_judged(&mut line, 0, count);
+    text(STDOUT_FILENO, front_bytes(&line, end));
 }

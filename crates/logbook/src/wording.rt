@@ -1,15 +1,11 @@
 // Items by their names, and conditions by their words.
-use crate::files::front_bytes;
 use crate::files::wide;
-use crate::print::cell;
+use books::Printed;
+use fronts::front_bytes;
 use tables::Row;
 use tables::rows::is_group;
 use tables::rows::row_at;
-use texts::Printed;
 use texts::calls::print;
-
-// No row of a plan has more bytes of words: two literals of 256 quotes each, NOT and a relation.
-const WORDS: usize = 2048;
 
 // Whether a name ends before this byte.
 fn ends_name(byte: u8) -> bool {
@@ -29,7 +25,7 @@ fn first_word(rest: &[u8]) -> &[u8] {
 }
 
 // The name that stands at a place of a description.
-pub fn name_at(description: &[u8], place: usize) -> &[u8] {
+pub(crate) fn name_at(description: &[u8], place: usize) -> &[u8] {
     if place < description.len() {
         return first_word(&description[place..]);
     }
@@ -44,25 +40,23 @@ fn place_of_row(description: &[u8], places: &[u32], v: usize) -> usize {
     description.len()
 }
 
-// The name of row v in a column.
-pub fn item(to: i32, description: &[u8], places: &[u32], v: usize, width: usize) {
-    let place = place_of_row(description, places, v);
-    cell(to, name_at(description, place), width);
+// The name of row v.
+pub(crate) fn item_name<'a>(description: &'a [u8], places: &[u32], v: usize) -> &'a [u8] {
+    name_at(description, place_of_row(description, places, v))
 }
 
-// Tokens as words; nothing where they can't be printed.
-pub fn words(
-    to: i32,
+// Tokens as words, and how many bytes they have; none where they can't be printed.
+pub(crate) fn words(
     description: &[u8],
     literals: &[u32],
     bytes: &[u8],
     tokens: &[u32],
-    width: usize,
-) {
-    let mut line = [0u8; WORDS];
-    let printed = print(description, literals, bytes, tokens, &mut line);
-    if let Printed::Count(n) = printed {
-        cell(to, front_bytes(&line, n), width);
+    out: &mut [u8],
+) -> usize {
+    let printed = print(description, literals, bytes, tokens, out);
+    match printed {
+        Printed::Count(n) => n,
+        _ => 0,
     }
 }
 
@@ -76,7 +70,7 @@ fn holds(row: Row, byte: usize) -> bool {
 }
 
 // The elementary item that has a byte of the record, of at most 64; 64 where none has it.
-pub fn item_with(items: &[u32], byte: usize) -> usize {
+pub(crate) fn item_with(items: &[u32], byte: usize) -> usize {
     let count = items.len() / 5;
     if 64 < count {
         return 64;

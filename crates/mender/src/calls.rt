@@ -13,7 +13,7 @@ use crate::rows::row_end;
 use checks::lent::check_record;
 use items::lines::check_items;
 use items::lines::check_room;
-use items::overlap::check_overlap;
+use overlaps::check_overlap;
 use tables::Check;
 use tables::Written;
 use tables::rows::row_at;

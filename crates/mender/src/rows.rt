@@ -9,8 +9,8 @@ ghost use Rattle.tables.specs.Rows.{rowAt, rowCount};
 ghost use Rattle.items.specs.Items.{isElementary, replaced};
 ghost use Rattle.mender.specs.Walks.{Next, Lying, mendedPart, rowChanges};
 use items::parts::put_part;
-use meters::fields::is_zoned;
-use meters::fields::mended_into;
+use meters::kinds::is_zoned;
+use meters::kinds::mended_into;
 use meters::listing::count_changes;
 use meters::listing::list_changes;
 use tables::Row;
@@ -32,7 +32,7 @@ fn starts_between(row: Row, from: usize, before: usize) -> bool
 }
 
 // The elementary row that starts next.
-pub fn next_row(items: &[u32], at: usize) -> usize
+pub(crate) fn next_row(items: &[u32], at: usize) -> usize
     requires { ⌜ ((v : ℕ) → v < rowCount (now items) → rowAt (now items) v .offset ≤ 65535) ⌝ }
     ensures { λ r. ⌜ Next (now (items .entry)) at r ⌝ }
 {
@@ -51,14 +51,14 @@ pub fn next_row(items: &[u32], at: usize) -> usize
     best
 }
 
-pub fn row_end(row: Row) -> usize
+pub(crate) fn row_end(row: Row) -> usize
     ensures { λ r. ⌜ r ≡ row .offset + row .size ⌝ }
 {
     long(row.offset) + long(row.size)
 }
 
 // How many numbers the mending of a row adds to the list.
-pub fn count_row(row: Row, record: &[u8]) -> usize
+pub(crate) fn count_row(row: Row, record: &[u8]) -> usize
     requires { ⌜ Lying row (now «record») ⌝ }
     ensures { λ r. ⌜ r ≡ length (rowChanges row (now («record» .entry))) ⌝ }
 {
@@ -74,7 +74,7 @@ pub fn count_row(row: Row, record: &[u8]) -> usize
 }
 
 // One row mended: its changes at the start of the list, and its part of the record; and how many numbers were listed.
-pub fn mend_row(row: Row, record: &mut [u8], list: &mut [u32]) -> usize
+pub(crate) fn mend_row(row: Row, record: &mut [u8], list: &mut [u32]) -> usize
     requires { ⌜ Lying row (now «record») × (length (rowChanges row (now «record»)) ≤ length (now list)) ⌝ }
     ensures { λ r. ⌜ r ≡ length (rowChanges row (now («record» .entry))) ⌝ }
     ensures { λ r. ⌜ now (list .exit) ≡ rowChanges row (now («record» .entry)) ++ drop r (now (list .entry)) ⌝ }

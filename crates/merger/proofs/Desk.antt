@@ -29,7 +29,8 @@ use Rattle.merging.specs.Merge.{Copies, copiesOf, apartAt, apartRows, contested
 use Rattle.merging.proofs.Rows.{entryOf, rows-all}
 use Rattle.merging.proofs.Accepted.{desk-fine}
 use Rattle.merging.proofs.Exchanging.{any-verdict}
-use Rattle.merger.specs.Ready.{Ready, contestedCount, Decides, roomsFor, Leaves}
+use Rattle.copies.specs.Ready.{Ready}
+use Rattle.merger.specs.Desk.{contestedCount, Decides, roomsFor, Leaves}
 
 -- the lines in order
 module _ (items literals bytes names plan old first second : List ℕ) where

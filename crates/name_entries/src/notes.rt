@@ -8,7 +8,7 @@ ghost use lib.Seq.{sets};
 ghost use Rattle.name_entries.specs.Taking.{noteNumbers};
 use tables::Row;
 
-pub fn put_literal(notes: &mut [u32], i: usize, row: Row, offset: usize, p: usize, e: usize)
+pub(crate) fn put_literal(notes: &mut [u32], i: usize, row: Row, offset: usize, p: usize, e: usize)
     requires { ⌜ (i * 7 + 6 < length (now notes)) × ((offset ≤ 65535) × ((p ≤ 4096) × (e ≤ 4096))) ⌝ }
     ensures { λ _. ⌜ now (notes .exit) ≡ sets (now (notes .entry)) (i * 7) (noteNumbers row offset p e) ⌝ }
 {
@@ -22,7 +22,7 @@ pub fn put_literal(notes: &mut [u32], i: usize, row: Row, offset: usize, p: usiz
     notes[at + 6] = e as u32;
 }
 
-pub fn put_pair(row: &mut [u32], i: usize, low: usize, high: usize)
+pub(crate) fn put_pair(row: &mut [u32], i: usize, low: usize, high: usize)
     requires { ⌜ (i * 2 + 3 < length (now row)) × ((low ≤ 65535) × (high ≤ 65535)) ⌝ }
     ensures { λ _. ⌜ now (row .exit) ≡ sets (now (row .entry)) (i * 2 + 2) (low ∷ high ∷ []) ⌝ }
 {
@@ -32,7 +32,7 @@ pub fn put_pair(row: &mut [u32], i: usize, low: usize, high: usize)
 }
 
 // A row of zeros.
-pub fn clear(row: &mut [u32])
+pub(crate) fn clear(row: &mut [u32])
     ensures { λ _. ⌜ now (row .exit) ≡ replicate (length (now (row .entry))) 0 ⌝ }
 {
     let mut i: usize = 0;

@@ -77,7 +77,7 @@ fn take_range(
     }
 }
 
-pub fn take_value(
+pub(crate) fn take_value(
     weighed: Weighed,
     found: Found,
     tally: Tally,

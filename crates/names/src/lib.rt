@@ -1,4 +1,3 @@
-// Condition-names: refusal 18, and what a name comes to on a record.
+// Condition-names: what a name comes to on a record. Its rows are checked in `name_tables`.
 
 pub mod ranges; // a name's truth
-pub mod table; // the rows of the name table

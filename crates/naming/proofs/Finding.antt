@@ -11,7 +11,7 @@ use lib.Dec.{eqb, ltb}
 use borrow.Author.Tests.{eq-eqb, ne-eqb, eqb-true, lt-ltb, le-ltb, not-true, not-false}
 use Rattle.description.specs.Grammar.{all, isNameByte, same}
 use Rattle.description.proofs.Bytes.{and-both}
-use Rattle.words.proofs.Laws.{same-lengths}
+use Rattle.keywords.proofs.Same.{same-lengths}
 use Rattle.spelling.specs.Names.{leading, namesAt, everyName}
 use Rattle.spelling.specs.Meanings.{count, position}
 use Rattle.spelling.proofs.Cutting.{same-true}

@@ -11,7 +11,7 @@ fn wide(x: u32) -> usize
 }
 
 // The text from a place on.
-pub fn rest_from(text: &[u8], place: u32) -> &[u8]
+pub(crate) fn rest_from(text: &[u8], place: u32) -> &[u8]
     ensures { λ r. ⌜ now r ≡ drop place (now (text .entry)) ⌝ }
 {
     let at = wide(place);

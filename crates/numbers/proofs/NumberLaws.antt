@@ -20,7 +20,7 @@ use Rattle.compare.specs.Order.{order, orderℤ}
 use Rattle.compare.specs.Compared.{scaledOrder}
 use Rattle.compare.proofs.OrderLaws.{order-lt, order-eq, order-gt}
 
-order-same : (a b x y : ℕ) → (x < y → a < b) → (x ≡ y → a ≡ b) → (y < x → b < a) → order a b ≡ order x y
+pub order-same : (a b x y : ℕ) → (x < y → a < b) → (x ≡ y → a ≡ b) → (y < x → b < a) → order a b ≡ order x y
 order-same a b x y f e g = go (decLt x y) (decLt y x)
   where
     go : Dec (x < y) → Dec (y < x) → order a b ≡ order x y

@@ -1,4 +1,3 @@
-// What a numeric field holds, and comparison by value.
+// What a numeric field holds. Comparison by value is `scaled`.
 
-pub mod fields; // sign and digits of a field
-pub mod scaled; // values at their scales
+pub mod reading; // sign and digits of a field

@@ -103,7 +103,7 @@ fn first(b: u8) -> Drew
 }
 
 // One byte of a picture.
-pub fn draw_byte(d: Drawn, b: u8) -> Drew
+pub(crate) fn draw_byte(d: Drawn, b: u8) -> Drew
     requires { ⌜ SmallDrawn d ⌝ }
     ensures { λ r. ⌜ r ≡ onDrawn d b ⌝ }
 {
@@ -149,7 +149,7 @@ fn letters_end(c: u8, n: u32, k: usize, period: bool) -> Pictured
 }
 
 // What a picture is that goes on to place k, with or without a period there.
-pub fn drawn_end(d: Drawn, k: usize, period: bool) -> Pictured
+pub(crate) fn drawn_end(d: Drawn, k: usize, period: bool) -> Pictured
     requires { ⌜ (SmallDrawn d) × (k ≤ 131072) ⌝ }
     ensures { λ r. ⌜ r ≡ drawnEnd d k period ⌝ }
 {

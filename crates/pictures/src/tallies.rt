@@ -14,7 +14,7 @@ fn wide(b: u8) -> u32
     b as u32
 }
 
-pub fn capped(n: u32) -> u32
+pub(crate) fn capped(n: u32) -> u32
     ensures { λ r. ⌜ r ≡ min n 131072 ⌝ }
 {
     if 131072 < n { 131072 } else { n }
@@ -88,7 +88,7 @@ fn counting(n: u32, v: u32, b: u8) -> Tallied
 }
 
 // One byte of a repeated character `c` and its counts.
-pub fn read_byte(c: u8, t: Tally, b: u8) -> Tallied
+pub(crate) fn read_byte(c: u8, t: Tally, b: u8) -> Tallied
     requires { ⌜ Small t ⌝ }
     ensures { λ r. ⌜ r ≡ onTally c t b ⌝ }
 {

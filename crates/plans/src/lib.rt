@@ -1,6 +1,5 @@
-// The rows of a plan: writing them, their targets, their typing and their soundness.
+// The rows of a plan: writing them, and their targets.
 
-pub mod checks; // typing, and soundness of a plan that was lent
 pub mod rows; // one more row, and where its verdicts lead
 pub mod targets; // later rows and verdicts
 

@@ -12,14 +12,14 @@ use crate::Prepared;
 use checks::lent::check_tables;
 use checks::tokens::check_token_count;
 use checks::tokens::check_tokens;
-use names::table::check_names;
+use name_tables::check_names;
 use parser::Parse;
 use parser::cycle::parse;
-use plans::checks::check_typing;
+use plan_checks::check_typing;
 use reader::depth::check_depth;
+use refusal_numbers::place_of;
 use tables::Check;
 use tables::Refusal;
-use tables::refusals::place_of;
 
 // 1 to 6, and 18 just after 4. `off`, here and below: the rules have the switch-off words.
 fn check_lent(

@@ -7,11 +7,11 @@ ghost use Rattle.naming.specs.Named.{Listed, knownAt};
 ghost use Rattle.spelling.specs.Names.{leading};
 ghost use Rattle.spelling.specs.Printing.{uniquely, hasName};
 ghost use Rattle.printable.specs.Passing.{mayPrint, passing, There, AllThere};
+use keywords::same_bytes;
 use naming::Called;
 use naming::names::row_named;
 use naming::parts::name_part;
 use tables::tokens::token_there;
-use words::keywords::same_bytes;
 
 // Whether there is such a token: an off switch is none.
 fn may_print(token: u32, items: usize, literals: usize, names: usize) -> bool

@@ -66,7 +66,7 @@ fn put_name(description: &[u8], place: u32, out: &mut [u8])
     copy_bytes(name, out);
 }
 
-pub fn token_size(
+pub(crate) fn token_size(
     description: &[u8],
     places: &[u32],
     items: usize,
@@ -94,7 +94,7 @@ pub fn token_size(
     word_size(v)
 }
 
-pub fn put_token(
+pub(crate) fn put_token(
     description: &[u8],
     places: &[u32],
     items: usize,

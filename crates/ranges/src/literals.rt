@@ -6,7 +6,7 @@ ghost use lib.ListN.{length};
 ghost use Rattle.description.specs.Stages.{isLiteral};
 ghost use Rattle.typing.specs.Typing.{fitsBeside, sideFits};
 ghost use Rattle.ranges.specs.Spelling.{literalOf, rowFound, heldRow};
-use content::packed::is_packed;
+use fields::packed::is_packed;
 use literal_words::Number;
 use literal_words::Text;
 use literal_words::numbers::read_number;

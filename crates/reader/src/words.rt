@@ -34,14 +34,14 @@ pub fn is_order(token: u32) -> bool
 }
 
 // >= <=
-pub fn is_bound(token: u32) -> bool
+pub(crate) fn is_bound(token: u32) -> bool
     ensures { λ r. ⌜ r ≡ within 262152 262153 token ⌝ }
 {
     (262152 <= token) & (token <= 262153)
 }
 
 // a class word or a sign word
-pub fn is_test(token: u32) -> bool
+pub(crate) fn is_test(token: u32) -> bool
     ensures { λ r. ⌜ r ≡ within 262154 262160 token ⌝ }
 {
     (262154 <= token) & (token <= 262160)

@@ -1,3 +1,2 @@
-pub mod Sentences
 pub mod Places
 pub mod Messages

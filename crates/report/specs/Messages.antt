@@ -3,7 +3,7 @@ use mathlib.Core.List.{List, [], _∷_, _++_}
 use Prim.Native.Nat.{ℕ}
 use Rattle.description.specs.Grammar.{bytes}
 use Rattle.lines.specs.Put.{Puts, Decimal}
-use Rattle.report.specs.Sentences.{sentence}
+use Rattle.wordings.specs.Sentences.{sentence}
 
 -- "a sentence a member understands, with its number": a word, the number, the sentence, a line feed
 pub record PutsRefusal (out : List ℕ) (at : ℕ) (word : List ℕ) (number end : ℕ) (after : List ℕ) : Type 0 where

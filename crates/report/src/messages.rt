@@ -3,10 +3,10 @@ ghost use mathlib.Core.List.{[], _∷_, _++_};
 ghost use lib.ListN.{replicate};
 ghost use Rattle.lines.specs.Put.{Puts};
 ghost use Rattle.report.specs.Messages.{PutsRefusal, PutsSpot};
-use crate::sentences::put_sentence;
 use lines::numbers::put_number;
 use lines::text::put;
 use lines::text::put_spaces;
+use wordings::sentences::put_sentence;
 
 // A word, the refusal's number and its sentence.
 pub fn put_refusal(out: &mut [u8], at: usize, word: &[u8], number: u32) -> usize

@@ -56,7 +56,7 @@ fn plain(description: &[u8], places: &[u32], items: usize, word: &[u8]) -> Sense
     vocable(word)
 }
 
-pub fn sense_of(description: &[u8], places: &[u32], items: usize, word: &[u8]) -> Sense
+pub(crate) fn sense_of(description: &[u8], places: &[u32], items: usize, word: &[u8]) -> Sense
     requires { ⌜ Listed items (now places) ⌝ }
     ensures { λ r. ⌜ r ≡ senseOf (meaning (knownAt (now (description .entry)) items (now (places .entry))) (now (word .entry))) ⌝ }
 {

@@ -24,7 +24,7 @@ fn sense_at(k: usize) -> Sense
     }
 }
 
-pub fn vocable(word: &[u8]) -> Sense
+pub(crate) fn vocable(word: &[u8]) -> Sense
     ensures { λ r. ⌜ r ≡ senseOf (lookup (now (word .entry)) (faulty 15) vocabulary) ⌝ }
 {
     sense_at(word_index(word))

@@ -51,7 +51,7 @@ fn run_length(bytes: &[u8]) -> usize
 }
 
 // The number of bytes of the word that begins with the first byte, which is no blank.
-pub fn word_length(bytes: &[u8]) -> usize
+pub(crate) fn word_length(bytes: &[u8]) -> usize
     ensures { λ r. ⌜ r ≡ wordLength (now (bytes .entry)) ⌝ }
 {
     let b = byte_at(bytes, 0);

@@ -5,8 +5,8 @@ ghost use lib.ListN.{length};
 ghost use Rattle.splitter.specs.Splits.{NextFrom, Past};
 use crate::Next;
 use crate::runs::word_length;
+use keywords::same_bytes;
 use words::bytes::is_blank;
-use words::keywords::same_bytes;
 
 // The next word from a place on: blanks are passed.
 pub fn next_word(text: &[u8], from: usize) -> Next

@@ -5,19 +5,17 @@ ghost use Prim.Native.Nat.{_*_, _/_};
 ghost use lib.ListN.{length, drop};
 ghost use Rattle.tables.specs.Operands.{lendNames};
 ghost use Rattle.tables.specs.Refusals.{firstOf};
-ghost use Rattle.sweeper.specs.Sweep.{evenly, ruleLines, sweptNumbers, sweepGives, Leaves, Sweepable};
-use crate::Swept;
-use crate::answers::put_answer;
+ghost use Rattle.sweeps.specs.Sweep.{evenly, ruleLines, sweptNumbers, sweepGives, Leaves, Sweepable};
 use checks::lent::check_record;
 use checks::lent::check_tables;
-use names::table::check_names;
-use plans::checks::check_plan;
-use runner::run_rows;
+use name_tables::check_names;
+use plan_checks::check_plan;
+use sweeps::Swept;
+use sweeps::parts::WIDTH;
+use sweeps::parts::part_records;
+use sweeps::parts::sweep_part;
 use tables::Check;
 use tables::Refusal;
-
-// The numbers of one record.
-const WIDTH: usize = 4;
 
 // As many records as an answer of C can count numbers for.
 const MOST: usize = 1073741823;
@@ -47,7 +45,7 @@ fn is_even(size: usize, bytes: usize) -> bool
     (bytes % size == 0) & (bytes / size <= MOST)
 }
 
-// Each record's four numbers, one record after another.
+// Each record's four numbers, one part of the file after another.
 fn sweep_records<'a>(
     items: &[u32],
     literals: &[u32],
@@ -64,14 +62,26 @@ fn sweep_records<'a>(
 {
     let mut left = records.len() / size;
     let mut from: usize = 0;
-    let mut at: usize = 0;
+    let mut out: usize = 0;
     while left > 0 {
-        let content = &records[from..from + size];
-        let judged = run_rows(items, literals, bytes, names, plan, content, switches);
-        put_answer(answers, at, judged);
-        left -= 1;
-        from += size;
-        at += WIDTH;
+        let n = part_records(from, left, size);
+        sweep_part(
+            items,
+            literals,
+            bytes,
+            names,
+            plan,
+            records,
+            from,
+            size,
+            n,
+            switches,
+            answers,
+            out,
+        );
+        left -= n;
+        from += n * size;
+        out += n * WIDTH;
     }
 }
 

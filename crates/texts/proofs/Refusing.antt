@@ -26,13 +26,13 @@ use Rattle.printer.proofs.Wording.{item-row, condition-there}
 use Rattle.printable.specs.Passing.{passing, mayPrint, AllThere}
 use Rattle.printer.specs.Prints.{Printable, AllPrintable}
 use Rattle.literal_words.specs.Found.{writtenOver}
-use Rattle.texts.specs.declared.Printed.{Printed}
-use Rattle.texts.specs.declared.Printed.the-variants.{Count, Description, Refused, Name}
-use Rattle.texts.specs.declared.Named.{Named}
-use Rattle.texts.specs.declared.Book.{Book}
-use Rattle.texts.specs.declared.Named.the-variants.{Given, Faulty}
-use Rattle.texts.specs.Calls.{unprintedAs, lineOut, PrintedAs, Sized, Prepared, NamesFound, NamedBy}
-use Rattle.texts.proofs.Giving.{book-found}
+use Rattle.books.specs.declared.Printed.{Printed}
+use Rattle.books.specs.declared.Printed.the-variants.{Count, Description, Refused, Name}
+use Rattle.books.specs.declared.Named.{Named}
+use Rattle.books.specs.declared.Book.{Book}
+use Rattle.books.specs.declared.Named.the-variants.{Given, Faulty}
+use Rattle.books.specs.Calls.{unprintedAs, lineOut, PrintedAs, Sized, Prepared, NamesFound, NamedBy}
+use Rattle.books.proofs.Giving.{book-found}
 
 one-more : (a b : ℕ) → ltb (suc a) (suc b) ≡ ltb a b
 one-more a b = by (ltb a b) refl

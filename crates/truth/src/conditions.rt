@@ -4,15 +4,15 @@ ghost use mathlib.Core.Bool.{true};
 ghost use Rattle.tables.specs.Rows.{isNumeric};
 ghost use Rattle.tables.specs.Operands.{lend, lendNames, rowOf};
 ghost use Rattle.values.specs.Comparison.{side, sideOf};
-ghost use Rattle.values.specs.Truth.{truth, turned, relationOutcome, classOutcome, signOutcome, outcome, Readable, Sided, Numeral};
+ghost use Rattle.values.specs.Truth.{truth, turned, relationOutcome, classOutcome, signOutcome, outcome, Readable, Fit, Sided, Numeral};
 use compare::classes::class_holds;
 use compare::orders::relation_holds;
 use compare::orders::sign_holds;
 use compare::switches::switch_on;
 use names::ranges::name_outcome;
-use numbers::fields::read_number;
-use numbers::scaled::compare_scaled;
-use numbers::scaled::compare_zero;
+use numbers::reading::read_number;
+use scaled::compare_scaled;
+use scaled::compare_zero;
 use tables::Outcome;
 use tables::Row;
 use tables::operands::operand_bytes;
@@ -26,7 +26,7 @@ use values::sides::is_faulty;
 use values::sides::stop_at;
 
 // True or false, exchanged where NOT belongs to the word.
-fn truth_value(negated: bool, holds: bool) -> Outcome
+pub fn truth_value(negated: bool, holds: bool) -> Outcome
     ensures { λ r. ⌜ r ≡ truth (turned negated holds) ⌝ }
 {
     if negated == holds {
@@ -68,6 +68,33 @@ fn value_outcome(
     truth_value(negated, relation_holds(word, order))
 }
 
+// A relation of two sides.
+pub fn sides_outcome(
+    item1: bool,
+    row1: Row,
+    left: &[u8],
+    item2: bool,
+    row2: Row,
+    right: &[u8],
+    word: u32,
+    negated: bool,
+) -> Outcome
+    requires { ⌜ Fit (side item1 row1 (now left)) × Fit (side item2 row2 (now right)) ⌝ }
+    ensures { λ r. ⌜ r ≡ relationOutcome word negated (side item1 row1 (now (left .entry))) (side item2 row2 (now (right .entry))) ⌝ }
+{
+    if is_numeric(row1) & is_numeric(row2) {
+        return value_outcome(item1, row1, left, item2, row2, right, word, negated);
+    }
+    if is_faulty(item1, row1, left, row2) {
+        return stop_at(row1, left);
+    }
+    if is_faulty(item2, row2, right, row1) {
+        return stop_at(row2, right);
+    }
+    let order = compare_sides(item1, row1, left, item2, row2, right);
+    truth_value(negated, relation_holds(word, order))
+}
+
 fn relation_outcome<'a>(
     items: &[u32],
     literals: &[u32],
@@ -86,19 +113,16 @@ fn relation_outcome<'a>(
     let row2 = row_of(object, items, literals);
     let left = operand_bytes(subject, items, literals, bytes, record);
     let right = operand_bytes(object, items, literals, bytes, record);
-    let item1 = is_item(subject);
-    let item2 = is_item(object);
-    if is_numeric(row1) & is_numeric(row2) {
-        return value_outcome(item1, row1, left, item2, row2, right, word, negated);
-    }
-    if is_faulty(item1, row1, left, row2) {
-        return stop_at(row1, left);
-    }
-    if is_faulty(item2, row2, right, row1) {
-        return stop_at(row2, right);
-    }
-    let order = compare_sides(item1, row1, left, item2, row2, right);
-    truth_value(negated, relation_holds(word, order))
+    sides_outcome(
+        is_item(subject),
+        row1,
+        left,
+        is_item(object),
+        row2,
+        right,
+        word,
+        negated,
+    )
 }
 
 fn class_outcome<'a>(

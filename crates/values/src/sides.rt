@@ -10,9 +10,9 @@ ghost use Rattle.values.specs.Comparison.{side, comparison, wrongByte, f
 ghost use Rattle.values.specs.Truth.{Fit, Near, orStop};
 use characters::filled::compare_characters;
 use compare::Order;
-use content::fields::digit_bytes;
-use content::fields::first_wrong;
-use content::fields::valid_content;
+use fields::held::digit_bytes;
+use fields::held::first_wrong;
+use fields::held::valid_content;
 use tables::Outcome;
 use tables::Row;
 use tables::Stop;

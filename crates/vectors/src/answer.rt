@@ -1,11 +1,11 @@
 // An answer as numbers.
+use refusal_numbers::byte_of;
+use refusal_numbers::number_of;
+use refusal_numbers::place_of;
 use tables::Judged;
 use tables::Refusal;
 use tables::Verdict;
 use tables::Written;
-use tables::refusals::byte_of;
-use tables::refusals::number_of;
-use tables::refusals::place_of;
 
 // A refusal's number, place and byte, or 0, the value and 0; how many simple conditions were judged.
 pub struct Answer {
@@ -24,7 +24,7 @@ fn of_refusal(refusal: Refusal, judged: usize) -> Answer {
     }
 }
 
-pub fn of_written(given: Written) -> Answer {
+pub(crate) fn of_written(given: Written) -> Answer {
     match given {
         Written::Count(n) => Answer {
             number: 0,
@@ -36,7 +36,7 @@ pub fn of_written(given: Written) -> Answer {
     }
 }
 
-pub fn of_judged(given: Judged) -> Answer {
+pub(crate) fn of_judged(given: Judged) -> Answer {
     let verdict = given.verdict;
     let judged = given.count;
     match verdict {
@@ -56,7 +56,7 @@ pub fn of_judged(given: Judged) -> Answer {
     }
 }
 
-pub fn same(one: Answer, other: Answer) -> bool {
+pub(crate) fn same(one: Answer, other: Answer) -> bool {
     (one.number == other.number)
         & (one.value == other.value)
         & (one.byte == other.byte)

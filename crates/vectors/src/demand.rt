@@ -4,8 +4,8 @@ use crate::answer::of_judged;
 use crate::answer::same;
 use crate::lent;
 use crate::parts::TOKENS;
-use crate::parts::front;
 use crate::parts::part;
+use fronts::front;
 use tables::Written;
 
 // Room for every expanded form (634 tokens) and every plan.
@@ -57,7 +57,7 @@ fn of_plan<'a>(words: &[u32], bytes: &'a [u8], record: &'a [u8], rows: &[u32]) -
     false
 }
 
-pub fn holds<'a>(words: &[u32], bytes: &'a [u8], record: &'a [u8]) -> bool {
+pub(crate) fn holds<'a>(words: &[u32], bytes: &'a [u8], record: &'a [u8]) -> bool {
     let mut rows = [0u32; ENOUGH];
     let planned = lent::plan(words, bytes, part(words, TOKENS), &mut rows);
     match planned {

@@ -1,5 +1,5 @@
 // Words from standard input: 32 bits, the lowest byte first.
-use crate::parts::front_bytes;
+use fronts::front_bytes;
 use libc::STDIN_FILENO;
 
 // Room for the bytes of every case.
@@ -10,7 +10,7 @@ fn word(first: u8, second: u8, third: u8, fourth: u8) -> u32 {
 }
 
 // 0 where the input has ended.
-pub fn read_word() -> u32 {
+pub(crate) fn read_word() -> u32 {
     let mut raw = [0u8; 4];
     let got = io::read_full(STDIN_FILENO, &mut raw);
     if got < 4 {
@@ -45,7 +45,7 @@ fn read_raw(raw: &mut [u8], words: &mut [u32]) -> usize {
 }
 
 // The words that a word counts, as far as there are so many; none if no case has so many.
-pub fn read_words(words: &mut [u32]) -> usize {
+pub(crate) fn read_words(words: &mut [u32]) -> usize {
     let mut raw = [0u8; RAW];
     read_raw(&mut raw, words)
 }

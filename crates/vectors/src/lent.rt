@@ -9,7 +9,7 @@ use conditions::calls;
 use tables::Judged;
 use tables::Written;
 
-pub fn expand(words: &[u32], bytes: &[u8], output: &mut [u32]) -> Written {
+pub(crate) fn expand(words: &[u32], bytes: &[u8], output: &mut [u32]) -> Written {
     let items = part(words, ITEMS);
     let literals = part(words, LITERALS);
     let names = part(words, NAMES);
@@ -17,14 +17,14 @@ pub fn expand(words: &[u32], bytes: &[u8], output: &mut [u32]) -> Written {
     calls::expand(items, literals, bytes, names, tokens, output)
 }
 
-pub fn plan(words: &[u32], bytes: &[u8], tokens: &[u32], output: &mut [u32]) -> Written {
+pub(crate) fn plan(words: &[u32], bytes: &[u8], tokens: &[u32], output: &mut [u32]) -> Written {
     let items = part(words, ITEMS);
     let literals = part(words, LITERALS);
     let names = part(words, NAMES);
     calls::plan(items, literals, bytes, names, tokens, output)
 }
 
-pub fn judge<'a>(words: &[u32], bytes: &'a [u8], record: &'a [u8]) -> Judged {
+pub(crate) fn judge<'a>(words: &[u32], bytes: &'a [u8], record: &'a [u8]) -> Judged {
     let items = part(words, ITEMS);
     let literals = part(words, LITERALS);
     let names = part(words, NAMES);
@@ -40,7 +40,7 @@ pub fn judge<'a>(words: &[u32], bytes: &'a [u8], record: &'a [u8]) -> Judged {
     )
 }
 
-pub fn run<'a>(words: &[u32], bytes: &'a [u8], plan: &[u32], record: &'a [u8]) -> Judged {
+pub(crate) fn run<'a>(words: &[u32], bytes: &'a [u8], plan: &[u32], record: &'a [u8]) -> Judged {
     let items = part(words, ITEMS);
     let literals = part(words, LITERALS);
     let names = part(words, NAMES);

@@ -92,7 +92,7 @@ fn demand_three<'a>(words: &[u32], bytes: &'a [u8], record: &'a [u8]) {
     }
 }
 
-pub fn write<'a>(words: &[u32], bytes: &'a [u8], record: &'a [u8]) {
+pub(crate) fn write<'a>(words: &[u32], bytes: &'a [u8], record: &'a [u8]) {
     expand(words, bytes);
     plan(words, bytes);
     judge(words, bytes, record);

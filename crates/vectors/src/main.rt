@@ -8,12 +8,12 @@ mod line;
 mod output;
 mod parts;
 
+use fronts::front;
+use fronts::front_bytes;
+use fronts::narrow;
 use parts::BYTES;
 use parts::RECORD;
 use parts::WORDS;
-use parts::front;
-use parts::front_bytes;
-use parts::narrow;
 use parts::part;
 
 // Bytes stand one to a word in a case: the record is narrowed.

@@ -2,7 +2,7 @@
 use std::num::wrapping_add_u32;
 
 // Number i holds 3,000,000,000 + i.
-pub fn fill(output: &mut [u32]) {
+pub(crate) fn fill(output: &mut [u32]) {
     let mut next: u32 = 3000000000;
     let mut i: usize = 0;
     while i < output.len() {
@@ -16,7 +16,7 @@ fn times_prime(x: u32) -> u32 {
     (x as u64 * 16777619 % 4294967296) as u32
 }
 
-pub fn checksum(output: &[u32]) -> u32 {
+pub(crate) fn checksum(output: &[u32]) -> u32 {
     let mut sum: u32 = 2166136261;
     let mut i: usize = 0;
     while i < output.len() {

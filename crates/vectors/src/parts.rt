@@ -35,22 +35,6 @@ fn wide(x: u32) -> usize {
     x as usize
 }
 
-// The first n numbers, or all.
-pub fn front(numbers: &[u32], n: usize) -> &[u32] {
-    if n <= numbers.len() {
-        return &numbers[0..n];
-    }
-    numbers
-}
-
-// The first n bytes, or all.
-pub fn front_bytes(bytes: &[u8], n: usize) -> &[u8] {
-    if n <= bytes.len() {
-        return &bytes[0..n];
-    }
-    bytes
-}
-
 // The words from a place on.
 fn rest(words: &[u32], at: usize) -> &[u32] {
     if at <= words.len() {
@@ -81,7 +65,7 @@ fn start(words: &[u32], part: usize) -> usize {
     at
 }
 
-pub fn part(words: &[u32], number: usize) -> &[u32] {
+pub(crate) fn part(words: &[u32], number: usize) -> &[u32] {
     let at = start(words, number);
     let end = part_end(words, at);
     if at < end {
@@ -93,7 +77,7 @@ pub fn part(words: &[u32], number: usize) -> &[u32] {
 }
 
 // One of the words behind the parts; more than any room where there is none.
-pub fn setting(words: &[u32], number: usize) -> usize {
+pub(crate) fn setting(words: &[u32], number: usize) -> usize {
     let settings = rest(words, start(words, PARTS));
     if number < settings.len() {
         return wide(settings[number]);
@@ -102,7 +86,7 @@ pub fn setting(words: &[u32], number: usize) -> usize {
 }
 
 // Whether the parts and the words behind them are all, and the outputs have room.
-pub fn whole(words: &[u32]) -> bool {
+pub(crate) fn whole(words: &[u32]) -> bool {
     if rest(words, start(words, PARTS)).len() == SETTINGS {
         if setting(words, EXPAND_ROOM) <= ROOM {
             return setting(words, PLAN_ROOM) <= ROOM;
@@ -111,23 +95,6 @@ pub fn whole(words: &[u32]) -> bool {
     false
 }
 
-pub fn switches(words: &[u32]) -> u8 {
+pub(crate) fn switches(words: &[u32]) -> u8 {
     (setting(words, SWITCHES) % 256) as u8
-}
-
-fn low_byte(word: u32) -> u8 {
-    (word % 256) as u8
-}
-
-// The bytes of words that hold one each; how many they are.
-pub fn narrow(words: &[u32], bytes: &mut [u8]) -> usize {
-    let mut i: usize = 0;
-    while i < words.len() {
-        if i >= bytes.len() {
-            return i;
-        }
-        bytes[i] = low_byte(words[i]);
-        i += 1;
-    }
-    i
 }

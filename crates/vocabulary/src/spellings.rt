@@ -7,9 +7,9 @@ ghost use Rattle.description.specs.Grammar.{same};
 ghost use Rattle.spelling.specs.Meanings.{position};
 ghost use Rattle.literal_words.specs.Found.{writtenOver};
 ghost use Rattle.vocabulary.specs.Spellings.{starts, spelt};
+use keywords::same_bytes;
 use literal_words::copies::copy_bytes;
 use words::bytes::byte_at;
-use words::keywords::same_bytes;
 
 fn wide(x: u8) -> usize
     ensures { λ r. ⌜ r ≡ x ⌝ }

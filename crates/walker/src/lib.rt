@@ -1,4 +1,3 @@
-// Which items the rows of a plan name, and which a run of it comes to.
+// Which items the rows of a plan name. Which a run comes to is `walks`.
 
 pub mod marks; // a mark for each item row
-pub mod walk; // the rows of a plan, reached or not

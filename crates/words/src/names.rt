@@ -10,10 +10,10 @@ ghost use Rattle.words.specs.Runs.{nameRun};
 use crate::blanks::next_ink;
 use crate::bytes::is_letter;
 use crate::bytes::is_name_byte;
-use crate::keywords::is_keyword;
-use crate::keywords::same_bytes;
 use description::Called;
 use description::Reached;
+use keywords::is_keyword;
+use keywords::same_bytes;
 
 fn all_name_bytes(w: &[u8]) -> bool
     ensures { λ r. ⌜ r ≡ all isNameByte (now (w .entry)) ⌝ }

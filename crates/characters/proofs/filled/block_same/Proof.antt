@@ -10,10 +10,10 @@ use Rattle.characters.proofs.filled.block_same.Statement.{statement}
 use Rattle.characters.proofs.filled.block_same.Tie as tie
 
 abbrev Inv-loop : tie.InvT-loop
-Inv-loop left right same₀ k₀ same k = (k ≤ 32) × (same ≡ true → take k left ≡ take k right)
+Inv-loop left right size same₀ k₀ same k = (k ≤ size) × (same ≡ true → take k left ≡ take k right)
 
 abbrev μ-loop : tie.MeasureT-loop
-μ-loop left right same₀ k₀ same k = 32 - k
+μ-loop left right size same₀ k₀ same k = size - k
 
 loop-holds : tie.Need-loop-holds Inv-loop μ-loop
 loop-holds c = (omega arith, λ e. refl)
@@ -37,7 +37,7 @@ loop-again c =
     (omega arith, alike-more (now (a .left)) (now (a .right)) (l .same) (l .k) (omega arith) (omega arith) (l .inv .1))
 
 returns : tie.Need-returns Inv-loop μ-loop
-returns c = let end : c .before .loop .k ≡ 32 = omega arith in rw end at (c .before .loop .inv .1)
+returns c = let end : c .before .loop .k ≡ c .before .before .args .size = omega arith in rw end at (c .before .loop .inv .1)
 
 pub block-same-spec : {M : Type 1} → statement M
 block-same-spec =

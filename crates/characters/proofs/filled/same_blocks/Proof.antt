@@ -1,5 +1,5 @@
--- Rests on the invariant that the first i bytes are the same, and on what `block_same` ensures of the next 32.
-use mathlib.Core.Path.{_≡_, refl}
+-- Rests on the invariant that the first i bytes are the same, and on what `block_same` ensures of the next block.
+use mathlib.Core.Path.{_≡_}
 use Prim.Native.Nat.{_-_, _≤_}
 use native.Mathlib.Omega.{arith}
 use denote.Ref.{now}
@@ -11,16 +11,16 @@ use Rattle.characters.proofs.filled.same_blocks.Statement.{statement}
 use Rattle.characters.proofs.filled.same_blocks.Tie as tie
 
 abbrev Inv-loop : tie.InvT-loop
-Inv-loop left right n i₀ i = (i ≤ n) × (take i left ≡ take i right)
+Inv-loop left right size «from» n i₀ i = (i ≤ n) × (take i left ≡ take i right)
 
 abbrev μ-loop : tie.MeasureT-loop
-μ-loop left right n i₀ i = n - i
+μ-loop left right size «from» n i₀ i = n - i
 
 shorter-requires : tie.Need-shorter-requires Inv-loop μ-loop
 shorter-requires c κs = search needs
 
 loop-holds : tie.Need-loop-holds Inv-loop μ-loop
-loop-holds c = (omega arith, refl)
+loop-holds c = (omega arith, c .before .before .before .pre .1 .2)
 
 sub-loop : tie.Need-sub-loop Inv-loop μ-loop
 sub-loop c = omega arith
@@ -60,7 +60,7 @@ loop-again c =
     let l = c .before .before .before .before .before in
     let a = l .before .before .before .before .args in
     let block = c .before .block-same .ensures (not-false _ (c .if1 .left)) in
-    (omega arith, alike-block (now (a .left)) (now (a .right)) (l .loop .i) (omega arith) (omega arith) (l .loop .inv .1) block)
+    (omega arith, alike-block (now (a .left)) (now (a .right)) (l .loop .i) (a .size) (omega arith) (omega arith) (l .loop .inv .1) block)
 
 returns-2 : tie.Need-returns-2 Inv-loop μ-loop
 returns-2 c = (omega arith, omega arith, c .before .loop .inv .1)

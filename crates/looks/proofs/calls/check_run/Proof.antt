@@ -3,7 +3,7 @@ use mathlib.Core.Path.{sym, _∙_}
 use denote.Ref.{now}
 use Rattle.tables.specs.Operands.{lendNames}
 use Rattle.names.proofs.Lines.{tables-refused, names-tried}
-use Rattle.looks.proofs.Looking.{tables-line, plan-line, record-line}
+use Rattle.look_lists.proofs.Looking.{tables-line, plan-line, record-line}
 use borrow.Author.Needs.{needs}
 use Rattle.looks.proofs.calls.check_run.Statement.{statement}
 use Rattle.looks.proofs.calls.check_run.Tie as tie

@@ -2,7 +2,7 @@
 use mathlib.Core.Path.{sym, _∙_}
 use native.Mathlib.Omega.{arith}
 use Rattle.conditions.proofs.Calling.{few-prepared, row-numbers, rows-runnable}
-use Rattle.looks.proofs.Looking.{looked-refused, looked-record-refused, looked-listed}
+use Rattle.look_lists.proofs.Looking.{looked-refused, looked-record-refused, looked-listed}
 use borrow.Author.Needs.{needs}
 use Rattle.looks.proofs.calls.looked_at.Statement.{statement}
 use Rattle.looks.proofs.calls.looked_at.Tie as tie

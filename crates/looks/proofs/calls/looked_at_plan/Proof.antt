@@ -1,6 +1,6 @@
 -- Rests on the lines of a run, and on what it reaches where none refuses.
 use mathlib.Core.Path.{sym, _∙_}
-use Rattle.looks.proofs.Looking.{run-refused, run-ready, run-listed}
+use Rattle.look_lists.proofs.Looking.{run-refused, run-ready, run-listed}
 use borrow.Author.Needs.{needs}
 use Rattle.looks.proofs.calls.looked_at_plan.Statement.{statement}
 use Rattle.looks.proofs.calls.looked_at_plan.Tie as tie

@@ -4,7 +4,7 @@ use denote.Ref.{now}
 use borrow.Author.Needs.{needs}
 use Rattle.tables.specs.Operands.{lendNames}
 use Rattle.names.proofs.Lines.{tables-refused, names-tried}
-use Rattle.sweeper.proofs.Lines.{rules-refused, plan-tried}
+use Rattle.sweeps.proofs.Lines.{rules-refused, plan-tried}
 use Rattle.sweeper.proofs.calls.check_rules.Statement.{statement}
 use Rattle.sweeper.proofs.calls.check_rules.Tie as tie
 

@@ -1,7 +1,7 @@
 -- `is_even` meets its contract.
 use mathlib.Core.Path.{refl}
 use borrow.Author.Needs.{needs}
-use Rattle.sweeper.proofs.Going.{nothing-fills, fills}
+use Rattle.sweeps.proofs.Going.{nothing-fills, fills}
 use Rattle.sweeper.proofs.calls.is_even.Statement.{statement}
 use Rattle.sweeper.proofs.calls.is_even.Tie as tie
 

@@ -7,8 +7,8 @@ use denote.Ref.{now}
 use borrow.Author.Needs.{needs}
 use borrow.Author.Tests.{not-true, not-false}
 use Rattle.tables.specs.Operands.{lendNames}
-use Rattle.sweeper.proofs.Going.{filled, one-fits}
-use Rattle.sweeper.proofs.Lines.{held, unruly, uneven, empty, short, lacks-room, written}
+use Rattle.sweeps.proofs.Going.{filled, one-fits}
+use Rattle.sweeps.proofs.Lines.{held, unruly, uneven, empty, short, lacks-room, written}
 use Rattle.sweeper.proofs.calls.sweep.Statement.{statement}
 use Rattle.sweeper.proofs.calls.sweep.Tie as tie
 
@@ -38,7 +38,8 @@ returns-2 c =
     let lent = lendNames (now (a .items)) (now (a .literals)) (now (a .bytes)) (now (a .names)) in
     let plan = now (a .plan) in
     let file = now (a .records) in
-    uneven lent plan file (a .size) (a .switches) (now (a .answers)) (sym (c .before .before .before .before .check-rules .ensures) ∙ c .before .before .enum-told .given .1) (sym (c .before .is-even .ensures) ∙ not-true _ (c .if1 .taken))
+    uneven lent plan file (a .size) (a .switches) (now (a .answers)) (sym (c .before .before .before .before .check-rules .ensures) ∙ c .before .before .enum-told .given .1) (sym
+    (c .before .is-even .ensures) ∙ not-true _ (c .if1 .taken))
 
 returns-3 : tie.Need-returns-3
 returns-3 c =
@@ -46,7 +47,8 @@ returns-3 c =
     let lent = lendNames (now (a .items)) (now (a .literals)) (now (a .bytes)) (now (a .names)) in
     let plan = now (a .plan) in
     let file = now (a .records) in
-    empty lent plan file (a .size) (a .switches) (now (a .answers)) (sym (c .before .before .before .before .before .check-rules .ensures) ∙ c .before .before .before .enum-told .given .1) (sym (c .before .before .is-even .ensures) ∙ not-false _ (c .before .if1 .left)) (c .if2 .taken)
+    empty lent plan file (a .size) (a .switches) (now (a .answers)) (sym (c .before .before .before .before .before .check-rules .ensures) ∙ c .before .before .before .enum-told .given .1)
+    (sym (c .before .before .is-even .ensures) ∙ not-false _ (c .before .if1 .left)) (c .if2 .taken)
 
 slice-aggregate-check-record : tie.Need-slice-aggregate-check-record
 slice-aggregate-check-record c =
@@ -67,7 +69,10 @@ returns-4 c =
     let lent = lendNames (now (a .items)) (now (a .literals)) (now (a .bytes)) (now (a .names)) in
     let plan = now (a .plan) in
     let file = now (a .records) in
-    short lent plan file (a .size) (a .switches) (now (a .answers)) (sym (c .before .before .before .before .before .before .before .before .before .before .check-rules .ensures) ∙ c .before .before .before .before .before .before .before .before .enum-told .given .1) (sym (c .before .before .before .before .before .before .before .is-even .ensures) ∙ not-false _ (c .before .before .before .before .before .before .if1 .left)) (c .before .before .before .before .before .if2 .left) (sym (c .before .before .before .check-record .ensures) ∙ c .before .held .given .1)
+    short lent plan file (a .size) (a .switches) (now (a .answers)) (sym (c .before .before .before .before .before .before .before .before .before .before .check-rules .ensures) ∙
+    c .before .before .before .before .before .before .before .before .enum-told .given .1) (sym (c .before .before .before .before .before .before .before .is-even .ensures) ∙ not-false _
+    (c .before .before .before .before .before .before .if1 .left)) (c .before .before .before .before .before .if2 .left) (sym (c .before .before .before .check-record .ensures) ∙
+    c .before .held .given .1)
 
 enum-told-2 : tie.Need-enum-told-2
 enum-told-2 c = search needs
@@ -75,13 +80,15 @@ enum-told-2 c = search needs
 div-count : tie.Need-div-count
 div-count c =
     let a = c .before .before .before .before .before .before .before .before .before .before .before .before .before .before .before .before .before .args in
-    let f = filled (a .size) (length (now (a .records))) (sym (c .before .before .before .before .before .before .is-even .ensures) ∙ not-false _ (c .before .before .before .before .before .if1 .left)) in
+    let f = filled (a .size) (length (now (a .records))) (sym (c .before .before .before .before .before .before .is-even .ensures) ∙ not-false _
+    (c .before .before .before .before .before .if1 .left)) in
     omega (arith, f .0)
 
 mul-count : tie.Need-mul-count
 mul-count c =
     let a = c .before .before .before .before .before .before .before .before .before .before .before .before .before .before .before .before .before .args in
-    let f = filled (a .size) (length (now (a .records))) (sym (c .before .before .before .before .before .before .is-even .ensures) ∙ not-false _ (c .before .before .before .before .before .if1 .left)) in
+    let f = filled (a .size) (length (now (a .records))) (sym (c .before .before .before .before .before .before .is-even .ensures) ∙ not-false _
+    (c .before .before .before .before .before .if1 .left)) in
     omega (arith, f .2)
 
 returns-5 : tie.Need-returns-5
@@ -90,7 +97,10 @@ returns-5 c =
     let lent = lendNames (now (a .items)) (now (a .literals)) (now (a .bytes)) (now (a .names)) in
     let plan = now (a .plan) in
     let file = now (a .records) in
-    lacks-room lent plan file (a .size) (a .switches) (now (a .answers)) (sym (c .before .before .before .before .before .before .before .before .before .before .check-rules .ensures) ∙ c .before .before .before .before .before .before .before .before .enum-told .given .1) (sym (c .before .before .before .before .before .before .before .is-even .ensures) ∙ not-false _ (c .before .before .before .before .before .before .if1 .left)) (held lent (a .size) file (c .before .before .before .before .before .if2 .left) (sym (c .before .before .before .check-record .ensures) ∙ c .before .enum-told2 .given .1)) (c .if3 .taken)
+    lacks-room lent plan file (a .size) (a .switches) (now (a .answers)) (sym (c .before .before .before .before .before .before .before .before .before .before .check-rules .ensures) ∙
+    c .before .before .before .before .before .before .before .before .enum-told .given .1) (sym (c .before .before .before .before .before .before .before .is-even .ensures) ∙ not-false _
+    (c .before .before .before .before .before .before .if1 .left)) (held lent (a .size) file (c .before .before .before .before .before .if2 .left) (sym
+    (c .before .before .before .check-record .ensures) ∙ c .before .enum-told2 .given .1)) (c .if3 .taken)
 
 sweep-records-requires : tie.Need-sweep-records-requires
 sweep-records-requires c κs =
@@ -98,7 +108,16 @@ sweep-records-requires c κs =
     let lent = lendNames (now (a .items)) (now (a .literals)) (now (a .bytes)) (now (a .names)) in
     let plan = now (a .plan) in
     let file = now (a .records) in
-    record { rules = (sym (c .before .before .before .before .before .before .before .before .before .before .before .check-rules .ensures) ∙ c .before .before .before .before .before .before .before .before .before .enum-told .given .1); sizes = (sym (c .before .before .before .before .before .before .before .before .is-even .ensures) ∙ not-false _ (c .before .before .before .before .before .before .before .if1 .left)); holds = (held lent (a .size) file (c .before .before .before .before .before .before .if2 .left) (sym (c .before .before .before .before .check-record .ensures) ∙ c .before .before .enum-told2 .given .1)); fits = omega (arith, c .before .if3 .left) }
+    record {
+      rules = (sym (c .before .before .before .before .before .before .before .before .before .before .before .check-rules .ensures) ∙
+          c .before .before .before .before .before .before .before .before .before .enum-told .given .1);
+      sizes = (sym
+          (c .before .before .before .before .before .before .before .before .is-even .ensures) ∙ not-false _ (c .before .before .before .before .before .before .before .if1 .left));
+      holds =
+          (held lent (a .size) file (c .before .before .before .before .before .before .if2 .left) (sym (c .before .before .before .before .check-record .ensures) ∙
+          c .before .before .enum-told2 .given .1));
+      fits = omega (arith, c .before .if3 .left);
+    }
 
 same-length : tie.Need-same-length
 same-length c = search needs
@@ -109,7 +128,13 @@ returns-6 c =
     let lent = lendNames (now (a .items)) (now (a .literals)) (now (a .bytes)) (now (a .names)) in
     let plan = now (a .plan) in
     let file = now (a .records) in
-    written lent plan file (a .size) (a .switches) (now (a .answers)) (sym (c .before .before .before .before .before .before .before .before .before .before .before .before .before .before .check-rules .ensures) ∙ c .before .before .before .before .before .before .before .before .before .before .before .before .enum-told .given .1) (sym (c .before .before .before .before .before .before .before .before .before .before .before .is-even .ensures) ∙ not-false _ (c .before .before .before .before .before .before .before .before .before .before .if1 .left)) (held lent (a .size) file (c .before .before .before .before .before .before .before .before .before .if2 .left) (sym (c .before .before .before .before .before .before .before .check-record .ensures) ∙ c .before .before .before .before .before .enum-told2 .given .1)) (omega (arith, c .before .before .before .before .if3 .left)) (c .before .before .sweep-records .ensures)
+    written lent plan file (a .size) (a .switches) (now (a .answers)) (sym
+    (c .before .before .before .before .before .before .before .before .before .before .before .before .before .before .check-rules .ensures) ∙
+    c .before .before .before .before .before .before .before .before .before .before .before .before .enum-told .given .1) (sym
+    (c .before .before .before .before .before .before .before .before .before .before .before .is-even .ensures) ∙ not-false _
+    (c .before .before .before .before .before .before .before .before .before .before .if1 .left)) (held lent (a .size) file
+    (c .before .before .before .before .before .before .before .before .before .if2 .left) (sym (c .before .before .before .before .before .before .before .check-record .ensures) ∙
+    c .before .before .before .before .before .enum-told2 .given .1)) (omega (arith, c .before .before .before .before .if3 .left)) (c .before .before .sweep-records .ensures)
 
 pub sweep-spec : {M : Type 1} → statement M
 sweep-spec =

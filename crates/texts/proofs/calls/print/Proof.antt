@@ -6,7 +6,7 @@ use lib.ListN.{length, getD, take, drop}
 use denote.Ref.{now}
 use borrow.Author.Needs.{needs}
 use lib.Seq.{length-take-le}
-use Rattle.texts.proofs.Giving.{book-found, places-listed}
+use Rattle.books.proofs.Giving.{book-found, places-listed}
 use Rattle.texts.proofs.Refusing.{named-print, undescribed-print, as-print, refused-print}
 use Rattle.texts.proofs.calls.print.Statement.{statement}
 use Rattle.texts.proofs.calls.print.Tie as tie

@@ -6,7 +6,7 @@ use lib.ListN.{length, getD, take, drop}
 use denote.Ref.{now}
 use borrow.Author.Needs.{needs}
 use Rattle.naming.specs.Named.{knownAt}
-use Rattle.texts.specs.Calls.{unprintedAs}
+use Rattle.books.specs.Calls.{unprintedAs}
 use Rattle.texts.proofs.Refusing.{token-refuses, name-refuses, names-there, missing-same, refused-print}
 use Rattle.texts.proofs.calls.print_there.Statement.{statement}
 use Rattle.texts.proofs.calls.print_there.Tie as tie

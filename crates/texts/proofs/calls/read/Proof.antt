@@ -6,7 +6,7 @@ use lib.ListN.{length, getD, take, drop}
 use denote.Ref.{now}
 use borrow.Author.Needs.{needs}
 use lib.Seq.{length-take-le}
-use Rattle.texts.proofs.Giving.{book-found, named-reading, undescribed-reading, places-listed, as-reading, refused-reading}
+use Rattle.books.proofs.Giving.{book-found, named-reading, undescribed-reading, places-listed, as-reading, refused-reading}
 use Rattle.texts.proofs.calls.read.Statement.{statement}
 use Rattle.texts.proofs.calls.read.Tie as tie
 

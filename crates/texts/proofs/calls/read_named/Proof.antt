@@ -5,7 +5,7 @@ use native.Mathlib.Omega.{arith}
 use lib.ListN.{length, getD, take, drop}
 use denote.Ref.{now}
 use borrow.Author.Needs.{needs}
-use Rattle.texts.proofs.Giving.{whole-sizes, whole-reading, fault-reading, as-reading, refused-reading}
+use Rattle.books.proofs.Giving.{whole-sizes, whole-reading, fault-reading, as-reading, refused-reading}
 use Rattle.texts.proofs.calls.read_named.Statement.{statement}
 use Rattle.texts.proofs.calls.read_named.Tie as tie
 

@@ -1,0 +1,48 @@
+-- A block of at most 64 records of one size, which start at a byte of a file, run through one plan.
+use mathlib.Core.Path.{_≡_}
+use mathlib.Core.Bool.{cond}
+use mathlib.Core.List.{List}
+use Prim.Native.Nat.{ℕ, _<_, _≤_}
+use lib.ListN.{getD}
+use lib.Dec.{eqb}
+use Rattle.tables.specs.declared.Check.the-variants.{Sound}
+use Rattle.tables.specs.declared.Judged.{Judged}
+use Rattle.tables.specs.declared.Outcome.{Outcome}
+use Rattle.tables.specs.declared.Outcome.the-variants.{True as Holds, False as Fails, Stopped}
+use Rattle.tables.specs.declared.Verdict.the-variants.{True, False}
+use Rattle.tables.specs.Operands.{Lent}
+use Rattle.grammar.specs.declared.PlanRow.{PlanRow}
+use Rattle.grammar.specs.Plan.{onTrue, onFalse, planCheck}
+use Rattle.runner.specs.Runs.{Runnable}
+use Rattle.columns.specs.Columns.{recordAt, outcomeAt, Right, Laid}
+
+-- "A simple condition gives true, false or its stop": a stop is not judged here, and its record is run by itself
+abbrev pub truthNumber : Outcome → ℕ
+truthNumber Fails = 0
+truthNumber Holds = 1
+truthNumber (Stopped stop) = 2
+
+-- the truths of one row are right for each of the first n records that stands there
+abbrev pub Judges : Lent → List ℕ → ℕ → ℕ → ℕ → ℕ → PlanRow → List ℕ → ℕ → List ℕ → Type 0
+Judges lent records from size n switches r at row truths =
+    (j : ℕ) → j < n → getD at j 0 ≡ row → Right (outcomeAt lent records from size switches r j) (getD truths j 0)
+
+-- a plan that can be run on each record of a block
+pub record Walkable (lent : Lent) (plan records : List ℕ) (from size n : ℕ) : Type 0 where
+  pub laid : Laid records from size n
+  pub sound : planCheck lent plan ≡ Sound
+  pub runnable : (j : ℕ) → j < n → Runnable lent plan (recordAt records from size j)
+
+-- "A target is the row judged next, always a later one, or a verdict": the place of a target
+abbrev pub placeOf : ℕ → ℕ
+placeOf target = cond (eqb target onTrue) 129 (cond (eqb target onFalse) 128 target)
+
+pub record Placed (target : ℕ) : Type 0 where
+  pub top : target ≤ onTrue
+  pub inside : target < onFalse → target < 128
+
+-- Where a record stands at the end: at a verdict, with as many simple conditions judged as the run of that record has; or it is not known here.
+pub record Settled (judged : Judged) (place count : ℕ) : Type 0 where
+  pub done : 128 ≤ place
+  pub fails : place ≡ 128 → judged ≡ record { verdict = False; count = count }
+  pub holds : place ≡ 129 → judged ≡ record { verdict = True; count = count }

@@ -1,0 +1,45 @@
+// Names and literals of a description.
+ghost use mathlib.Core.Path.{_≡_};
+ghost use Prim.Native.Nat.{_≤_};
+ghost use lib.ListN.{length};
+ghost use Rattle.books.specs.Calls.{NamedBy};
+use crate::Book;
+use crate::Named;
+use crate::given::copy_numbers;
+use describing::Described;
+use descriptions::calls::describe;
+
+// The numbers of a row.
+const WIDTH: usize = 5;
+
+// The places of the names, or FILLER, of a description's rows, those of its conditions after them; and its literals.
+pub fn book_of(description: &[u8], places: &mut [u32], rows: &mut [u32], bytes: &mut [u8]) -> Named
+    requires { ⌜ (128 ≤ length (now places)) × (320 ≤ length (now rows)) × (4096 ≤ length (now bytes)) ⌝ }
+    ensures { λ r. ⌜ NamedBy (now (description .entry)) r (now (places .exit)) (now (rows .exit)) (now (bytes .exit)) ⌝ }
+{
+    let mut items = [0u32; 320];
+    let mut names = [0u32; 1152];
+    let mut others = [0u32; 64];
+    let described = describe(
+        description,
+        &mut items,
+        places,
+        &mut names,
+        &mut others,
+        rows,
+        bytes,
+    );
+    match described {
+        Described::Counts(_, n, _, k, v, b) => {
+            copy_numbers(&others[..k], &mut places[n..]);
+            Named::Given(Book {
+                items: n,
+                places: n + k,
+                literals: v / WIDTH,
+                bytes: b,
+            })
+        }
+        Described::Faulty(place) => Named::Faulty(place),
+        Described::Room(needed) => Named::Faulty(needed),
+    }
+}

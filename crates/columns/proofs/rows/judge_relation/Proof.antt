@@ -1,0 +1,197 @@
+-- By the kinds of the two sides.
+use mathlib.Core.Path.{_≡_, sym, _∙_}
+use mathlib.Core.Bool.{true, false, false≢true}
+use mathlib.Core.List.{List}
+use Prim.Native.Nat.{ℕ, _+_, _-_, _≤_}
+use native.Mathlib.Omega.{arith}
+use lib.ListN.{take, drop}
+use denote.Ref.{now}
+use borrow.Author.Needs.{needs}
+use borrow.Author.Tests.{not-false, eqb-true}
+use Rattle.tables.specs.Operands.{Lent, lendNames, rowOf}
+use Rattle.tables.proofs.Tests.{both}
+use Rattle.values.specs.Truth.{Sided}
+use Rattle.values.proofs.Reading.{read-relation}
+use Rattle.digit_words.proofs.WordLaws.{Bytes, bytes-of}
+use Rattle.columns.proofs.Sides.{Worded, first-readable, first-within, field-of, within-unnamed, word-size, items-right, object-right, subject-right}
+use Rattle.columns.proofs.rows.judge_relation.Statement.{statement}
+use Rattle.columns.proofs.rows.judge_relation.Tie as tie
+
+abbrev lent : tie.Start → Lent
+lent s = lendNames (now (s .args .items)) (now (s .args .literals)) (now (s .args .bytes)) (now (s .args .names))
+
+-- the first record
+abbrev first : tie.Start → List ℕ
+first s = take (s .args .from + s .args .size - s .args .from) (drop (s .args .from) (now (s .args .records)))
+
+-- the two sides of the first record
+sides : (s : tie.Start) → Sided (lent s) (first s) (s .args .condition .subject) × Sided (lent s) (first s) (s .args .condition .object)
+sides s = read-relation (first-readable (s .pre .0 .0)) (s .pre .1)
+
+-- where both are read as words
+abbrev entry : tie.Else1 → tie.Start
+entry c = c .before .before .before .before .before .before .before .before .before .before .before .before .before
+
+worded : (c : tie.Else1) → Worded (lent (entry c)) (entry c .args .condition)
+worded c =
+    let fits = c .before .before .before in
+    let rows = fits .before .before in
+    let t = both _ _ (not-false _ (c .if1 .left)) in
+    let u = both _ _ (t .0) in
+    record {
+      subject = rw (rows .before .row-of .ensures) at (sym (fits .before .fits-word .ensures) ∙ u .0);
+      object = rw (rows .row-of2 .ensures) at (sym (fits .fits-word2 .ensures) ∙ u .1);
+      scale = rw (rows .before .row-of .ensures, rows .row-of2 .ensures) at (eqb-true (rows .before .row-of .result .scale) (rows .row-of2 .result .scale) (t .1));
+    }
+
+-- the file's bytes, and the literals'
+in-file : (c : tie.Else1) → Bytes (now (entry c .args .records)) × Bytes (now (entry c .args .bytes))
+in-file c =
+    let known = c .before .before .before .before .before .before .before .before in
+    (bytes-of _ (λ i. known .shared-slice-known5 .given i .fits), bytes-of _ (λ i. known .before .before .shared-slice-known3 .given i .fits))
+
+row-of-requires : tie.Need-row-of-requires
+row-of-requires c κs = sides (c .before .before .before .before .before .before) .0 .within .there
+
+row-of-requires-2 : tie.Need-row-of-requires-2
+row-of-requires-2 c κs = sides (c .before .before .before .before .before .before .before) .1 .within .there
+
+fits-word-requires : tie.Need-fits-word-requires
+fits-word-requires c κs = search needs
+
+fits-word-requires-2 : tie.Need-fits-word-requires-2
+fits-word-requires-2 c κs = search needs
+
+returns : tie.Need-returns
+returns c = λ e. absurd (false≢true e)
+
+asked-of-requires : tie.Need-asked-of-requires
+asked-of-requires c κs = search needs
+
+is-item-requires : tie.Need-is-item-requires
+is-item-requires c κs = search needs
+
+is-item-requires-2 : tie.Need-is-item-requires-2
+is-item-requires-2 c κs = search needs
+
+relate-fields-requires : tie.Need-relate-fields-requires
+relate-fields-requires c κs =
+    let e = c .before .before .before .before .before .before in
+    let s = entry e in
+    let J = s .pre .0 .0 in
+    let w = worded e in
+    let rows = e .before .before .before .before .before in
+    let i = sym (c .before .before .before .before .is-item .ensures) ∙ c .before .before .before .if2 .taken in
+    let j = sym (c .before .before .is-item2 .ensures) ∙ c .before .if3 .taken in
+    ((J .laid, s .pre .0 .1, s .pre .0 .2), rw (rows .before .row-of .ensures, rows .row-of2 .ensures) (field-of J (sides s .0) i (w .subject), field-of J (sides s .1) j (w .object)))
+
+same-length : tie.Need-same-length
+same-length c = search needs
+
+returns-2 : tie.Need-returns-2
+returns-2 c = λ _ k l.
+    let e = c .before .before .before .before .before .before .before .before .before in
+    let s = entry e in
+    let J = s .pre .0 .0 in
+    let w = worded e in
+    let rows = e .before .before .before .before .before in
+    let i = sym (c .before .before .before .before .before .before .before .is-item .ensures) ∙ c .before .before .before .before .before .before .if2 .taken in
+    let j = sym (c .before .before .before .before .before .is-item2 .ensures) ∙ c .before .before .before .before .if3 .taken in
+    items-right (lent s) (now (s .args .records)) (s .args .from) (s .args .size) (s .args .switches) (s .args .condition) (in-file e .0) (in-file e .1) k
+    (s .pre .1) (w .subject) (w .object) (w .scale) i j (field-of J (sides s .0) i (w .subject) .inside) (field-of J (sides s .1) j (w .object) .inside)
+    (rw (rows .before .row-of .ensures, rows .row-of2 .ensures, c .before .before .before .before .before .before .before .before .asked-of .ensures) at
+    (c .before .before .relate-fields .ensures k l))
+
+relate-literal-requires : tie.Need-relate-literal-requires
+relate-literal-requires c κs =
+    let e = c .before .before .before .before .before .before in
+    let s = entry e in
+    let J = s .pre .0 .0 in
+    let w = worded e in
+    let rows = e .before .before .before .before .before in
+    let i = sym (c .before .before .before .before .is-item .ensures) ∙ c .before .before .before .if2 .taken in (
+      (J .laid, s .pre .0 .1, s .pre .0 .2),
+      (
+        (rw (rows .before .row-of .ensures) (field-of J (sides s .0) i (w .subject)), first-within J),
+        (within-unnamed (sides s .1), omega (arith, sides s .1 .fit .sized, word-size (rowOf (lent s) (s .args .condition .object)) (w .object))),
+      ),
+    )
+
+same-length-2 : tie.Need-same-length-2
+same-length-2 c = search needs
+
+returns-3 : tie.Need-returns-3
+returns-3 c = λ h k l.
+    let e = c .before .before .before .before .before .before .before .before .before in
+    let s = entry e in
+    let J = s .pre .0 .0 in
+    let w = worded e in
+    let rows = e .before .before .before .before .before in
+    let i = sym (c .before .before .before .before .before .before .before .is-item .ensures) ∙ c .before .before .before .before .before .before .if2 .taken in
+    let j = sym (c .before .before .before .before .before .is-item2 .ensures) ∙ c .before .before .before .before .if3 .left in
+    let R = c .before .before .relate-literal .ensures h in
+    object-right (lent s) (now (s .args .records)) (s .args .from) (s .args .size) (s .args .switches) (s .args .condition) (in-file e .0) (in-file e .1) k
+    (s .pre .1) (w .subject) (w .object) (w .scale) (first s) i j (field-of J (sides s .0) i (w .subject) .inside) (R .digits)
+    (rw (rows .before .row-of .ensures, c .before .before .before .before .before .before .before .before .asked-of .ensures) at (R .told k l))
+
+is-item-requires-3 : tie.Need-is-item-requires-3
+is-item-requires-3 c κs = search needs
+
+relate-literal-requires-2 : tie.Need-relate-literal-requires-2
+relate-literal-requires-2 c κs =
+    let e = c .before .before .before .before .before .before in
+    let s = entry e in
+    let J = s .pre .0 .0 in
+    let w = worded e in
+    let rows = e .before .before .before .before .before in
+    let j = sym (c .before .before .is-item3 .ensures) ∙ c .before .if4 .taken in (
+      (J .laid, s .pre .0 .1, s .pre .0 .2),
+      (
+        (rw (rows .row-of2 .ensures) (field-of J (sides s .1) j (w .object)), first-within J),
+        (within-unnamed (sides s .0), omega (arith, sides s .0 .fit .sized, word-size (rowOf (lent s) (s .args .condition .subject)) (w .subject))),
+      ),
+    )
+
+same-length-3 : tie.Need-same-length-3
+same-length-3 c = search needs
+
+returns-4 : tie.Need-returns-4
+returns-4 c = λ h k l.
+    let e = c .before .before .before .before .before .before .before .before .before in
+    let s = entry e in
+    let J = s .pre .0 .0 in
+    let w = worded e in
+    let rows = e .before .before .before .before .before in
+    let i = sym (c .before .before .before .before .before .before .before .is-item .ensures) ∙ c .before .before .before .before .before .before .if2 .left in
+    let j = sym (c .before .before .before .before .before .is-item3 .ensures) ∙ c .before .before .before .before .if4 .taken in
+    let R = c .before .before .relate-literal2 .ensures h in
+    subject-right (lent s) (now (s .args .records)) (s .args .from) (s .args .size) (s .args .switches) (s .args .condition) (in-file e .0) (in-file e .1) k
+    (s .pre .1) (w .subject) (w .object) (w .scale) (first s) i j (field-of J (sides s .1) j (w .object) .inside) (R .digits)
+    (rw (rows .row-of2 .ensures, c .before .before .before .before .before .before .before .before .asked-of .ensures) at (R .told k l))
+
+returns-5 : tie.Need-returns-5
+returns-5 c = λ e. absurd (false≢true e)
+
+pub judge-relation-spec : {M : Type 1} → statement M
+judge-relation-spec =
+    tie.close
+    (tie.spec
+    row-of-requires
+    row-of-requires-2
+    fits-word-requires
+    fits-word-requires-2
+    returns
+    asked-of-requires
+    is-item-requires
+    is-item-requires-2
+    relate-fields-requires
+    same-length
+    returns-2
+    relate-literal-requires
+    same-length-2
+    returns-3
+    is-item-requires-3
+    relate-literal-requires-2
+    same-length-3
+    returns-4
+    returns-5)

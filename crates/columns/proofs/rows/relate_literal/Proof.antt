@@ -1,0 +1,73 @@
+-- The literal's word, and then the field.
+use mathlib.Core.Path.{_≡_, sym, ap, _∙_}
+use mathlib.Core.Bool.{Bool, true, false, _&&_, false≢true}
+use Prim.Native.Nat.{ℕ, _<_, _≤_}
+use native.Mathlib.Omega.{arith}
+use lib.Dec.{eqb}
+use lib.ListN.{length}
+use denote.Ref.{now}
+use borrow.Author.Needs.{needs}
+use borrow.Author.Tests.{not-false, eqb-true}
+use Rattle.tables.specs.Operands.{lendNames, rowOf}
+use Rattle.tables.proofs.Tests.{both}
+use Rattle.values.proofs.Reading.{read-relation, read-class}
+use Rattle.digit_words.specs.Words.{digitWord, digitsIn, fitsWord}
+use Rattle.digit_words.proofs.WordLaws.{Bytes, bytes-of}
+use Rattle.columns.proofs.Sides.{first-readable, first-within, field-of, items-right, object-right, subject-right, numeric-right}
+use borrow.Author.Needs.{needs}
+use Rattle.columns.proofs.rows.relate_literal.Statement.{statement}
+use Rattle.columns.proofs.rows.relate_literal.Tie as tie
+
+add-first : tie.Need-add-first
+add-first c = omega (arith, c .before .before .before .before .before .pre .1 .0 .1)
+
+sub-first : tie.Need-sub-first
+sub-first c = search needs
+
+part-first-start : tie.Need-part-first-start
+part-first-start c = search needs
+
+part-first-end : tie.Need-part-first-end
+part-first-end c = omega (arith, c .before .before .before .before .before .pre .1 .0 .1)
+
+operand-bytes-requires : tie.Need-operand-bytes-requires
+operand-bytes-requires c κs = c .before .before .before .before .before .before .pre .1 .1 .0
+
+short-word-requires : tie.Need-short-word-requires
+short-word-requires c κs = rw (c .operand-bytes .ensures) (c .before .before .before .before .before .before .before .pre .1 .1 .1)
+
+all-digits-requires : tie.Need-all-digits-requires
+all-digits-requires c κs = search needs
+
+returns : tie.Need-returns
+returns c = λ e. absurd (false≢true e)
+
+relate-field-requires : tie.Need-relate-field-requires
+relate-field-requires c κs = search needs
+
+same-length : tie.Need-same-length
+same-length c = search needs
+
+returns-2 : tie.Need-returns-2
+returns-2 c = λ _.
+    let e = (c .before .before .before .before .before .before .short-word .ensures ∙ ap digitWord (c .before .before .before .before .before .before .before .operand-bytes .ensures)) in
+    record {
+      digits = rw e at (sym (c .before .before .before .before .before .all-digits .ensures) ∙ not-false _ (c .before .before .before .before .if1 .left));
+      told = λ k l. rw e at (c .before .before .relate-field .ensures k l);
+    }
+
+pub relate-literal-spec : {M : Type 1} → statement M
+relate-literal-spec =
+    tie.close
+    (tie.spec
+    add-first
+    sub-first
+    part-first-start
+    part-first-end
+    operand-bytes-requires
+    short-word-requires
+    all-digits-requires
+    returns
+    relate-field-requires
+    same-length
+    returns-2)

@@ -1,4 +1,0 @@
-pub mod Telling
-pub mod Listed
-pub mod Merged
-pub mod Swept

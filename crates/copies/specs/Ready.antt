@@ -1,0 +1,13 @@
+-- What going over three copies of a record needs.
+use mathlib.Core.Path.{_≡_}
+use Prim.Native.Nat.{ℕ, _+_, _≤_, _<_}
+use lib.ListN.{length}
+use Rattle.tables.specs.Rows.{rowAt, rowCount}
+use Rattle.merging.specs.Merge.{Copies}
+
+-- the copies are equally long, every row lies in them, and so many bytes of output are lent
+pub record Ready (copies : Copies) (out : ℕ) : Type 0 where
+  pub lies : (v : ℕ) → v < rowCount (copies .items) → rowAt (copies .items) v .offset + rowAt (copies .items) v .size ≤ length (copies .old)
+  pub first-long : length (copies .first) ≡ length (copies .old)
+  pub second-long : length (copies .second) ≡ length (copies .old)
+  pub out-long : out ≡ length (copies .old)

@@ -1,0 +1,6 @@
+pub mod WordLaws
+pub mod TestLaws
+pub mod OrderLaws
+pub mod FieldLaws
+pub mod AskedLaws
+pub mod Outcomes

@@ -1,0 +1,110 @@
+// A relation or a class test of the records that stand at a row: 0 for false, 1 for true, 2 where it stops.
+ghost use mathlib.Core.Path.{_≡_};
+ghost use mathlib.Core.Bool.{true, cond};
+ghost use Prim.Native.Nat.{ℕ, _+_, _<_, _≤_};
+ghost use lib.ListN.{length, getD};
+ghost use Rattle.tables.specs.Rows.{part};
+ghost use Rattle.values.specs.Comparison.{side};
+ghost use Rattle.values.specs.Truth.{relationOutcome, classOutcome, Fit};
+ghost use Rattle.columns.specs.Columns.{recordAt, Right, Laid};
+use compare::classes::class_holds;
+use tables::Outcome;
+use tables::Row;
+use tables::rows::row_part;
+use truth::conditions::sides_outcome;
+use truth::conditions::truth_value;
+
+fn truth_number(found: Outcome) -> u8
+    ensures { λ r. ⌜ Right found r ⌝ }
+{
+    match found {
+        Outcome::True => 1,
+        Outcome::False => 0,
+        Outcome::Stopped(stop) => 2,
+    }
+}
+
+// The bytes of a side: an item's are part of the record.
+fn side_bytes<'a>(item: bool, row: Row, record: &'a [u8], literal: &'a [u8]) -> &'a [u8]
+    requires { ⌜ (item ≡ true → row .offset + row .size ≤ length (now «record»)) ⌝ }
+    ensures { λ r. ⌜ now r ≡ cond item (part row (now («record» .entry))) (now (literal .entry)) ⌝ }
+{
+    if item {
+        return row_part(row, record);
+    }
+    literal
+}
+
+pub(crate) fn relate_each<'a>(
+    records: &'a [u8],
+    from: usize,
+    size: usize,
+    n: usize,
+    item1: bool,
+    row1: Row,
+    left: &'a [u8],
+    item2: bool,
+    row2: Row,
+    right: &'a [u8],
+    word: u32,
+    negated: bool,
+    at: &[u8],
+    place: u8,
+    truths: &mut [u8],
+)
+    requires { ⌜ Laid (now records) from size n × (length (now at) ≡ 64) × (length (now truths) ≡ 64) ⌝ }
+    requires { ⌜ ((k : ℕ) → k < n → Fit (side item1 row1 (cond item1 (part row1 (recordAt (now records) from size k)) (now left))) × Fit (side item2 row2 (cond item2 (part row2 (recordAt (now records) from size k)) (now right)))) ⌝ }
+    ensures { λ _. ⌜ ((k : ℕ) → k < n → getD (now (at .entry)) k 0 ≡ place → Right (relationOutcome word negated (side item1 row1 (cond item1 (part row1 (recordAt (now (records .entry)) from size k)) (now (left .entry)))) (side item2 row2 (cond item2 (part row2 (recordAt (now (records .entry)) from size k)) (now (right .entry))))) (getD (now (truths .exit)) k 0)) ⌝ }
+{
+    let mut base = from;
+    let mut j: usize = 0;
+    while j < n {
+        if at[j] == place {
+            let record = &records[base..base + size];
+            let first = side_bytes(item1, row1, record, left);
+            let second = side_bytes(item2, row2, record, right);
+            truths[j] = truth_number(sides_outcome(
+                item1,
+                row1,
+                first,
+                item2,
+                row2,
+                second,
+                word,
+                negated,
+            ));
+        }
+        base += size;
+        j += 1;
+    }
+}
+
+pub(crate) fn classify_each(
+    records: &[u8],
+    from: usize,
+    size: usize,
+    n: usize,
+    row: Row,
+    word: u32,
+    negated: bool,
+    at: &[u8],
+    place: u8,
+    truths: &mut [u8],
+)
+    requires { ⌜ Laid (now records) from size n × (length (now at) ≡ 64) × (length (now truths) ≡ 64) ⌝ }
+    requires { ⌜ ((k : ℕ) → k < n → Fit (side true row (part row (recordAt (now records) from size k)))) ⌝ }
+    ensures { λ _. ⌜ ((k : ℕ) → k < n → getD (now (at .entry)) k 0 ≡ place → Right (classOutcome word negated (side true row (part row (recordAt (now (records .entry)) from size k)))) (getD (now (truths .exit)) k 0)) ⌝ }
+{
+    let mut base = from;
+    let mut j: usize = 0;
+    while j < n {
+        if at[j] == place {
+            let record = &records[base..base + size];
+            let bytes = row_part(row, record);
+            let holds = class_holds(word, row.kind, row.digits, bytes);
+            truths[j] = truth_number(truth_value(negated, holds));
+        }
+        base += size;
+        j += 1;
+    }
+}

@@ -1,0 +1,169 @@
+// Which rows are judged record by record with their sides looked up once: relations, and class tests of items.
+ghost use mathlib.Core.Path.{_≡_};
+ghost use mathlib.Core.Bool.{true};
+ghost use Prim.Native.Nat.{ℕ, _<_};
+ghost use lib.ListN.{length, getD};
+ghost use Rattle.tables.specs.Operands.{lendNames};
+ghost use Rattle.typing.specs.declared.Test.the-variants.{Relation, Class};
+ghost use Rattle.typing.specs.Tests.{testOf};
+ghost use Rattle.columns.specs.Columns.{outcomeAt, Right, Judgeable};
+use crate::each::classify_each;
+use crate::each::relate_each;
+use grammar::PlanRow;
+use tables::operands::operand_bytes;
+use tables::operands::row_of;
+use tables::tokens::is_item;
+use typing::Test;
+use typing::shape::test_of;
+
+fn judge_relation<'a>(
+    items: &[u32],
+    literals: &[u32],
+    bytes: &'a [u8],
+    names: &[u32],
+    records: &'a [u8],
+    from: usize,
+    size: usize,
+    n: usize,
+    switches: u8,
+    condition: PlanRow,
+    word: u32,
+    negated: bool,
+    at: &[u8],
+    place: u8,
+    truths: &mut [u8],
+)
+    requires { ⌜ Judgeable (lendNames (now items) (now literals) (now bytes) (now names)) (now records) from size n condition × (length (now at) ≡ 64) × (length (now truths) ≡ 64) ⌝ }
+    requires { ⌜ testOf (condition .relation) ≡ Relation word negated ⌝ }
+    ensures { λ _. ⌜ ((k : ℕ) → k < n → getD (now (at .entry)) k 0 ≡ place → Right (outcomeAt (lendNames (now (items .entry)) (now (literals .entry)) (now (bytes .entry)) (now (names .entry))) (now (records .entry)) from size switches condition k) (getD (now (truths .exit)) k 0)) ⌝ }
+{
+    let subject = condition.subject;
+    let object = condition.object;
+    let first = &records[from..from + size];
+    let row1 = row_of(subject, items, literals);
+    let row2 = row_of(object, items, literals);
+    let left = operand_bytes(subject, items, literals, bytes, first);
+    let right = operand_bytes(object, items, literals, bytes, first);
+    let item1 = is_item(subject);
+    let item2 = is_item(object);
+    relate_each(
+        records,
+        from,
+        size,
+        n,
+        item1,
+        row1,
+        left,
+        item2,
+        row2,
+        right,
+        word,
+        negated,
+        at,
+        place,
+        truths,
+    );
+}
+
+fn judge_class<'a>(
+    items: &[u32],
+    literals: &[u32],
+    bytes: &'a [u8],
+    names: &[u32],
+    records: &'a [u8],
+    from: usize,
+    size: usize,
+    n: usize,
+    switches: u8,
+    condition: PlanRow,
+    word: u32,
+    negated: bool,
+    at: &[u8],
+    place: u8,
+    truths: &mut [u8],
+)
+    requires { ⌜ Judgeable (lendNames (now items) (now literals) (now bytes) (now names)) (now records) from size n condition × (length (now at) ≡ 64) × (length (now truths) ≡ 64) ⌝ }
+    requires { ⌜ testOf (condition .relation) ≡ Class word negated ⌝ }
+    ensures { λ _. ⌜ ((k : ℕ) → k < n → getD (now (at .entry)) k 0 ≡ place → Right (outcomeAt (lendNames (now (items .entry)) (now (literals .entry)) (now (bytes .entry)) (now (names .entry))) (now (records .entry)) from size switches condition k) (getD (now (truths .exit)) k 0)) ⌝ }
+{
+    let row = row_of(condition.subject, items, literals);
+    classify_each(
+        records,
+        from,
+        size,
+        n,
+        row,
+        word,
+        negated,
+        at,
+        place,
+        truths,
+    );
+}
+
+// Whether a row is judged here; if so, its truths for each record that stands at it.
+pub fn judge_fields<'a>(
+    items: &[u32],
+    literals: &[u32],
+    bytes: &'a [u8],
+    names: &[u32],
+    records: &'a [u8],
+    from: usize,
+    size: usize,
+    n: usize,
+    switches: u8,
+    condition: PlanRow,
+    at: &[u8],
+    place: u8,
+    truths: &mut [u8],
+) -> bool
+    requires { ⌜ Judgeable (lendNames (now items) (now literals) (now bytes) (now names)) (now records) from size n condition × (length (now at) ≡ 64) × (length (now truths) ≡ 64) ⌝ }
+    ensures { λ r. ⌜ (r ≡ true → (k : ℕ) → k < n → getD (now (at .entry)) k 0 ≡ place → Right (outcomeAt (lendNames (now (items .entry)) (now (literals .entry)) (now (bytes .entry)) (now (names .entry))) (now (records .entry)) from size switches condition k) (getD (now (truths .exit)) k 0)) ⌝ }
+{
+    let test = test_of(condition.relation);
+    match test {
+        Test::Relation { word, negated } => {
+            judge_relation(
+                items,
+                literals,
+                bytes,
+                names,
+                records,
+                from,
+                size,
+                n,
+                switches,
+                condition,
+                word,
+                negated,
+                at,
+                place,
+                truths,
+            );
+            true
+        }
+        Test::Class { word, negated } => {
+            judge_class(
+                items,
+                literals,
+                bytes,
+                names,
+                records,
+                from,
+                size,
+                n,
+                switches,
+                condition,
+                word,
+                negated,
+                at,
+                place,
+                truths,
+            );
+            true
+        }
+        Test::Alone => false,
+        Test::Sign { word, negated } => false,
+        Test::Unknown => false,
+    }
+}

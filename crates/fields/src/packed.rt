@@ -1,0 +1,65 @@
+// Packed fields: digits and the sign in half-bytes.
+ghost use mathlib.Core.Path.{_≡_};
+ghost use mathlib.Core.Bool.{_&&_};
+ghost use Prim.Native.Nat.{_≤_};
+ghost use lib.ListN.{length};
+ghost use Rattle.content.specs.Packed.{isPacked, leftHalf, twoDigits, digitAndSign, leads, packedRight};
+ghost use Rattle.content.specs.Content.{all, firstByte, lastByte, butLast};
+
+pub fn is_packed(kind: u32) -> bool
+    ensures { λ r. ⌜ r ≡ isPacked kind ⌝ }
+{
+    (kind == 8) | (kind == 9)
+}
+
+pub fn left_half(b: u8) -> u8
+    ensures { λ r. ⌜ r ≡ leftHalf b ⌝ }
+{
+    b / 16 % 16
+}
+
+pub fn two_digits(b: u8) -> bool
+    ensures { λ r. ⌜ r ≡ twoDigits b ⌝ }
+{
+    (b / 16 % 16 <= 9) & (b % 16 <= 9)
+}
+
+pub fn digit_and_sign(kind: u32, b: u8) -> bool
+    ensures { λ r. ⌜ r ≡ digitAndSign kind b ⌝ }
+{
+    (b / 16 % 16 <= 9) & ((b % 16 == 3) | ((b % 16 == 4) & (kind == 8)))
+}
+
+// Whether the first byte may lead so many digits.
+pub fn may_lead(digits: u32, b: u8) -> bool
+    ensures { λ r. ⌜ r ≡ leads digits b ⌝ }
+{
+    !(digits % 2 == 0) | (b / 16 % 16 == 0)
+}
+
+fn all_two_digits(bytes: &[u8]) -> bool
+    ensures { λ r. ⌜ r ≡ all twoDigits (now (bytes .entry)) ⌝ }
+{
+    let mut fine = true;
+    let mut k: usize = 0;
+    while k < bytes.len() {
+        fine = fine & two_digits(bytes[k]);
+        k += 1;
+    }
+    fine
+}
+
+pub(crate) fn packed_valid(kind: u32, digits: u32, bytes: &[u8]) -> bool
+    requires { ⌜ 1 ≤ length (now bytes) ⌝ }
+    ensures { λ r. ⌜ r ≡ (all twoDigits (butLast (now (bytes .entry))) && digitAndSign kind (lastByte (now (bytes .entry))) && leads digits (firstByte (now (bytes .entry)))) ⌝ }
+{
+    let last = bytes.len() - 1;
+    let pairs = all_two_digits(&bytes[..last]);
+    pairs & digit_and_sign(kind, bytes[last]) & may_lead(digits, bytes[0])
+}
+
+pub(crate) fn packed_right(kind: u32, digits: u32, first: bool, last: bool, b: u8) -> bool
+    ensures { λ r. ⌜ r ≡ packedRight kind digits first last b ⌝ }
+{
+    (!last | digit_and_sign(kind, b)) & (last | two_digits(b)) & (!first | may_lead(digits, b))
+}

@@ -1,0 +1,3 @@
+// What a rule looks at, listed in an output.
+
+pub mod lists; // marked rows in an output

@@ -1,0 +1,130 @@
+// What a numeric field holds, in one pass over its bytes.
+ghost use mathlib.Core.Path.{_≡_};
+ghost use mathlib.Core.Bool.{true};
+ghost use Prim.Native.Nat.{ℕ, _≤_};
+ghost use lib.ListN.{length};
+ghost use Rattle.content.specs.Content.{digitBytes};
+ghost use Rattle.content.specs.Packed.{isPacked};
+ghost use Rattle.compare.specs.Compared.{numberOf, pairsOf};
+ghost use Rattle.compare.specs.Fields.{NumberField};
+use compare::Number;
+use content::marks::is_digit;
+use content::marks::marks;
+use fields::held::is_minus;
+use fields::held::is_sign;
+use fields::held::is_signed_digit;
+use fields::packed::digit_and_sign;
+use fields::packed::is_packed;
+use fields::packed::left_half;
+use fields::packed::may_lead;
+use fields::packed::two_digits;
+
+fn wide(x: u8) -> u64
+    ensures { λ r. ⌜ r ≡ x ⌝ }
+{
+    x as u64
+}
+
+// A field of digits only, as kind 3 is. A digit is the right half of its byte, valid or not, so that each field's number fits.
+fn read_digits(bytes: &[u8]) -> Number
+    requires { ⌜ length (now bytes) ≤ 18 ⌝ }
+    ensures { λ r. ⌜ r ≡ numberOf 3 0 (now (bytes .entry)) ⌝ }
+{
+    let marks = marks();
+    let mut fine = true;
+    let mut n: u64 = 0;
+    let mut i: usize = 0;
+    while i < bytes.len() {
+        let b = bytes[i];
+        fine = fine & is_digit(&marks, b);
+        n = n * 10 + wide(b % 16);
+        i += 1;
+    }
+    Number {
+        valid: fine,
+        minus: false,
+        digits: n,
+    }
+}
+
+// Bytes of two digits each. A half is taken as it is, a digit or not, so that nine bytes' number fits.
+fn read_pairs(bytes: &[u8]) -> Number
+    requires { ⌜ length (now bytes) ≤ 9 ⌝ }
+    ensures { λ r. ⌜ r ≡ pairsOf (now (bytes .entry)) ⌝ }
+{
+    let mut fine = true;
+    let mut n: u64 = 0;
+    let mut i: usize = 0;
+    while i < bytes.len() {
+        let b = bytes[i];
+        fine = fine & two_digits(b);
+        n = n * 100 + wide(left_half(b)) * 10 + wide(b % 16);
+        i += 1;
+    }
+    Number {
+        valid: fine,
+        minus: false,
+        digits: n,
+    }
+}
+
+// A packed field: pairs of digits, and a last byte of a digit and the sign.
+fn read_packed(kind: u32, digits: u32, bytes: &[u8]) -> Number
+    requires { ⌜ isPacked kind ≡ true ⌝ }
+    requires { ⌜ (1 ≤ length (now bytes)) × (length (now bytes) ≤ 10) ⌝ }
+    ensures { λ r. ⌜ r ≡ numberOf kind digits (now (bytes .entry)) ⌝ }
+{
+    let last = bytes.len() - 1;
+    let pairs = read_pairs(&bytes[..last]);
+    let b = bytes[last];
+    Number {
+        valid: pairs.valid & digit_and_sign(kind, b) & may_lead(digits, bytes[0]),
+        minus: is_minus(kind, bytes),
+        digits: pairs.digits * 10 + wide(left_half(b)),
+    }
+}
+
+// A field of kinds 3 to 6. How many digits it has, its bytes tell.
+fn read_display(kind: u32, bytes: &[u8]) -> Number
+    requires { ⌜ (3 ≤ kind) × (kind ≤ 6) ⌝ }
+    requires { ⌜ (1 ≤ length (now bytes)) × (length (digitBytes kind (now bytes)) ≤ 18) ⌝ }
+    ensures { λ r. ⌜ ((digits : ℕ) → r ≡ numberOf kind digits (now (bytes .entry))) ⌝ }
+{
+    if kind == 3 {
+        return read_digits(bytes);
+    }
+    if kind == 5 {
+        let rest = read_digits(&bytes[1..]);
+        return Number {
+            valid: is_sign(bytes[0]) & rest.valid,
+            minus: is_minus(kind, bytes),
+            digits: rest.digits,
+        };
+    }
+    let last = bytes.len() - 1;
+    let rest = read_digits(&bytes[..last]);
+    let b = bytes[last];
+    if kind == 4 {
+        return Number {
+            valid: rest.valid & is_signed_digit(b),
+            minus: is_minus(kind, bytes),
+            digits: rest.digits * 10 + wide(b % 16),
+        };
+    }
+    Number {
+        valid: rest.valid & is_sign(b),
+        minus: is_minus(kind, bytes),
+        digits: rest.digits,
+    }
+}
+
+// All that a numeric field holds, in one pass over its bytes.
+pub fn read_number(kind: u32, digits: u32, bytes: &[u8]) -> Number
+    requires { ⌜ NumberField kind (now bytes) ⌝ }
+    ensures { λ r. ⌜ r ≡ numberOf kind digits (now (bytes .entry)) ⌝ }
+{
+    if is_packed(kind) {
+        return read_packed(kind, digits, bytes);
+    }
+    read_display(kind, bytes)
+}

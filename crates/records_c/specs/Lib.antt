@@ -1,0 +1,5 @@
+pub mod Mending
+pub mod Merging
+pub mod Sweeping
+pub mod Differences
+pub mod Looking

@@ -1,0 +1,30 @@
+-- What reading a text leaves in the buffers.
+use mathlib.Core.Path.{_≡_}
+use mathlib.Core.Bool.{Bool, true, false}
+use mathlib.Core.List.{List, map}
+use Prim.Native.Nat.{ℕ, _*_, _≤_}
+use lib.ListN.{length}
+use Rattle.description.specs.Grammar.{Entry, Condition}
+use Rattle.description.specs.Limits.{nameMarks}
+use Rattle.description.specs.Reader.{Parts, parts, tableOf, Reading, read, faulty, readText}
+use Rattle.description.specs.Stages.{firstOver, ownRows}
+use Rattle.entries.specs.declared.Noted.{Noted}
+use Rattle.entries.specs.Entries.{capNoted, entryOf}
+use Rattle.storing.specs.Stored.{notedFrom, Scaled}
+use Rattle.storing.specs.Naming.{limitOf, Stores}
+use Rattle.storing.specs.declared.Found.{Found}
+
+abbrev pub readingOf : Bool → Parts → ℕ → Reading
+readingOf true d place = read (tableOf d)
+readingOf false d place = faulty d place
+
+-- The buffers hold the complete entries of the text, with counts that stop at 65,536, and the answer says what the reading is.
+pub record ReadBy (text reading-of : List ℕ) (is : Reading) (flat rows places notes : List ℕ) (r : Found) : Type 0 where
+  pub exact : List Noted
+  pub conditions : List Condition
+  pub held : notedFrom flat 0 (r .count) ≡ map capNoted exact
+  pub scaled : Scaled exact
+  pub reading : is ≡ readingOf (r .whole) (parts (map entryOf exact) conditions) (r .place)
+  pub few : 5 * r .count ≤ 4096
+  pub limit : firstOver (nameMarks 0 0 (ownRows (map entryOf exact)) conditions) ≡ limitOf (r .names)
+  pub stores : r .whole ≡ true → r .names .over ≡ false → Stores text conditions (r .names) rows places notes

@@ -1,0 +1,5 @@
+pub mod Laying
+pub mod Going
+pub mod Small
+pub mod Lines
+pub mod Blocks

@@ -1,0 +1,29 @@
+// The kind of an item in words.
+ghost use mathlib.Core.List.{_++_};
+ghost use Prim.Native.Nat.{_-_};
+ghost use lib.ListN.{length, replicate};
+ghost use Rattle.lines.specs.Put.{Puts};
+ghost use Rattle.wordings.specs.Sentences.{kindWords};
+use lines::text::put_column;
+use lines::text::put_spaces;
+
+// What a row's kind is called, nothing for a number that is no kind; spaces after it up to a width.
+pub fn put_kind(out: &mut [u8], at: usize, kind: u32, width: usize) -> usize
+    ensures { λ r. ⌜ Puts (now (out .entry)) at (kindWords kind ++ replicate (width - length (kindWords kind)) 0x20) r (now (out .exit)) ⌝ }
+{
+    if kind > 9 {
+        return put_spaces(out, at, width);
+    }
+    match kind {
+        0 => put_column(out, at, b"group", width),
+        1 => put_column(out, at, b"alphabetic", width),
+        2 => put_column(out, at, b"alphanumeric", width),
+        3 => put_column(out, at, b"unsigned", width),
+        4 => put_column(out, at, b"signed in its last byte", width),
+        5 => put_column(out, at, b"sign leading", width),
+        6 => put_column(out, at, b"sign trailing", width),
+        7 => put_column(out, at, b"group without sign", width),
+        8 => put_column(out, at, b"packed, signed", width),
+        _ => put_column(out, at, b"packed, unsigned", width),
+    }
+}

@@ -1,0 +1,114 @@
+      *> A description and a rule, loaded from DESCRIPTION-FILE and
+      *> RULE-FILE, read as printed and planned: once for a run.
+       PREPARE-RULE.
+           PERFORM LOAD-DESCRIPTION
+           PERFORM LOAD-RULE
+           PERFORM READ-DESCRIPTION
+           PERFORM READ-RULE
+           PERFORM PLAN-RULE.
+       LOAD-DESCRIPTION.
+           MOVE 0 TO LINE-NUMBER
+           OPEN INPUT DESCRIPTION-FILE
+           PERFORM READ-DESCRIPTION-LINE
+           PERFORM UNTIL AT-END-OF-FILE
+               IF LINE-NUMBER = DESCRIPTION-LINES
+               OR DESCRIPTION-OVERFLOW NOT = SPACES
+                   DISPLAY "THE DESCRIPTION IS TOO LONG OR TOO WIDE"
+                   STOP RUN
+               END-IF
+               ADD 1 TO LINE-NUMBER
+               MOVE DESCRIPTION-CARD TO DESCRIPTION-PART (LINE-NUMBER)
+               PERFORM READ-DESCRIPTION-LINE
+           END-PERFORM
+           CLOSE DESCRIPTION-FILE.
+       READ-DESCRIPTION-LINE.
+           SET NOT-AT-END-OF-FILE TO TRUE
+           READ DESCRIPTION-FILE
+               AT END SET AT-END-OF-FILE TO TRUE
+           END-READ.
+       LOAD-RULE.
+           MOVE 0 TO LINE-NUMBER
+           OPEN INPUT RULE-FILE
+           PERFORM READ-RULE-LINE
+           PERFORM UNTIL AT-END-OF-FILE
+               IF LINE-NUMBER = RULE-LINES
+               OR RULE-OVERFLOW NOT = SPACES
+                   DISPLAY "THE RULE IS TOO LONG OR TOO WIDE"
+                   STOP RUN
+               END-IF
+               ADD 1 TO LINE-NUMBER
+               MOVE RULE-CARD TO RULE-PART (LINE-NUMBER)
+               PERFORM READ-RULE-LINE
+           END-PERFORM
+           CLOSE RULE-FILE.
+       READ-RULE-LINE.
+           SET NOT-AT-END-OF-FILE TO TRUE
+           READ RULE-FILE
+               AT END SET AT-END-OF-FILE TO TRUE
+           END-READ.
+      *> The literals of its condition-names are written again with
+      *> those of the rule, which come after them. The first entry of
+      *> the description is the whole record.
+       READ-DESCRIPTION.
+           CALL STATIC "oboecurlew_describe" USING
+               BY REFERENCE DESCRIPTION-TEXT BY VALUE DESCRIPTION-SIZE
+               BY REFERENCE ITEM-NUMBERS     BY VALUE ROW-ROOM
+               BY REFERENCE PLACES           BY VALUE PLACE-ROOM
+               BY REFERENCE CONDITION-NAMES  BY VALUE NAME-ROOM
+               BY REFERENCE CONDITION-PLACES BY VALUE PLACE-ROOM
+               BY REFERENCE LITERAL-NUMBERS  BY VALUE ROW-ROOM
+               BY REFERENCE LITERAL-BYTES    BY VALUE BYTE-ROOM
+               BY REFERENCE OBOECURLEW-ANSWER
+               RETURNING OBOECURLEW-REFUSAL
+           END-CALL
+           PERFORM STOP-IF-REFUSED
+           MOVE FIRST-WRITTEN TO ITEM-COUNT
+           MOVE THIRD-WRITTEN TO NAME-COUNT
+           MOVE ROW-SIZE (1) TO ENTRY-SIZE
+           IF ENTRY-SIZE > ENTRY-LINE-SIZE
+               DISPLAY "AN ENTRY IS LONGER THAN A LINE"
+               STOP RUN
+           END-IF.
+       READ-RULE.
+           CALL STATIC "oboecurlew_read" USING
+               BY REFERENCE DESCRIPTION-TEXT BY VALUE DESCRIPTION-SIZE
+               BY REFERENCE RULE-TEXT        BY VALUE RULE-SIZE
+               BY REFERENCE TOKENS           BY VALUE TOKEN-ROOM
+               BY REFERENCE LITERAL-NUMBERS  BY VALUE ROW-ROOM
+               BY REFERENCE LITERAL-BYTES    BY VALUE BYTE-ROOM
+               BY REFERENCE OBOECURLEW-ANSWER
+               RETURNING OBOECURLEW-REFUSAL
+           END-CALL
+           PERFORM STOP-IF-REFUSED
+           MOVE FIRST-WRITTEN  TO TOKEN-COUNT
+           MOVE SECOND-WRITTEN TO LITERAL-COUNT
+           MOVE THIRD-WRITTEN  TO BYTE-COUNT.
+       PLAN-RULE.
+           CALL STATIC "oboecurlew_plan" USING
+               BY REFERENCE ITEM-NUMBERS    BY VALUE ITEM-COUNT
+               BY REFERENCE LITERAL-NUMBERS BY VALUE LITERAL-COUNT
+               BY REFERENCE LITERAL-BYTES   BY VALUE BYTE-COUNT
+               BY REFERENCE CONDITION-NAMES BY VALUE NAME-COUNT
+               BY REFERENCE TOKENS          BY VALUE TOKEN-COUNT
+               BY REFERENCE PLAN-NUMBERS    BY VALUE PLAN-ROOM
+               BY REFERENCE OBOECURLEW-ANSWER
+               RETURNING OBOECURLEW-REFUSAL
+           END-CALL
+           PERFORM STOP-IF-REFUSED
+           MOVE FIRST-WRITTEN TO PLAN-COUNT.
+      *> The name of the item whose row is ROW-NUMBER, counted from 1.
+      *> It ends at a blank or at the period of its entry.
+       FIND-ITEM-NAME.
+           COMPUTE NAME-START = NAME-PLACE (ROW-NUMBER) + 1
+           MOVE SPACES TO ITEM-NAME
+           UNSTRING DESCRIPTION-TEXT DELIMITED BY SPACE OR "."
+               INTO ITEM-NAME
+               WITH POINTER NAME-START
+           END-UNSTRING.
+       STOP-IF-REFUSED.
+           IF REFUSED
+               MOVE OBOECURLEW-REFUSAL TO SHOWN-NUMBER
+               MOVE ANSWER-VALUE TO SHOWN-VALUE
+               DISPLAY "REFUSED WITH" SHOWN-NUMBER " AT" SHOWN-VALUE
+               STOP RUN
+           END-IF.
