@@ -34,6 +34,23 @@ pub(crate) fn open(i: usize) -> i32 {
     file
 }
 
+// Whether reading stopped because the file ends there, and not because it failed: half a rule may be a rule that says something else.
+pub(crate) fn at_end(i: usize, file: i32) -> bool {
+    let mut name = io::buffer();
+    let n = os::arg(i, &mut name);
+    let mut more = [0u8; 1];
+    let got = libc::read(file, &mut more);
+    if got == 0 {
+        return true;
+    }
+    if got < 0 {
+        os::fail(front_bytes(&name, n));
+    } else {
+        complaint(i, b": this file could not be read to its end\n");
+    }
+    false
+}
+
 // All of the file that argument i names. The room is one byte more than it may have.
 pub(crate) fn load(i: usize, bytes: &mut [u8]) -> Loaded {
     let file = open(i);
@@ -41,12 +58,16 @@ pub(crate) fn load(i: usize, bytes: &mut [u8]) -> Loaded {
         return Loaded::Failed;
     }
     let count = io::read_full(file, bytes);
-    libc::close(file);
-    if count == bytes.len() {
+    let fits = count < bytes.len();
+    if !fits {
         complaint(i, b": this file is too long\n");
-        return Loaded::Failed;
     }
-    Loaded::Bytes(count)
+    let whole = fits && at_end(i, file);
+    libc::close(file);
+    if whole {
+        return Loaded::Bytes(count);
+    }
+    Loaded::Failed
 }
 
 // Whether nothing has the name that argument i gives, so that a new file may take it.

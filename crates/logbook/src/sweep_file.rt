@@ -1,5 +1,6 @@
 // sweep: one rule over a file of entries of the description's length, read in parts that are whole entries.
 ghost use Prim.Native.Nat.{_≤_};
+use crate::files::at_end;
 use crate::files::open;
 use crate::files::wide;
 use crate::print::complaint;
@@ -347,10 +348,13 @@ fn one_part(
         size,
         totals,
     );
-    if n < wanted {
+    if n == wanted {
+        return swept;
+    }
+    if at_end(4, file) {
         return checked_end(swept, size, rest);
     }
-    swept
+    with_refusal(swept)
 }
 
 // The file, part by part.
