@@ -6,7 +6,7 @@ use mathlib.Core.List.{List, [], _∷_, _++_, map}
 use Prim.Native.Nat.{ℕ, zero, suc, _+_, _*_, _-_, _≤_, _<_}
 use lib.Dec.{leb, ltb}
 use lib.ListN.{length, take, drop, replicate}
-use Rattle.tables.specs.declared.Row as Rules
+use Rattle.content.specs.declared.Row as Rules
 use Rattle.description.specs.Grammar.{Row, Literal, literalRow, Value, Pair, pairs, literals, literalBytes}
 use Rattle.description.specs.Limits.{ruled, anyBarred}
 use Rattle.description.specs.Reader.{Naming, label, values, labelled, faulty}
