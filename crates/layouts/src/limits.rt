@@ -11,10 +11,10 @@ fn most_of(kind: u32) -> usize
     if (kind == Row::GROUP) | (kind == Row::UNSIGNED_GROUP) {
         return 65535;
     }
-    if kind <= 2 {
+    if (kind == Row::ALPHABETIC) | (kind == Row::ALPHANUMERIC) {
         return 256;
     }
-    if kind <= 4 {
+    if (kind == Row::UNSIGNED) | (kind == Row::SIGNED) {
         return 18;
     }
     19

@@ -26,7 +26,7 @@ rowBy n p signed =
       offset = 0;
       size = cond (ltb p n) (n - 1) n;
       scale = n - suc p;
-      digits = literalDigits (cond signed 5 3) (cond (ltb p n) (n - 1) n);
+      digits = literalDigits (cond signed kindSignLeading kindUnsigned) (cond (ltb p n) (n - 1) n);
     }
 
 -- A nonnumeric literal after its opening quote, byte by byte: whether it closes at its end, and the bytes that it holds. `pending`: the

@@ -16,6 +16,7 @@ use Rattle.name_entries.specs.Taking.{noteNumbers}
 use Rattle.name_entries.specs.declared.Tally.{Tally}
 use Rattle.name_entries.specs.declared.NameRead.{NameRead}
 use Rattle.name_entries.specs.declared.NameRead.the-variants.{Whole, Fault}
+use Rattle.tables.specs.Rows.{nameWidth}
 
 -- where a literal stands in the text, and the literals that stand in such places
 pub record Span : Type 0 where
@@ -69,7 +70,7 @@ pub record Left (text : List ℕ) (ss : List Span) (vs : List Value) (t : Tally)
 pub record Begun (text : List ℕ) (t : Tally) (row notes : List ℕ) : Type 0 where
   pub short : length text ≤ 4096
   pub values : t .values ≡ 0
-  pub zeros : row ≡ replicate 18 0
+  pub zeros : row ≡ replicate nameWidth 0
   pub long : 448 ≤ length notes
   pub spans : List Span
   pub noted : t .over ≡ false → Noted text notes t spans

@@ -24,6 +24,7 @@ use tables::tokens::LITERAL;
 use tables::tokens::NAME;
 use tables::tokens::SPAN;
 use tables::tokens::SWITCH_ON;
+use vocabulary::spellings::AT_SWITCHES;
 use vocabulary::spellings::copy_word;
 use vocabulary::spellings::word_size;
 
@@ -91,7 +92,7 @@ pub(crate) fn token_size(
         return literal_size(row_at(literals, v), bytes);
     }
     if kind == SWITCH_ON {
-        return word_size(17 + v);
+        return word_size(AT_SWITCHES + v);
     }
     if kind == NAME {
         return name_size(description, places[items + v]);
@@ -123,7 +124,7 @@ pub(crate) fn put_token(
         return;
     }
     if kind == SWITCH_ON {
-        copy_word(17 + v, out);
+        copy_word(AT_SWITCHES + v, out);
         return;
     }
     if kind == NAME {
