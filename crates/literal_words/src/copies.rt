@@ -63,7 +63,8 @@ pub fn copy_literal(row: Row, word: &[u8], to: &mut [u8])
     requires { ⌜ (row .kind ≡ kindAlphanumeric → 2 ≤ length (now word)) × (length (literalBy (row .kind) (now word) .bytes) ≤ length (now to)) ⌝ }
     ensures { λ _. ⌜ now (to .exit) ≡ writtenOver (literalBy (row .kind) (now (word .entry)) .bytes) (now (to .entry)) ⌝ }
 {
-    if row.kind == Row::ALPHANUMERIC {
+    let kind = row.kind;
+    if kind == Row::ALPHANUMERIC {
         let last = word.len() - 1;
         copy_undoubled(&word[1..last], to);
         return;

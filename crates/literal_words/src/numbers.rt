@@ -11,8 +11,8 @@ ghost use Rattle.content.specs.WrongByte.{validContent};
 ghost use Rattle.content.specs.Kinds.{kindUnsigned, kindSignLeading};
 use crate::Number;
 use content::Row;
+use fields::held::all_digits;
 use fields::held::is_sign;
-use fields::held::valid_content;
 use tables::rows::row_sound;
 
 // The place of the first point, or the length.
@@ -30,22 +30,13 @@ pub(crate) fn point_place(word: &[u8]) -> usize
     i
 }
 
-fn digits(part: &[u8]) -> bool
-    ensures { λ r. ⌜ r ≡ all isDigit (now (part .entry)) ⌝ }
-{
-    if part.len() == 0 {
-        return true;
-    }
-    valid_content(3, 0, part)
-}
-
 // Whether all bytes after place `at` are digits.
 fn digits_after(word: &[u8], at: usize) -> bool
     requires { ⌜ at ≤ length (now word) ⌝ }
     ensures { λ r. ⌜ r ≡ all isDigit (drop (suc at) (now (word .entry))) ⌝ }
 {
     if at < word.len() {
-        return digits(&word[at + 1..]);
+        return all_digits(&word[at + 1..]);
     }
     true
 }
@@ -119,7 +110,7 @@ fn number_content(word: &[u8], p: usize, signed: bool) -> bool
     ensures { λ r. ⌜ ((digits : ℕ) → r ≡ validContent (cond signed kindSignLeading kindUnsigned) digits (withoutPoint (now (word .entry)))) ⌝ }
 {
     let from = start_of(signed);
-    digits(&word[from..p]) & digits_after(word, p)
+    all_digits(&word[from..p]) & digits_after(word, p)
 }
 
 // The numeric literal that a word writes, if it writes one.
