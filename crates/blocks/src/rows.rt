@@ -10,6 +10,8 @@ use field_rows::rows::judge_fields;
 use grammar::PlanRow;
 use places::fill;
 use tables::Outcome;
+use tables::tokens::NAME;
+use tables::tokens::SPAN;
 use truth::conditions::truth_of;
 
 // The truth of a row where it stops: it is not known here.
@@ -105,7 +107,7 @@ pub(crate) fn judge_row<'a>(
 {
     let subject = condition.subject;
     let relation = condition.relation;
-    if (relation == 0) & (subject / 65536 != 5) {
+    if (relation == 0) & (subject / SPAN != NAME) {
         let first = &records[from..from + size];
         let truth = judge_record(items, literals, bytes, names, first, switches, condition);
         fill(truths, truth);

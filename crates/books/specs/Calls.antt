@@ -25,6 +25,7 @@ use Rattle.books.specs.declared.Printed.the-variants.{Count, Description
 use Rattle.books.specs.declared.Book.{Book}
 use Rattle.books.specs.declared.Named.{Named}
 use Rattle.books.specs.declared.Named.the-variants.{Given, Faulty}
+use Rattle.content.specs.Kinds.{rowWidth}
 
 -- "Numbers from 14 join 01's table": the number and the place of a refusal of `read`
 abbrev pub readNumber : Recognized → ℕ
@@ -128,7 +129,7 @@ pub record NamesFound (description places rows bytes : List ℕ) (b : Book) : Ty
   pub found : Table
   pub described : describe description ≡ table found
   pub known-are : knownAt description (b .items) (take (b .places) places) ≡ knownOf description found
-  pub rows-are : take (b .literals * 5) rows ≡ numbers (found .literals)
+  pub rows-are : take (b .literals * rowWidth) rows ≡ numbers (found .literals)
   pub bytes-are : take (b .bytes) bytes ≡ found .bytes
   pub few-places : b .places ≤ 128
   pub within : b .items ≤ b .places

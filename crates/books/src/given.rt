@@ -4,13 +4,13 @@ ghost use Prim.Native.Nat.{_*_, _≤_};
 ghost use lib.ListN.{length, take};
 ghost use Rattle.literal_words.specs.Found.{writtenOver};
 ghost use Rattle.books.specs.Calls.{Gives};
+ghost use Rattle.content.specs.Kinds.{rowWidth};
 use crate::Recognized;
+use content::Row;
 use lexer::Gathered;
 use literal_words::copies::copy_bytes;
 
 // The numbers of a row.
-const WIDTH: usize = 5;
-
 pub(crate) fn copy_numbers(from: &[u32], to: &mut [u32])
     requires { ⌜ length (now from) ≤ length (now to) ⌝ }
     ensures { λ _. ⌜ now (to .exit) ≡ writtenOver (now (from .entry)) (now (to .entry)) ⌝ }
@@ -32,11 +32,11 @@ pub fn give(
     literals: &mut [u32],
     content: &mut [u8],
 ) -> Recognized
-    requires { ⌜ (held .tokens ≤ length (now tokens)) × (held .literals * 5 ≤ length (now rows)) × (held .bytes ≤ length (now bytes)) ⌝ }
-    ensures { λ r. ⌜ Gives (take (held .tokens) (now (tokens .entry))) (take (held .literals * 5) (now (rows .entry))) (take (held .bytes) (now (bytes .entry))) (now (out .entry)) (now (literals .entry)) (now (content .entry)) r (now (out .exit)) (now (literals .exit)) (now (content .exit)) ⌝ }
+    requires { ⌜ (held .tokens ≤ length (now tokens)) × (held .literals * rowWidth ≤ length (now rows)) × (held .bytes ≤ length (now bytes)) ⌝ }
+    ensures { λ r. ⌜ Gives (take (held .tokens) (now (tokens .entry))) (take (held .literals * rowWidth) (now (rows .entry))) (take (held .bytes) (now (bytes .entry))) (now (out .entry)) (now (literals .entry)) (now (content .entry)) r (now (out .exit)) (now (literals .exit)) (now (content .exit)) ⌝ }
 {
     let n = held.tokens;
-    let v = held.literals * WIDTH;
+    let v = held.literals * Row::WIDTH;
     let b = held.bytes;
     if !((1 <= n) & (n <= 256)) {
         return Recognized::TokenCount;

@@ -6,19 +6,19 @@ ghost use Rattle.books.specs.Calls.{NamedBy};
 use crate::Book;
 use crate::Named;
 use crate::given::copy_numbers;
+use content::Row;
 use describing::Described;
 use descriptions::calls::describe;
+use tables::rows::NAME_TABLE;
 
 // The numbers of a row.
-const WIDTH: usize = 5;
-
 // The places of the names, or FILLER, of a description's rows, those of its conditions after them; and its literals.
 pub fn book_of(description: &[u8], places: &mut [u32], rows: &mut [u32], bytes: &mut [u8]) -> Named
     requires { ⌜ (128 ≤ length (now places)) × (320 ≤ length (now rows)) × (4096 ≤ length (now bytes)) ⌝ }
     ensures { λ r. ⌜ NamedBy (now (description .entry)) r (now (places .exit)) (now (rows .exit)) (now (bytes .exit)) ⌝ }
 {
-    let mut items = [0u32; 320];
-    let mut names = [0u32; 1152];
+    let mut items = [0u32; Row::TABLE];
+    let mut names = [0u32; NAME_TABLE];
     let mut others = [0u32; 64];
     let described = describe(
         description,
@@ -35,7 +35,7 @@ pub fn book_of(description: &[u8], places: &mut [u32], rows: &mut [u32], bytes: 
             Named::Given(Book {
                 items: n,
                 places: n + k,
-                literals: v / WIDTH,
+                literals: v / Row::WIDTH,
                 bytes: b,
             })
         }

@@ -2,30 +2,50 @@
 // retired word for one that is off; the other words of a condition are those of document 01.
 ghost use Prim.Native.Nat.{_≤_};
 ghost use lib.ListN.{length};
+use tables::tokens::FIRST_LITERAL;
+use tables::tokens::FIRST_OFF;
+use tables::tokens::FIRST_ON;
+use tables::words::ALPHABETIC;
+use tables::words::ALPHABETIC_LOWER;
+use tables::words::ALPHABETIC_UPPER;
+use tables::words::AND;
+use tables::words::CLOSE;
+use tables::words::EQUAL;
+use tables::words::GREATER;
+use tables::words::GREATER_OR_EQUAL;
+use tables::words::LESS;
+use tables::words::LESS_OR_EQUAL;
+use tables::words::NEGATIVE;
+use tables::words::NOT;
+use tables::words::NUMERIC;
+use tables::words::OPEN;
+use tables::words::OR;
+use tables::words::POSITIVE;
+use tables::words::ZERO;
 
 // A number that is no token.
 const NONE: u32 = 4294967295;
 
 fn of_one(byte: u8) -> u32 {
     match byte {
-        b'(' => 262144,
-        b')' => 262145,
-        b'>' => 262149,
-        b'<' => 262150,
-        b'=' => 262151,
+        b'(' => OPEN,
+        b')' => CLOSE,
+        b'>' => GREATER,
+        b'<' => LESS,
+        b'=' => EQUAL,
         b'a'..=b'z' => (byte - b'a') as u32,
-        b'A'..=b'Z' => 65536 + (byte - b'A') as u32,
+        b'A'..=b'Z' => FIRST_LITERAL + (byte - b'A') as u32,
         _ => NONE,
     }
 }
 
 fn of_two(first: u8, second: u8) -> u32 {
     match first {
-        b's' => 131072 + (second % 16) as u32,
-        b'o' => 196608 + (second % 16) as u32,
-        b'O' => 262148,
-        b'>' => 262152,
-        b'<' => 262153,
+        b's' => FIRST_ON + (second % 16) as u32,
+        b'o' => FIRST_OFF + (second % 16) as u32,
+        b'O' => OR,
+        b'>' => GREATER_OR_EQUAL,
+        b'<' => LESS_OR_EQUAL,
         _ => NONE,
     }
 }
@@ -35,19 +55,19 @@ fn of_more(length: usize, first: u8) -> u32 {
     match length {
         3 => {
             if first == b'N' {
-                return 262146;
+                return NOT;
             }
-            262147
+            AND
         }
-        4 => 262160,
-        7 => 262154,
+        4 => ZERO,
+        7 => NUMERIC,
         8 => {
             if first == b'P' {
-                return 262158;
+                return POSITIVE;
             }
-            262159
+            NEGATIVE
         }
-        10 => 262155,
+        10 => ALPHABETIC,
         _ => NONE,
     }
 }
@@ -55,9 +75,9 @@ fn of_more(length: usize, first: u8) -> u32 {
 // ALPHABETIC-LOWER, ALPHABETIC-UPPER: by the letter after the hyphen.
 fn of_sixteen(letter: u8) -> u32 {
     if letter == b'L' {
-        return 262156;
+        return ALPHABETIC_LOWER;
     }
-    262157
+    ALPHABETIC_UPPER
 }
 
 fn token_of_word(word: &[u8]) -> u32 {

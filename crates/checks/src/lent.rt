@@ -4,10 +4,10 @@ ghost use mathlib.Core.List.{[]};
 ghost use Rattle.tables.specs.Operands.{lend};
 ghost use Rattle.tables.specs.Refusals.{firstOf};
 ghost use Rattle.tables.specs.Tables.{lengthSound, literalSound, itemRowCheck, literalRowCheck, tableLines, recordCheck};
+use content::Row;
 use fields::held::valid_content;
 use tables::Check;
 use tables::Refusal;
-use tables::Row;
 use tables::rows::ends_within;
 use tables::rows::row_at;
 use tables::rows::row_part;
@@ -16,14 +16,14 @@ use tables::rows::row_sound;
 fn length_sound(table: &[u32]) -> bool
     ensures { λ r. ⌜ r ≡ lengthSound (now (table .entry)) ⌝ }
 {
-    (table.len() % 5 == 0) & (table.len() <= 320)
+    (table.len() % Row::WIDTH == 0) & (table.len() <= Row::TABLE)
 }
 
 // 2: the first item row that breaks its rules.
 fn check_item_rows(items: &[u32]) -> Check
     ensures { λ r. ⌜ r ≡ itemRowCheck (lend (now (items .entry)) [] []) ⌝ }
 {
-    let rows = items.len() / 5;
+    let rows = items.len() / Row::WIDTH;
     let mut v: usize = 0;
     while v < rows {
         if !row_sound(row_at(items, v)) {
@@ -41,20 +41,20 @@ fn literal_sound(row: Row, bytes: &[u8]) -> bool
         return false;
     }
     let kind = row.kind;
-    if !((kind == 2) | (kind == 3) | (kind == 5)) {
+    if !((kind == Row::ALPHANUMERIC) | (kind == Row::UNSIGNED) | (kind == Row::SIGN_LEADING)) {
         return false;
     }
     if !ends_within(row, bytes.len()) {
         return false;
     }
-    valid_content(kind, row.digits, row_part(row, bytes))
+    valid_content(row, row_part(row, bytes))
 }
 
 // 4: the first literal row that breaks its rules.
 fn check_literal_rows(literals: &[u32], bytes: &[u8]) -> Check
     ensures { λ r. ⌜ r ≡ literalRowCheck (lend [] (now (literals .entry)) (now (bytes .entry))) ⌝ }
 {
-    let rows = literals.len() / 5;
+    let rows = literals.len() / Row::WIDTH;
     let mut v: usize = 0;
     while v < rows {
         if !literal_sound(row_at(literals, v), bytes) {
@@ -86,7 +86,7 @@ pub fn check_tables(items: &[u32], literals: &[u32], bytes: &[u8]) -> Check
 pub fn check_record(items: &[u32], record: &[u8]) -> Check
     ensures { λ r. ⌜ r ≡ recordCheck (lend (now (items .entry)) [] []) (now («record» .entry)) ⌝ }
 {
-    let rows = items.len() / 5;
+    let rows = items.len() / Row::WIDTH;
     let mut v: usize = 0;
     while v < rows {
         if !ends_within(row_at(items, v), record.len()) {

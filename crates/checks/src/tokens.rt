@@ -3,8 +3,10 @@ ghost use mathlib.Core.Path.{_≡_};
 ghost use mathlib.Core.List.{[]};
 ghost use Rattle.tables.specs.Operands.{lendNames, under};
 ghost use Rattle.tables.specs.Tables.{tokenCountCheck, tokenCheck};
+use content::Row;
 use tables::Check;
 use tables::Refusal;
+use tables::rows::NAME_WIDTH;
 use tables::tokens::token_there;
 
 // 5: a condition has 1 to 256 tokens.
@@ -27,9 +29,9 @@ pub fn check_tokens(
 ) -> Check
     ensures { λ r. ⌜ r ≡ tokenCheck (under off (lendNames (now (items .entry)) (now (literals .entry)) [] (now (names .entry)))) (now (tokens .entry)) ⌝ }
 {
-    let item_rows = items.len() / 5;
-    let literal_rows = literals.len() / 5;
-    let name_rows = names.len() / 18;
+    let item_rows = items.len() / Row::WIDTH;
+    let literal_rows = literals.len() / Row::WIDTH;
+    let name_rows = names.len() / NAME_WIDTH;
     let mut i: usize = 0;
     while i < tokens.len() {
         if !token_there(off, tokens[i], item_rows, literal_rows, name_rows) {

@@ -9,7 +9,7 @@ use lib.Dec.{eqb, leb}
 use lib.ListN.{length, getD, take, drop, length-drop}
 use lib.Seq.{length-take-le}
 use borrow.Author.Tests.{eqb-true, leb-true}
-use Rattle.tables.specs.declared.Row.{Row}
+use Rattle.content.specs.declared.Row.{Row}
 use Rattle.tables.specs.Rows.{rowAt}
 use Rattle.tables.specs.Tokens.{isItem, indexOf}
 use Rattle.tables.specs.Operands.{Lent, lend, lendNames, rowOf, operandBytes, Within}

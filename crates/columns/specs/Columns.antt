@@ -7,7 +7,7 @@ use lib.ListN.{length, getD, take, drop}
 use lib.Dec.{eqb, ltb}
 use Rattle.tables.specs.declared.Outcome.{Outcome}
 use Rattle.tables.specs.declared.Outcome.the-variants.{True as Holds, False as Fails}
-use Rattle.tables.specs.declared.Row.{Row}
+use Rattle.content.specs.declared.Row.{Row}
 use Rattle.tables.specs.Operands.{Lent}
 use Rattle.values.specs.Truth.{turned, outcome, Readable}
 use Rattle.grammar.specs.declared.PlanRow.{PlanRow}

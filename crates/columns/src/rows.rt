@@ -13,6 +13,7 @@ ghost use Rattle.columns.specs.Columns.{bit, coded, related, relatedTo, 
 use crate::words::compare_field;
 use crate::words::compare_fields;
 use crate::words::test_field;
+use content::Row;
 use digit_words::Asked;
 use digit_words::rows::asked_of;
 use digit_words::rows::fits_word;
@@ -20,7 +21,6 @@ use digit_words::words::all_digits;
 use digit_words::words::short_word;
 use grammar::PlanRow;
 use places::choose;
-use tables::Row;
 use tables::operands::operand_bytes;
 use tables::operands::row_of;
 use tables::tokens::is_item;

@@ -6,6 +6,7 @@ use lib.IntN.{ℤ}
 use lib.Signed.{ltZ}
 use Rattle.compare.specs.declared.Order.{Order}
 use Rattle.compare.specs.declared.Order.the-variants.{Less, Equal, Greater}
+use Rattle.content.specs.Relations.{wordGreater, wordLess, wordEqual, wordGreaterOrEqual, wordPositive, wordNegative}
 
 -- of bytes, "as unsigned numbers"
 abbrev pub order : ℕ → ℕ → Order
@@ -33,9 +34,9 @@ isGreater Greater = true
 -- words "5 GREATER, 6 LESS, 7 EQUAL, 8 GREATER OR EQUAL, 9 LESS OR EQUAL"
 abbrev pub relationHolds : ℕ → Order → Bool
 relationHolds word o =
-    cond (eqb word 5) (isGreater o)
-    (cond (eqb word 6) (isLess o) (cond (eqb word 7) (isEqual o) (cond (eqb word 8) (not (isLess o)) (not (isGreater o)))))
+    cond (eqb word wordGreater) (isGreater o)
+    (cond (eqb word wordLess) (isLess o) (cond (eqb word wordEqual) (isEqual o) (cond (eqb word wordGreaterOrEqual) (not (isLess o)) (not (isGreater o)))))
 
 -- words "14 POSITIVE, 15 NEGATIVE, 16 ZERO"; "Signs compare the value with 0."
 abbrev pub signHolds : ℕ → Order → Bool
-signHolds word o = cond (eqb word 14) (isGreater o) (cond (eqb word 15) (isLess o) (isEqual o))
+signHolds word o = cond (eqb word wordPositive) (isGreater o) (cond (eqb word wordNegative) (isLess o) (isEqual o))

@@ -2,6 +2,12 @@
 ghost use mathlib.Core.Path.{_≡_};
 ghost use Rattle.compare.specs.Order.{order, isLess, isEqual, isGreater, relationHolds, signHolds};
 use crate::Order;
+use content::relations::EQUAL;
+use content::relations::GREATER;
+use content::relations::GREATER_OR_EQUAL;
+use content::relations::LESS;
+use content::relations::NEGATIVE;
+use content::relations::POSITIVE;
 
 pub fn order_of(a: u64, b: u64) -> Order
     ensures { λ r. ⌜ r ≡ order a b ⌝ }
@@ -49,10 +55,10 @@ pub fn relation_holds(word: u32, o: Order) -> bool
     ensures { λ r. ⌜ r ≡ relationHolds word o ⌝ }
 {
     match word {
-        5 => is_greater(o),
-        6 => is_less(o),
-        7 => is_equal(o),
-        8 => !is_less(o),
+        GREATER => is_greater(o),
+        LESS => is_less(o),
+        EQUAL => is_equal(o),
+        GREATER_OR_EQUAL => !is_less(o),
         _ => !is_greater(o),
     }
 }
@@ -61,8 +67,8 @@ pub fn sign_holds(word: u32, o: Order) -> bool
     ensures { λ r. ⌜ r ≡ signHolds word o ⌝ }
 {
     match word {
-        14 => is_greater(o),
-        15 => is_less(o),
+        POSITIVE => is_greater(o),
+        NEGATIVE => is_less(o),
         _ => is_equal(o),
     }
 }

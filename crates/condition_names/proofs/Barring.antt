@@ -5,7 +5,7 @@ use mathlib.Core.List.{List}
 use Prim.Native.Nat.{ℕ}
 use native.Mathlib.Omega.{arith}
 use borrow.Author.Tests.{not-true, not-false}
-use Rattle.tables.specs.declared.Row as Rules
+use Rattle.content.specs.declared.Row as Rules
 use Rattle.tables.specs.Rows.{rowSound}
 use Rattle.typing.specs.Typing.{sideFits}
 use Rattle.description.specs.Grammar.{Literal, literalRow, Value, single, range}

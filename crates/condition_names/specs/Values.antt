@@ -5,7 +5,7 @@ use mathlib.Core.List.{List, [], _∷_, _++_}
 use Prim.Native.Nat.{ℕ, _+_, _-_, _≤_, _<_}
 use lib.Dec.{eqb}
 use lib.ListN.{length, getD, take, drop}
-use Rattle.tables.specs.declared.Row as Rules
+use Rattle.content.specs.declared.Row as Rules
 use Rattle.description.specs.Grammar.{bytes, Row, row, Literal, literalRow, Value, single, range}
 use Rattle.description.specs.Limits.{ruled, barred}
 use Rattle.description.specs.Stages.{inked, literalAt, spelledAt, literalIn, isLiteral}

@@ -3,7 +3,7 @@
 pub mod scan; // a value in a text
 pub mod weights; // whether a value is barred
 
-use tables::Row;
+use content::Row;
 
 // A value as it stands in a text: where its low end starts and ends, and its high end, alike for a
 // single value.

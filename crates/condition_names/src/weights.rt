@@ -9,12 +9,12 @@ ghost use Rattle.ranges.specs.Spelling.{Written};
 ghost use Rattle.condition_names.specs.Values.{Stands, shown, valueOf, weighed};
 use crate::Found;
 use crate::Weighed;
+use content::Row;
 use literal_words::Number;
 use ranges::ends::exceeds;
 use ranges::ends::unlike;
 use ranges::literals::literal_row;
 use ranges::literals::may_compare;
-use tables::Row;
 
 // The high end of a range whose low end may stand.
 fn weigh_high(text: &[u8], item: Row, low: Row, found: Found) -> Weighed

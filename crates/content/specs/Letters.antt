@@ -2,6 +2,7 @@
 use mathlib.Core.Bool.{Bool, cond, _&&_, _||_}
 use Prim.Native.Nat.{ℕ}
 use lib.Dec.{eqb, leb}
+use Rattle.content.specs.Relations.{wordAlphabetic, wordLower}
 
 -- "A to Z"
 abbrev pub isUpper : ℕ → Bool
@@ -20,4 +21,4 @@ isAlphabetic b = isUpper b || isLower b || isSpace b
 
 -- "UPPER and LOWER: that case and space." Words "11 ALPHABETIC, 12 ALPHABETIC-LOWER, 13 ALPHABETIC-UPPER"
 abbrev pub inAlphabet : ℕ → ℕ → Bool
-inAlphabet word b = cond (eqb word 11) (isAlphabetic b) (cond (eqb word 12) (isLower b || isSpace b) (isUpper b || isSpace b))
+inAlphabet word b = cond (eqb word wordAlphabetic) (isAlphabetic b) (cond (eqb word wordLower) (isLower b || isSpace b) (isUpper b || isSpace b))

@@ -3,10 +3,11 @@ use mathlib.Core.Bool.{Bool, not, _&&_, _||_}
 use mathlib.Core.List.{List, [], _∷_}
 use Prim.Native.Nat.{ℕ, _+_, _*_, _/_, _%_}
 use lib.Dec.{eqb, leb}
+use Rattle.content.specs.Kinds.{kindPacked, kindPackedUnsigned}
 
 -- "Kind 8 is signed packed, kind 9 unsigned"
 abbrev pub isPacked : ℕ → Bool
-isPacked kind = eqb kind 8 || eqb kind 9
+isPacked kind = eqb kind kindPacked || eqb kind kindPackedUnsigned
 
 -- the two half-bytes of a byte
 abbrev pub leftHalf : ℕ → ℕ
@@ -21,7 +22,7 @@ twoDigits b = leb (leftHalf b) 9 && leb (rightHalf b) 9
 
 -- "the last half is 3 for plus or 4 for minus, kind 9 only 3"; before it stands a digit
 abbrev pub digitAndSign : ℕ → ℕ → Bool
-digitAndSign kind b = leb (leftHalf b) 9 && (eqb (rightHalf b) 3 || eqb (rightHalf b) 4 && eqb kind 8)
+digitAndSign kind b = leb (leftHalf b) 9 && (eqb (rightHalf b) 3 || eqb (rightHalf b) 4 && eqb kind kindPacked)
 
 -- "a zero half leads where their count is even"
 abbrev pub leads : ℕ → ℕ → Bool

@@ -3,7 +3,8 @@ use mathlib.Core.Bool.{Bool, true, false, cond, _&&_, _||_}
 use mathlib.Core.List.{List, [], _∷_}
 use Prim.Native.Nat.{ℕ, suc, _+_}
 use lib.ListN.{length}
-use lib.Dec.{eqb, leb}
+use lib.Dec.{eqb}
+use Rattle.content.specs.Kinds.{kindAlphabetic, kindSigned, kindSignLeading, kindSignTrailing, isZoned}
 use Rattle.content.specs.Content.{isDigit, isSign, isSignedDigit}
 use Rattle.content.specs.Letters.{isAlphabetic}
 use Rattle.content.specs.Packed.{isPacked, packedRight}
@@ -13,10 +14,10 @@ use Rattle.content.specs.Packed.{isPacked, packedRight}
 -- packed fields. Other kinds hold any bytes. A byte is the first of its field or not, and the last or not.
 abbrev pub rightByte : ℕ → ℕ → Bool → Bool → ℕ → Bool
 rightByte kind digits first last b =
-    cond (eqb kind 1) (isAlphabetic b)
-    (cond (eqb kind 4 && last) (isSignedDigit b)
-    (cond (eqb kind 5 && first || eqb kind 6 && last) (isSign b)
-    (cond (leb 3 kind && leb kind 6) (isDigit b)
+    cond (eqb kind kindAlphabetic) (isAlphabetic b)
+    (cond (eqb kind kindSigned && last) (isSignedDigit b)
+    (cond (eqb kind kindSignLeading && first || eqb kind kindSignTrailing && last) (isSign b)
+    (cond (isZoned kind) (isDigit b)
     (cond (isPacked kind) (packedRight kind digits first last b) true))))
 
 -- byte i of a field of n bytes

@@ -10,15 +10,17 @@ use crate::marks::is_lower;
 use crate::marks::is_space;
 use crate::marks::is_upper;
 use crate::marks::marks;
+use crate::relations::ALPHABETIC;
+use crate::relations::ALPHABETIC_LOWER;
 
 pub fn in_alphabet(marks: &[u64; 16], word: u32, b: u8) -> bool
     requires { ⌜ agree (now marks) ≡ true ⌝ }
     ensures { λ r. ⌜ r ≡ inAlphabet word b ⌝ }
 {
-    if word == 11 {
+    if word == ALPHABETIC {
         return is_upper(marks, b) | is_lower(marks, b) | is_space(marks, b);
     }
-    if word == 12 {
+    if word == ALPHABETIC_LOWER {
         return is_lower(marks, b) | is_space(marks, b);
     }
     is_upper(marks, b) | is_space(marks, b)

@@ -5,6 +5,7 @@ use Prim.Native.Nat.{ℕ}
 use lib.Dec.{eqb}
 use Rattle.tables.specs.Tokens.{isOff}
 use Rattle.grammar.specs.Converted.{onToken, notIf}
+use Rattle.tables.specs.Words.{NOT}
 
 -- the on token of an off token; any other token as it is
 abbrev pub onWord : ℕ → ℕ
@@ -17,4 +18,4 @@ leads waits x = cond (isOff x) (not waits) waits
 
 -- what is written for a token: a NOT waits for the token after it
 abbrev pub step : Bool → ℕ → List ℕ
-step waits x = notIf (leads waits x) ++ cond (eqb x 262146) [] (onWord x ∷ [])
+step waits x = notIf (leads waits x) ++ cond (eqb x NOT) [] (onWord x ∷ [])

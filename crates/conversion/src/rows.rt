@@ -7,14 +7,16 @@ ghost use Rattle.grammar.specs.Plan.{flat};
 ghost use Rattle.grammar.specs.Converted.{onRow, convertedPlan};
 use grammar::PlanRow;
 use plan_checks::plan_row;
+use tables::tokens::SPAN;
+use tables::tokens::SWITCH_OFF;
 
 // An off switch becomes the on switch, with the targets exchanged.
 fn on_row(row: PlanRow) -> PlanRow
     ensures { λ r. ⌜ r ≡ onRow row ⌝ }
 {
-    if row.subject / 65536 == 3 {
+    if row.subject / SPAN == SWITCH_OFF {
         return PlanRow {
-            subject: row.subject - 65536,
+            subject: row.subject - SPAN,
             relation: row.relation,
             object: row.object,
             holds: row.fails,

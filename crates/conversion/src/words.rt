@@ -5,14 +5,16 @@ ghost use Prim.Native.Nat.{_≤_};
 ghost use lib.ListN.{length, drop};
 ghost use Rattle.grammar.specs.Converted.{notIf, convertedTokens};
 ghost use Rattle.conversion.specs.Steps.{leads, onWord, step};
-use reader::words::NOT;
+use tables::tokens::SPAN;
+use tables::tokens::SWITCH_OFF;
+use tables::words::NOT;
 
 // The on token of an off token; any other token as it is.
 fn on_word(token: u32) -> u32
     ensures { λ r. ⌜ r ≡ onWord token ⌝ }
 {
-    if token / 65536 == 3 {
-        return token - 65536;
+    if token / SPAN == SWITCH_OFF {
+        return token - SPAN;
     }
     token
 }
@@ -21,7 +23,7 @@ fn on_word(token: u32) -> u32
 fn leads_not(waits: bool, token: u32) -> bool
     ensures { λ r. ⌜ r ≡ leads waits token ⌝ }
 {
-    let off = token / 65536 == 3;
+    let off = token / SPAN == SWITCH_OFF;
     if off {
         return !waits;
     }

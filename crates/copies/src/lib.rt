@@ -8,18 +8,16 @@ ghost use Rattle.tables.specs.Rows.{part};
 ghost use Rattle.items.specs.Items.{isElementary, replaced};
 ghost use Rattle.merging.specs.Merge.{copiesOf, changedApart, apartRows, mergedItem, mergedRecord};
 ghost use Rattle.copies.specs.Ready.{Ready};
+use content::Row;
 use items::parts::copy_bytes;
 use items::parts::put_part;
 use items::parts::same_bytes;
-use tables::Row;
 use tables::Verdict;
 use tables::rows::is_group;
 use tables::rows::row_at;
 use tables::rows::row_part;
 
 // The numbers of a row.
-const WIDTH: usize = 5;
-
 // What an item becomes: one of its three contents.
 fn merged_item<'a>(old: &'a [u8], first: &'a [u8], second: &'a [u8], verdict: Verdict) -> &'a [u8]
     ensures { λ r. ⌜ now r ≡ mergedItem verdict (now (old .entry)) (now (first .entry)) (now (second .entry)) ⌝ }
@@ -77,7 +75,7 @@ pub fn write_merged<'a>(
     ensures { λ r. ⌜ now (out .exit) ≡ mergedRecord (copiesOf (now (items .entry)) (now (old .entry)) (now (first .entry)) (now (second .entry))) verdict ⌝ }
 {
     copy_bytes(old, out);
-    let rows = items.len() / WIDTH;
+    let rows = items.len() / Row::WIDTH;
     let mut v: usize = 0;
     while v < rows {
         merge_row(row_at(items, v), old, first, second, verdict, out);
@@ -104,7 +102,7 @@ pub fn count_apart(items: &[u32], old: &[u8], first: &[u8], second: &[u8]) -> us
     requires { ⌜ Ready (copiesOf (now items) (now old) (now first) (now second)) (length (now old)) ⌝ }
     ensures { λ r. ⌜ r ≡ length (apartRows (copiesOf (now (items .entry)) (now (old .entry)) (now (first .entry)) (now (second .entry)))) ⌝ }
 {
-    let rows = items.len() / WIDTH;
+    let rows = items.len() / Row::WIDTH;
     let mut count: usize = 0;
     let mut v: usize = 0;
     while v < rows {
@@ -121,7 +119,7 @@ pub fn list_apart(items: &[u32], old: &[u8], first: &[u8], second: &[u8], list: 
     requires { ⌜ Ready (copiesOf (now items) (now old) (now first) (now second)) (length (now old)) × (length (now items) ≤ 320) × (length (apartRows (copiesOf (now items) (now old) (now first) (now second))) ≤ length (now list)) ⌝ }
     ensures { λ r. ⌜ now (list .exit) ≡ apartRows (copiesOf (now (items .entry)) (now (old .entry)) (now (first .entry)) (now (second .entry))) ++ drop (length (apartRows (copiesOf (now (items .entry)) (now (old .entry)) (now (first .entry)) (now (second .entry))))) (now (list .entry)) ⌝ }
 {
-    let rows = items.len() / WIDTH;
+    let rows = items.len() / Row::WIDTH;
     let mut count: usize = 0;
     let mut v: usize = 0;
     while v < rows {

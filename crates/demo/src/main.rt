@@ -4,6 +4,9 @@ ghost use Prim.Native.Nat.{_≤_};
 use books::Printed;
 use books::Recognized;
 use conditions::calls;
+use content::Row;
+use content::relations::NEGATED;
+use content::relations::NUMERIC;
 use describing::Described;
 use descriptions::calls::describe;
 use fronts::front;
@@ -15,11 +18,13 @@ use plan_checks::plan_row;
 use plans::Target;
 use tables::Judged;
 use tables::Refusal;
-use tables::Row;
 use tables::Verdict;
 use tables::Written;
+use tables::rows::NAME_TABLE;
 use tables::rows::is_group;
 use tables::rows::row_at;
+use tables::tokens::FIRST_WORD;
+use tables::words::NOT;
 use texts::calls::print;
 use texts::calls::read;
 
@@ -56,11 +61,6 @@ const ENTRIES: [u8; 119] = *b"\
 
 // The rules here have no condition-names.
 const NAMES: [u32; 0] = [];
-
-// A word's token is this and the word's number.
-const WORD: u32 = 262144;
-
-const NOT: u32 = WORD + 2;
 
 // What is judged: the tokens of a rule, or its plan.
 enum By {
@@ -106,19 +106,19 @@ fn in_full(rows: &[u32], literals: &[u32], bytes: &[u8], tokens: &[u32]) {
     }
 }
 
-// Whether a relation has an object: class and sign words, from 10 on, have none.
+// Whether a relation has an object: class and sign words have none.
 fn has_object(relation: u32) -> bool {
-    relation % 32 < 10
+    relation % NEGATED < NUMERIC
 }
 
 // A row's condition as tokens. A switch or a condition-name stands alone.
 fn row_tokens(row: PlanRow, tokens: &mut [u32; 4]) -> usize {
-    let word = WORD + row.relation % 32;
+    let word = FIRST_WORD + row.relation % NEGATED;
     tokens[0] = row.subject;
     if row.relation == 0 {
         return 1;
     }
-    if row.relation < 32 {
+    if row.relation < NEGATED {
         tokens[1] = word;
         tokens[2] = row.object;
         if has_object(row.relation) {
@@ -185,7 +185,7 @@ fn holds(row: Row, byte: usize) -> bool {
 
 // The elementary item that has a byte of the record, of at most 64.
 fn item_at(rows: &[u32], byte: usize) -> u32 {
-    let count = rows.len() / 5;
+    let count = rows.len() / Row::WIDTH;
     if 64 < count {
         return 0;
     }
@@ -298,7 +298,7 @@ fn verdicts(rows: &[u32], literals: &[u32], bytes: &[u8], by: By, numbers: &[u32
 fn entry_size(rows: &[u32]) -> usize
     ensures { λ r. ⌜ 1 ≤ r ⌝ }
 {
-    if rows.len() < 5 {
+    if rows.len() < Row::WIDTH {
         return 1;
     }
     let size = row_at(rows, 0).size as usize;
@@ -446,7 +446,7 @@ enum Shown {
 
 fn show(rows: &[u32], shown: Shown, text: &[u8]) {
     let mut tokens = [0u32; 256];
-    let mut literals = [0u32; 320];
+    let mut literals = [0u32; Row::TABLE];
     let mut bytes = [0u8; 2304];
     let recognized = read(&DESCRIPTION, text, &mut tokens, &mut literals, &mut bytes);
     if let Recognized::Counts(t, l, b) = recognized {
@@ -461,11 +461,11 @@ fn show(rows: &[u32], shown: Shown, text: &[u8]) {
 }
 
 fn main() {
-    let mut numbers = [0u32; 320];
+    let mut numbers = [0u32; Row::TABLE];
     let mut places = [0u32; 64];
-    let mut names = [0u32; 1152];
+    let mut names = [0u32; NAME_TABLE];
     let mut name_places = [0u32; 64];
-    let mut literals = [0u32; 320];
+    let mut literals = [0u32; Row::TABLE];
     let mut bytes = [0u8; 4096];
     the_entry();
     let described = describe(

@@ -5,6 +5,7 @@ ghost use lib.ListN.{length, drop};
 ghost use Rattle.description.specs.Reader.{readText};
 ghost use Rattle.description.specs.Stages.{parted};
 ghost use Rattle.storing.specs.Reads.{ReadBy};
+ghost use Rattle.tables.specs.Rows.{nameWidth};
 use entries::EntryRead;
 use entries::entry::entry_at;
 use storing::Found;
@@ -50,7 +51,7 @@ pub fn read_entries(
     row: &mut [u32],
 ) -> Found
     requires { ⌜ (length (now text) ≤ 4096) × ((5747 ≤ length (now entries)) × (821 ≤ length (now stack))) ⌝ }
-    requires { ⌜ (1152 ≤ length (now names)) × ((64 ≤ length (now places)) × ((448 ≤ length (now notes)) × (length (now row) ≡ 18))) ⌝ }
+    requires { ⌜ (1152 ≤ length (now names)) × ((64 ≤ length (now places)) × ((448 ≤ length (now notes)) × (length (now row) ≡ nameWidth))) ⌝ }
     ensures { λ r. ⌜ ReadBy (now (text .entry)) (now (text .entry)) (readText (now (text .entry))) (now (entries .exit)) (now (names .exit)) (now (places .exit)) (now (notes .exit)) r ⌝ }
 {
     let mut depth: usize = 0;

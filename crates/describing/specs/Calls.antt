@@ -24,6 +24,8 @@ use Rattle.outputs.specs.Noted.{namedOf, rowsFrom, bytesFrom, Words}
 use Rattle.describing.specs.declared.Sizes.{Sizes}
 use Rattle.describing.specs.declared.Described.{Described}
 use Rattle.describing.specs.declared.Described.the-variants.{Counts, Faulty, Room}
+use Rattle.tables.specs.Rows.{nameWidth}
+use Rattle.content.specs.Kinds.{rowWidth}
 
 -- "Numbers from 14 join 01's table": the number and the place of a refusal
 abbrev pub number : Described → ℕ
@@ -125,7 +127,7 @@ pub record ReadsWithin (text flat named spots notes : List ℕ) (r : Found) : Ty
   pub held : notedFrom flat 0 (r .count) ≡ map capNoted exact
   pub scaled : Scaled exact
   pub reading : readWithin text ≡ readingOf (r .whole) (parts (map entryOf exact) conditions) (r .place)
-  pub few : 5 * r .count ≤ 4096
+  pub few : rowWidth * r .count ≤ 4096
   pub smallest : least (marks (parts (map entryOf exact) conditions))
       ≡ sooner (firstOver (itemMarks 0 (map entryOf exact) (layout 0 (map entryOf exact)))) (limitOf (r .names))
   pub stores : r .whole ≡ true → r .names .over ≡ false → Stores text conditions (r .names) named spots notes
@@ -145,11 +147,11 @@ roomFor needed has =
 abbrev pub needed : Found → Sizes
 needed f =
     record {
-      rows = f .count * 5;
+      rows = f .count * rowWidth;
       places = f .count;
-      names = f .names .count * 18;
+      names = f .names .count * nameWidth;
       spots = f .names .count;
-      literals = f .names .literals * 5;
+      literals = f .names .literals * rowWidth;
       bytes = f .names .bytes;
     }
 
@@ -158,10 +160,10 @@ sizes a b c d e f = record { rows = a; places = b; names = c; spots = d; literal
 
 -- The buffers hold what was found.
 pub record Ready (text laid flat named spots notes : List ℕ) (f : Found) : Type 0 where
-  pub rows : f .count * 5 ≤ length laid
+  pub rows : f .count * rowWidth ≤ length laid
   pub entries : f .count * 7 ≤ length flat
   pub few : f .count ≤ 64
-  pub names : f .names .count * 18 ≤ length named
+  pub names : f .names .count * nameWidth ≤ length named
   pub places : f .names .count ≤ length spots
   pub few-names : f .names .count ≤ 64
   pub words : Words text notes (f .names .literals)
@@ -170,11 +172,11 @@ pub record Ready (text laid flat named spots notes : List ℕ) (f : Found) : Typ
 
 -- Every output has room.
 pub record Roomy (f : Found) (rows places names name-places literals bytes : ℕ) : Type 0 where
-  pub for-rows : f .count * 5 ≤ rows
+  pub for-rows : f .count * rowWidth ≤ rows
   pub for-places : f .count ≤ places
-  pub for-names : f .names .count * 18 ≤ names
+  pub for-names : f .names .count * nameWidth ≤ names
   pub for-name-places : f .names .count ≤ name-places
-  pub for-literals : f .names .literals * 5 ≤ literals
+  pub for-literals : f .names .literals * rowWidth ≤ literals
   pub for-bytes : f .names .bytes ≤ bytes
 
 -- what is written over the start of an output
@@ -183,9 +185,9 @@ over out before = out ++ drop (length out) before
 
 pub record Wrote (text laid flat named spots notes : List ℕ) (f : Found) (rows places names name-places literals bytes : List ℕ)
     (rows-after places-after names-after name-places-after literals-after bytes-after : List ℕ) : Type 0 where
-  pub rows-are : rows-after ≡ over (take (f .count * 5) laid) rows
+  pub rows-are : rows-after ≡ over (take (f .count * rowWidth) laid) rows
   pub places-are : places-after ≡ over (map namedOf (notedFrom flat 0 (f .count))) places
-  pub names-are : names-after ≡ over (take (f .names .count * 18) named) names
+  pub names-are : names-after ≡ over (take (f .names .count * nameWidth) named) names
   pub name-places-are : name-places-after ≡ over (take (f .names .count) spots) name-places
   pub literals-are : literals-after ≡ over (rowsFrom notes 0 (f .names .literals)) literals
   pub bytes-are : bytes-after ≡ over (bytesFrom text notes 0 (f .names .literals)) bytes
@@ -193,9 +195,9 @@ pub record Wrote (text laid flat named spots notes : List ℕ) (f : Found) (rows
 pub record Given (text laid flat named spots notes : List ℕ) (f : Found) (rows places names name-places literals bytes : List ℕ) (r : Described)
     (rows-after places-after names-after name-places-after literals-after bytes-after : List ℕ) : Type 0 where
   pub answered : r ≡ roomFor (needed f) (sizes (length rows) (length places) (length names) (length name-places) (length literals) (length bytes))
-  pub rows-written : rows-after ≡ written r (take (f .count * 5) laid) rows
+  pub rows-written : rows-after ≡ written r (take (f .count * rowWidth) laid) rows
   pub places-written : places-after ≡ written r (map namedOf (notedFrom flat 0 (f .count))) places
-  pub names-written : names-after ≡ written r (take (f .names .count * 18) named) names
+  pub names-written : names-after ≡ written r (take (f .names .count * nameWidth) named) names
   pub name-places-written : name-places-after ≡ written r (take (f .names .count) spots) name-places
   pub literals-written : literals-after ≡ written r (rowsFrom notes 0 (f .names .literals)) literals
   pub bytes-written : bytes-after ≡ written r (bytesFrom text notes 0 (f .names .literals)) bytes

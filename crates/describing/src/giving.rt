@@ -5,17 +5,15 @@ ghost use lib.ListN.{length};
 ghost use Rattle.describing.specs.Calls.{roomFor, Ready, Roomy, Wrote, Given};
 use crate::Described;
 use crate::Sizes;
+use content::Row;
 use outputs::copies::copy_named;
 use outputs::copies::copy_numbers;
 use outputs::literals::copy_rows;
 use outputs::literals::copy_words;
 use storing::Found;
+use tables::rows::NAME_WIDTH;
 
 // The numbers of a row, and of a name's row.
-const WIDTH: usize = 5;
-
-const NAME_WIDTH: usize = 18;
-
 // The counts, or what the first output that lacks room needs.
 fn room_for(needed: Sizes, has: Sizes) -> Described
     ensures { λ r. ⌜ r ≡ roomFor needed has ⌝ }
@@ -70,7 +68,7 @@ fn write(
 {
     let n = found.count;
     let kept = found.names;
-    copy_numbers(laid, n * WIDTH, rows);
+    copy_numbers(laid, n * Row::WIDTH, rows);
     copy_named(entries, n, places);
     copy_numbers(named, kept.count * NAME_WIDTH, names);
     copy_numbers(spots, kept.count, name_places);
@@ -100,11 +98,11 @@ pub fn give(
     let n = found.count;
     let kept = found.names;
     let needed = Sizes {
-        rows: n * WIDTH,
+        rows: n * Row::WIDTH,
         places: n,
         names: kept.count * NAME_WIDTH,
         spots: kept.count,
-        literals: kept.literals * WIDTH,
+        literals: kept.literals * Row::WIDTH,
         bytes: kept.bytes,
     };
     let has = Sizes {

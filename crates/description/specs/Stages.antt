@@ -25,6 +25,7 @@ use Rattle.description.specs.declared.Spelled.{Spelled}
 use Rattle.description.specs.declared.Spelled.the-variants as Spelled
 use Rattle.description.specs.declared.Leveled.{Leveled}
 use Rattle.description.specs.declared.Leveled.the-variants as Leveled
+use Rattle.content.specs.Kinds.{kindSignLeading, kindSignTrailing}
 
 -- how many blanks stand first
 unfoldable pub blanks : List ℕ → ℕ
@@ -105,7 +106,7 @@ sided kind (Reached.Fault k) = Sided.Fault k
 -- "LEADING or TRAILING": no word begins as both
 abbrev pub sideAt : List ℕ → ℕ → Sided
 sideAt text n =
-    cond (eqb (getD text (inked text n) 0) 0x54) (sided 6 (literalAt (bytes "TRAILING") text n)) (sided 5 (literalAt (bytes "LEADING") text n))
+    cond (eqb (getD text (inked text n) 0) 0x54) (sided kindSignTrailing (literalAt (bytes "TRAILING") text n)) (sided kindSignLeading (literalAt (bytes "LEADING") text n))
 
 abbrev pub afterSeparate : ℕ → ℕ → ℕ → Reached → Clauses
 afterSeparate kind i j (Reached.Word k) = Clauses.Ended kind (i + j + 1) j (i + j) k

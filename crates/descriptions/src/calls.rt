@@ -3,6 +3,8 @@ ghost use mathlib.Core.Path.{_≡_};
 ghost use Prim.Native.Nat.{_≤_};
 ghost use lib.ListN.{length};
 ghost use Rattle.describing.specs.Calls.{ReadsWithin, SoonerBy, DescribedBy};
+ghost use Rattle.tables.specs.Rows.{nameWidth};
+use content::Row;
 use describer::reading::read_entries;
 use describing::Described;
 use describing::giving::give;
@@ -10,6 +12,8 @@ use layouts::Laid;
 use layouts::rows::lay_rows;
 use storing::Found;
 use storing::Names;
+use tables::rows::NAME_TABLE;
+use tables::rows::NAME_WIDTH;
 
 // The entries of a text: byte 4,096 is faulty.
 fn read_within(
@@ -22,7 +26,7 @@ fn read_within(
     row: &mut [u32],
 ) -> Found
     requires { ⌜ (5747 ≤ length (now entries)) × (821 ≤ length (now stack)) ⌝ }
-    requires { ⌜ (1152 ≤ length (now named)) × ((64 ≤ length (now spots)) × ((448 ≤ length (now notes)) × (length (now row) ≡ 18))) ⌝ }
+    requires { ⌜ (1152 ≤ length (now named)) × ((64 ≤ length (now spots)) × ((448 ≤ length (now notes)) × (length (now row) ≡ nameWidth))) ⌝ }
     ensures { λ r. ⌜ ReadsWithin (now (text .entry)) (now (entries .exit)) (now (named .exit)) (now (spots .exit)) (now (notes .exit)) r ⌝ }
 {
     if text.len() <= 4096 {
@@ -77,7 +81,7 @@ fn describe_with(
     bytes: &mut [u8],
 ) -> Described
     requires { ⌜ (5747 ≤ length (now entries)) × ((821 ≤ length (now stack)) × (320 ≤ length (now laid))) ⌝ }
-    requires { ⌜ (1152 ≤ length (now named)) × ((64 ≤ length (now spots)) × ((448 ≤ length (now notes)) × (length (now row) ≡ 18))) ⌝ }
+    requires { ⌜ (1152 ≤ length (now named)) × ((64 ≤ length (now spots)) × ((448 ≤ length (now notes)) × (length (now row) ≡ nameWidth))) ⌝ }
     ensures { λ r. ⌜ DescribedBy (now (text .entry)) (now (rows .entry)) (now (places .entry)) (now (names .entry)) (now («name_places» .entry)) (now (literals .entry)) (now (bytes .entry)) r (now (rows .exit)) (now (places .exit)) (now (names .exit)) (now («name_places» .exit)) (now (literals .exit)) (now (bytes .exit)) ⌝ }
 {
     let found = read_within(text, entries, stack, named, spots, notes, row);
@@ -123,11 +127,11 @@ pub fn describe(
 {
     let mut entries = [0u32; 5747];
     let mut stack = [0u32; 821];
-    let mut named = [0u32; 1152];
+    let mut named = [0u32; NAME_TABLE];
     let mut spots = [0u32; 64];
     let mut notes = [0u32; 448];
-    let mut row = [0u32; 18];
-    let mut laid = [0u32; 320];
+    let mut row = [0u32; NAME_WIDTH];
+    let mut laid = [0u32; Row::TABLE];
     describe_with(
         text,
         &mut entries,

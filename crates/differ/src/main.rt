@@ -3,12 +3,14 @@
 mod files;
 mod print;
 
+use content::Row;
 use describing::Described;
 use descriptions::calls::describe;
 use differences::calls::differ;
 use files::read_file;
 use fronts::front;
 use fronts::front_bytes;
+use tables::rows::NAME_TABLE;
 
 // A text of 4,096 bytes is the longest that may be valid; one byte more tells that a file is longer.
 const TEXT: usize = 4097;
@@ -16,12 +18,12 @@ const TEXT: usize = 4097;
 // No item ends after byte 131,070.
 const RECORD: usize = 131072;
 
-const ROW_NUMBERS: usize = 320;
+const ROW_NUMBERS: usize = Row::TABLE;
 
 const ROWS: usize = 64;
 
 // The room that any description's condition-names and their literals need, which are not listed.
-const NAME_NUMBERS: usize = 1152;
+const NAME_NUMBERS: usize = NAME_TABLE;
 
 const LITERAL_BYTES: usize = 4096;
 

@@ -8,6 +8,7 @@ ghost use Rattle.tables.specs.Refusals.{firstOf};
 ghost use Rattle.differences.specs.Differ.{differences, endCheck, differLines, differing};
 use crate::rows::item_differs;
 use crate::rows::list_row;
+use content::Row;
 use items::lines::check_items;
 use items::lines::check_room;
 use tables::Check;
@@ -20,7 +21,7 @@ use tables::rows::row_at;
 fn check_ends(items: &[u32], first: &[u8], second: &[u8]) -> Check
     ensures { λ r. ⌜ r ≡ endCheck (now (items .entry)) (now (first .entry)) (now (second .entry)) ⌝ }
 {
-    let rows = items.len() / 5;
+    let rows = items.len() / Row::WIDTH;
     let mut v: usize = 0;
     while v < rows {
         let row = row_at(items, v);
@@ -48,7 +49,7 @@ fn count_differences(items: &[u32], first: &[u8], second: &[u8]) -> usize
     requires { ⌜ firstOf (differLines (now items) (now first) (now second)) ≡ Sound ⌝ }
     ensures { λ r. ⌜ r ≡ length (differences (now (items .entry)) (now (first .entry)) (now (second .entry))) ⌝ }
 {
-    let rows = items.len() / 5;
+    let rows = items.len() / Row::WIDTH;
     let mut count: usize = 0;
     let mut v: usize = 0;
     while v < rows {
@@ -65,7 +66,7 @@ fn write_differences(items: &[u32], first: &[u8], second: &[u8], list: &mut [u32
     requires { ⌜ (firstOf (differLines (now items) (now first) (now second)) ≡ Sound) × (length (differences (now items) (now first) (now second)) ≤ length (now list)) ⌝ }
     ensures { λ r. ⌜ now (list .exit) ≡ differences (now (items .entry)) (now (first .entry)) (now (second .entry)) ++ drop (length (differences (now (items .entry)) (now (first .entry)) (now (second .entry)))) (now (list .entry)) ⌝ }
 {
-    let rows = items.len() / 5;
+    let rows = items.len() / Row::WIDTH;
     let mut count: usize = 0;
     let mut v: usize = 0;
     while v < rows {

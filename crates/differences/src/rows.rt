@@ -8,10 +8,10 @@ ghost use lib.Seq.{sets};
 ghost use Rattle.tables.specs.Rows.{part};
 ghost use Rattle.differences.specs.Differ.{differs, mark, entryOf, Held};
 use compare::orders::relation_holds;
+use content::Row;
 use items::parts::same_bytes;
 use numbers::reading::read_number;
 use scaled::compare_scaled;
-use tables::Row;
 use tables::rows::is_group;
 use tables::rows::is_numeric;
 use tables::rows::row_part;
@@ -33,8 +33,8 @@ fn mark_of(row: Row, first: &[u8], second: &[u8]) -> u32
     if !is_numeric(row) {
         return 0x56;
     }
-    let one = read_number(row.kind, row.digits, row_part(row, first));
-    let other = read_number(row.kind, row.digits, row_part(row, second));
+    let one = read_number(row, row_part(row, first));
+    let other = read_number(row, row_part(row, second));
     if !(one.valid & other.valid) {
         return 0x49;
     }

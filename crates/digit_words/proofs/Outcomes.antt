@@ -14,7 +14,7 @@ use Rattle.compare.specs.Order.{order}
 use Rattle.compare.specs.Classes.{classHolds}
 use Rattle.content.specs.WrongByte.{nowhere, validContent}
 use Rattle.content.proofs.WrongByte.{valid-digits}
-use Rattle.tables.specs.declared.Row.{Row}
+use Rattle.content.specs.declared.Row.{Row}
 use Rattle.tables.specs.Rows.{isGroup, rowAt, part}
 use Rattle.tables.specs.Tokens.{isItem, indexOf}
 use Rattle.tables.specs.Operands.{Lent, rowOf, operandBytes}

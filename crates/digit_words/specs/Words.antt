@@ -4,7 +4,8 @@ use mathlib.Core.List.{List, [], _∷_, map}
 use Prim.Native.Nat.{ℕ, zero, suc, _+_, _*_, _/_, _%_}
 use lib.Bits.{bitXor}
 use lib.Dec.{eqb, leb}
-use Rattle.tables.specs.declared.Row.{Row}
+use Rattle.content.specs.declared.Row.{Row}
+use Rattle.content.specs.Kinds.{kindUnsigned}
 
 -- the number that bytes write in base 256 after the number n
 unfoldable pub wordFrom : ℕ → List ℕ → ℕ
@@ -26,4 +27,4 @@ digitsIn (suc k) word = leb (word % 256) 9 && digitsIn k (word / 256)
 
 -- A row that is read as a word: "3 unsigned numeric" of at most 8 bytes, each a digit.
 abbrev pub fitsWord : Row → Bool
-fitsWord row = eqb (row .kind) 3 && leb (row .size) 8
+fitsWord row = eqb (row .kind) kindUnsigned && leb (row .size) 8

@@ -18,6 +18,7 @@ use Rattle.levels.specs.Stack.{groupsOf, enteredBy}
 use Rattle.entries.specs.declared.Noted.{Noted}
 use Rattle.entries.specs.declared.EntryRead.{EntryRead}
 use Rattle.entries.specs.declared.EntryRead.the-variants.{Whole, Name, Fault}
+use Rattle.content.specs.Kinds.{kindGroup}
 
 abbrev pub cap : ℕ → ℕ
 cap n = min n 65536
@@ -78,7 +79,7 @@ capEntry (Fault k) = Fault k
 
 -- The entry that was noted: kind 0 is a group.
 abbrev pub contentOf : ℕ → ℕ → ℕ → ℕ → Content
-contentOf kind size scale digits = cond (eqb kind 0) group (item kind size scale digits)
+contentOf kind size scale digits = cond (eqb kind kindGroup) group (item kind size scale digits)
 
 abbrev pub entryOf : Noted → Entry
 entryOf x = entry (x .level) (x .place) (x .named) (contentOf (x .kind) (x .size) (x .scale) (x .digits))

@@ -6,6 +6,7 @@ ghost use Rattle.description.specs.Grammar.{packedKind};
 ghost use Rattle.description.specs.Stages.{sideAt, afterSide, signAt, packedAt, usageAt, clausesAt};
 ghost use Rattle.description.specs.declared.Clauses.the-variants as Clauses;
 ghost use Rattle.entries.specs.Entries.{cap, capClauses, sidedBy, separateAt, pictureClause};
+use content::Row;
 use description::Clauses;
 use description::Pictured;
 use description::Reached;
@@ -32,9 +33,9 @@ fn side_at(text: &[u8], n: usize) -> Sided
 {
     let p = next_ink(text, n);
     if byte_at(text, p) == 0x54 {
-        side_word(b"TRAILING", 6, text, n)
+        side_word(b"TRAILING", Row::SIGN_TRAILING, text, n)
     } else {
-        side_word(b"LEADING", 5, text, n)
+        side_word(b"LEADING", Row::SIGN_LEADING, text, n)
     }
 }
 
@@ -86,9 +87,9 @@ fn packed_kind(signed: bool) -> u32
     ensures { λ r. ⌜ r ≡ packedKind signed ⌝ }
 {
     if signed {
-        return 8;
+        return Row::PACKED;
     }
-    9
+    Row::PACKED_UNSIGNED
 }
 
 // COMP-3 after a picture of i and j digits.

@@ -6,6 +6,7 @@ ghost use Rattle.entries.specs.Entries.{entryAt, namedAt, itemAt, capEnt
 use crate::EntryRead;
 use crate::Noted;
 use crate::clauses::clauses_at;
+use content::Row;
 use description::Called;
 use description::Clauses;
 use description::Leveled;
@@ -58,7 +59,7 @@ fn named_at(text: &[u8], level: u32, depth: usize, p: usize) -> EntryRead
                 level,
                 place,
                 named,
-                kind: 0,
+                kind: Row::GROUP,
                 size: 0,
                 scale: 0,
                 digits: 0,

@@ -8,8 +8,8 @@ ghost use Rattle.values.specs.Comparison.{side};
 ghost use Rattle.values.specs.Truth.{relationOutcome, classOutcome, Fit};
 ghost use Rattle.columns.specs.Columns.{recordAt, Right, Laid};
 use compare::classes::class_holds;
+use content::Row;
 use tables::Outcome;
-use tables::Row;
 use tables::rows::row_part;
 use truth::conditions::sides_outcome;
 use truth::conditions::truth_value;
@@ -101,7 +101,7 @@ pub(crate) fn classify_each(
         if at[j] == place {
             let record = &records[base..base + size];
             let bytes = row_part(row, record);
-            let holds = class_holds(word, row.kind, row.digits, bytes);
+            let holds = class_holds(word, row, bytes);
             truths[j] = truth_number(truth_value(negated, holds));
         }
         base += size;

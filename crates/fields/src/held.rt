@@ -6,13 +6,16 @@ ghost use lib.ListN.{length};
 ghost use Rattle.content.specs.Content.{all, isDigit, isSign, isSignedDigit, digitBytes, isMinus};
 ghost use Rattle.content.specs.Marks.{agree};
 ghost use Rattle.content.specs.WrongByte.{At, rightByte, firstWrong, validContent};
-use crate::packed::is_packed;
 use crate::packed::packed_right;
 use crate::packed::packed_valid;
+use content::Row;
 use content::letters::all_in_alphabet;
 use content::letters::in_alphabet;
 use content::marks::is_digit;
 use content::marks::marks;
+use content::relations::ALPHABETIC;
+use content::rows::is_packed;
+use content::rows::is_zoned;
 
 pub fn is_sign(b: u8) -> bool
     ensures { λ r. ⌜ r ≡ isSign b ⌝ }
@@ -55,7 +58,7 @@ fn many_digits(marks: &[u64; 16], bytes: &[u8]) -> bool
 }
 
 // Most items are short, and there the loop with an exit costs less.
-fn all_digits(bytes: &[u8]) -> bool
+pub fn all_digits(bytes: &[u8]) -> bool
     ensures { λ r. ⌜ r ≡ all isDigit (now (bytes .entry)) ⌝ }
 {
     let marks = marks();
@@ -66,104 +69,101 @@ fn all_digits(bytes: &[u8]) -> bool
 }
 
 // The bytes that hold digits: after a leading sign they start at 1, before a trailing one they end early.
-pub fn digit_bytes(kind: u32, bytes: &[u8]) -> &[u8]
+pub fn digit_bytes(row: Row, bytes: &[u8]) -> &[u8]
     requires { ⌜ 1 ≤ length (now bytes) ⌝ }
-    ensures { λ r. ⌜ now r ≡ digitBytes kind (now (bytes .entry)) ⌝ }
+    ensures { λ r. ⌜ now r ≡ digitBytes (row .kind) (now (bytes .entry)) ⌝ }
 {
-    if kind == 5 {
+    let kind = row.kind;
+    if kind == Row::SIGN_LEADING {
         return &bytes[1..];
     }
-    if kind == 6 {
+    if kind == Row::SIGN_TRAILING {
         let last = bytes.len() - 1;
         return &bytes[..last];
     }
     bytes
 }
 
-pub fn valid_content(kind: u32, digits: u32, bytes: &[u8]) -> bool
+pub fn valid_content(row: Row, bytes: &[u8]) -> bool
     requires { ⌜ 1 ≤ length (now bytes) ⌝ }
-    ensures { λ r. ⌜ r ≡ validContent kind digits (now (bytes .entry)) ⌝ }
+    ensures { λ r. ⌜ r ≡ validContent (row .kind) (row .digits) (now (bytes .entry)) ⌝ }
 {
+    let kind = row.kind;
     let last = bytes.len() - 1;
-    if kind == 3 {
+    if kind == Row::UNSIGNED {
         return all_digits(bytes);
     }
-    if kind == 4 {
+    if kind == Row::SIGNED {
         return all_digits(&bytes[..last]) & is_signed_digit(bytes[last]);
     }
-    if kind == 5 {
+    if kind == Row::SIGN_LEADING {
         return is_sign(bytes[0]) & all_digits(&bytes[1..]);
     }
-    if kind == 6 {
+    if kind == Row::SIGN_TRAILING {
         return all_digits(&bytes[..last]) & is_sign(bytes[last]);
     }
-    if kind == 1 {
-        return all_in_alphabet(11, bytes);
+    if kind == Row::ALPHABETIC {
+        return all_in_alphabet(ALPHABETIC, bytes);
     }
-    if is_packed(kind) {
-        return packed_valid(kind, digits, bytes);
+    if is_packed(row) {
+        return packed_valid(row, bytes);
     }
     true
 }
 
-pub fn is_minus(kind: u32, bytes: &[u8]) -> bool
+pub fn is_minus(row: Row, bytes: &[u8]) -> bool
     requires { ⌜ 1 ≤ length (now bytes) ⌝ }
-    ensures { λ r. ⌜ r ≡ isMinus kind (now (bytes .entry)) ⌝ }
+    ensures { λ r. ⌜ r ≡ isMinus (row .kind) (now (bytes .entry)) ⌝ }
 {
+    let kind = row.kind;
     let last = bytes.len() - 1;
-    if kind == 4 {
+    if kind == Row::SIGNED {
         return bytes[last] / 16 == 4;
     }
-    if kind == 5 {
+    if kind == Row::SIGN_LEADING {
         return bytes[0] == 0x2d;
     }
-    if kind == 6 {
+    if kind == Row::SIGN_TRAILING {
         return bytes[last] == 0x2d;
     }
-    if is_packed(kind) {
+    if is_packed(row) {
         return bytes[last] % 16 == 4;
     }
     false
 }
 
 // Whether a byte may stand in a field, as its first byte or not and as its last or not.
-fn is_right(marks: &[u64; 16], kind: u32, digits: u32, first: bool, last: bool, b: u8) -> bool
+fn is_right(marks: &[u64; 16], row: Row, first: bool, last: bool, b: u8) -> bool
     requires { ⌜ agree (now marks) ≡ true ⌝ }
-    ensures { λ r. ⌜ r ≡ rightByte kind digits first last b ⌝ }
+    ensures { λ r. ⌜ r ≡ rightByte (row .kind) (row .digits) first last b ⌝ }
 {
-    if kind == 1 {
-        return in_alphabet(marks, 11, b);
+    let kind = row.kind;
+    if kind == Row::ALPHABETIC {
+        return in_alphabet(marks, ALPHABETIC, b);
     }
-    if (kind == 4) & last {
+    if (kind == Row::SIGNED) & last {
         return is_signed_digit(b);
     }
-    if ((kind == 5) & first) | ((kind == 6) & last) {
+    if ((kind == Row::SIGN_LEADING) & first) | ((kind == Row::SIGN_TRAILING) & last) {
         return is_sign(b);
     }
-    if (3 <= kind) & (kind <= 6) {
+    if is_zoned(row) {
         return is_digit(marks, b);
     }
-    if is_packed(kind) {
-        return packed_right(kind, digits, first, last, b);
+    if is_packed(row) {
+        return packed_right(row, first, last, b);
     }
     true
 }
 
 // Where the first wrong byte stands. It is looked for only after a faster test of the whole field has failed.
-pub fn first_wrong(kind: u32, digits: u32, bytes: &[u8]) -> usize
-    requires { ⌜ validContent kind digits (now bytes) ≡ false ⌝ }
-    ensures { λ r. ⌜ firstWrong kind digits (now (bytes .entry)) ≡ At r ⌝ }
+pub fn first_wrong(row: Row, bytes: &[u8]) -> usize
+    requires { ⌜ validContent (row .kind) (row .digits) (now bytes) ≡ false ⌝ }
+    ensures { λ r. ⌜ firstWrong (row .kind) (row .digits) (now (bytes .entry)) ≡ At r ⌝ }
 {
     let marks = marks();
     let mut at: usize = 0;
-    while is_right(
-        &marks,
-        kind,
-        digits,
-        at == 0,
-        at + 1 == bytes.len(),
-        bytes[at],
-    ) {
+    while is_right(&marks, row, at == 0, at + 1 == bytes.len(), bytes[at]) {
         at += 1;
     }
     at

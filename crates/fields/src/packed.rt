@@ -3,14 +3,9 @@ ghost use mathlib.Core.Path.{_≡_};
 ghost use mathlib.Core.Bool.{_&&_};
 ghost use Prim.Native.Nat.{_≤_};
 ghost use lib.ListN.{length};
-ghost use Rattle.content.specs.Packed.{isPacked, leftHalf, twoDigits, digitAndSign, leads, packedRight};
+ghost use Rattle.content.specs.Packed.{leftHalf, twoDigits, digitAndSign, leads, packedRight};
 ghost use Rattle.content.specs.Content.{all, firstByte, lastByte, butLast};
-
-pub fn is_packed(kind: u32) -> bool
-    ensures { λ r. ⌜ r ≡ isPacked kind ⌝ }
-{
-    (kind == 8) | (kind == 9)
-}
+use content::Row;
 
 pub fn left_half(b: u8) -> u8
     ensures { λ r. ⌜ r ≡ leftHalf b ⌝ }
@@ -24,17 +19,17 @@ pub fn two_digits(b: u8) -> bool
     (b / 16 % 16 <= 9) & (b % 16 <= 9)
 }
 
-pub fn digit_and_sign(kind: u32, b: u8) -> bool
-    ensures { λ r. ⌜ r ≡ digitAndSign kind b ⌝ }
+pub fn digit_and_sign(row: Row, b: u8) -> bool
+    ensures { λ r. ⌜ r ≡ digitAndSign (row .kind) b ⌝ }
 {
-    (b / 16 % 16 <= 9) & ((b % 16 == 3) | ((b % 16 == 4) & (kind == 8)))
+    (b / 16 % 16 <= 9) & ((b % 16 == 3) | ((b % 16 == 4) & (row.kind == Row::PACKED)))
 }
 
-// Whether the first byte may lead so many digits.
-pub fn may_lead(digits: u32, b: u8) -> bool
-    ensures { λ r. ⌜ r ≡ leads digits b ⌝ }
+// Whether the first byte may lead the digits.
+pub fn may_lead(row: Row, b: u8) -> bool
+    ensures { λ r. ⌜ r ≡ leads (row .digits) b ⌝ }
 {
-    !(digits % 2 == 0) | (b / 16 % 16 == 0)
+    !(row.digits % 2 == 0) | (b / 16 % 16 == 0)
 }
 
 fn all_two_digits(bytes: &[u8]) -> bool
@@ -49,17 +44,17 @@ fn all_two_digits(bytes: &[u8]) -> bool
     fine
 }
 
-pub(crate) fn packed_valid(kind: u32, digits: u32, bytes: &[u8]) -> bool
+pub(crate) fn packed_valid(row: Row, bytes: &[u8]) -> bool
     requires { ⌜ 1 ≤ length (now bytes) ⌝ }
-    ensures { λ r. ⌜ r ≡ (all twoDigits (butLast (now (bytes .entry))) && digitAndSign kind (lastByte (now (bytes .entry))) && leads digits (firstByte (now (bytes .entry)))) ⌝ }
+    ensures { λ r. ⌜ r ≡ (all twoDigits (butLast (now (bytes .entry))) && digitAndSign (row .kind) (lastByte (now (bytes .entry))) && leads (row .digits) (firstByte (now (bytes .entry)))) ⌝ }
 {
     let last = bytes.len() - 1;
     let pairs = all_two_digits(&bytes[..last]);
-    pairs & digit_and_sign(kind, bytes[last]) & may_lead(digits, bytes[0])
+    pairs & digit_and_sign(row, bytes[last]) & may_lead(row, bytes[0])
 }
 
-pub(crate) fn packed_right(kind: u32, digits: u32, first: bool, last: bool, b: u8) -> bool
-    ensures { λ r. ⌜ r ≡ packedRight kind digits first last b ⌝ }
+pub(crate) fn packed_right(row: Row, first: bool, last: bool, b: u8) -> bool
+    ensures { λ r. ⌜ r ≡ packedRight (row .kind) (row .digits) first last b ⌝ }
 {
-    (!last | digit_and_sign(kind, b)) & (last | two_digits(b)) & (!first | may_lead(digits, b))
+    (!last | digit_and_sign(row, b)) & (last | two_digits(b)) & (!first | may_lead(row, b))
 }

@@ -3,7 +3,7 @@ use mathlib.Core.Bool.{Bool, cond, not, _&&_}
 use mathlib.Core.List.{List, [], _∷_, _++_}
 use Prim.Native.Nat.{ℕ}
 use lib.Dec.{eqb, leb}
-use Rattle.tables.specs.declared.Row.{Row}
+use Rattle.content.specs.declared.Row.{Row}
 use Rattle.description.specs.Grammar.{bytes}
 use Rattle.lines.specs.Put.{hexadecimal}
 use Rattle.lines.specs.Parts.{Part, say, count, column, countColumn}

@@ -1,11 +1,11 @@
 // A description's row.
 ghost use Rattle.lines.specs.Parts.{PutsLine};
 ghost use Rattle.item_lines.specs.Items.{itemLine};
+use content::Row;
 use lines::numbers::put_number;
 use lines::numbers::put_number_column;
 use lines::text::put;
 use lines::text::put_column;
-use tables::Row;
 use wordings::kinds::put_kind;
 
 // Row number, name, kind, offset, size, digits and scale, in columns.

@@ -8,7 +8,7 @@ use mathlib.Core.List.{List, _∷_, _++_, append-nil, append-assoc}
 use lib.ListN.{length, getD, take, drop, set, drop-of-length-le}
 use lib.Seq.{length-take-le, take-suc, take-all, drop-cons, drop-drop, set-at, append-snoc}
 use borrow.Rule.Slice.PartMut.{putMid}
-use Rattle.tables.specs.declared.Row.{Row}
+use Rattle.content.specs.declared.Row.{Row}
 use Rattle.items.specs.Items.{replaced}
 
 -- a copy of which i bytes are made

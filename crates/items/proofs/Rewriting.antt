@@ -9,7 +9,7 @@ use mathlib.Core.Logic.{_⊎_, inl, inr, ⊎-elim}
 use mathlib.Core.Bool.{Bool, true, false, cond, true≢false}
 use lib.ListN.{length, getD, take, drop, length-append, length-drop, List·getD-append, take-append-drop}
 use lib.Seq.{length-take-le, getD-append-add, getD-take, getD-drop, take-add, ext-getD}
-use Rattle.tables.specs.declared.Row.{Row}
+use Rattle.content.specs.declared.Row.{Row}
 use Rattle.tables.specs.Rows.{rowAt, part}
 use Rattle.tables.proofs.Bytes.{part-length}
 use Rattle.items.specs.Items.{elementaryAt, partAt, replaced, rewritten}

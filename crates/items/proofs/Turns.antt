@@ -9,7 +9,7 @@ use lib.Dec.{leb}
 use borrow.Author.Tests.{le-leb, leb-true, not-true, not-false}
 use Rattle.tables.specs.declared.Check.the-variants.{Sound}
 use Rattle.tables.specs.declared.Refusal.the-variants.{Overlap}
-use Rattle.tables.specs.declared.Row.{Row}
+use Rattle.content.specs.declared.Row.{Row}
 use Rattle.tables.proofs.Tests.{both}
 use Rattle.tables.specs.Rows.{rowAt, rowCount, isGroup}
 use Rattle.tables.proofs.Lines.{failing-none}

@@ -3,7 +3,7 @@ ghost use mathlib.Core.Path.{_≡_};
 ghost use Prim.Native.Nat.{_+_, _≤_};
 ghost use lib.ListN.{length, take};
 ghost use Rattle.items.specs.Items.{same, replaced};
-use tables::Row;
+use content::Row;
 
 // Byte by byte, up to the first that differs: for what is left of a block.
 fn same_each(xs: &[u8], ys: &[u8]) -> bool

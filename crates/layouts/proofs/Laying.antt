@@ -13,7 +13,7 @@ use lib.Seq.{sets, sets-eq, take-append-le, take-at, length-take-le, take-add, l
 use Rattle.description.specs.Grammar.{Row, row, Entry, group, item, isSigned, groupKind}
 use Rattle.description.specs.Reader.{sizeOf, below, signedBelow, rowOf, layout}
 use Rattle.description.specs.Limits.{most, over, passes}
-use Rattle.description.proofs.Bytes.{apart, eqb-no, leb-so, leb-no}
+use Rattle.description.proofs.Bytes.{apart, eqb-no}
 use Rattle.entries.specs.Entries.{contentOf, entryOf}
 use Rattle.storing.specs.Stored.{notedAt, notedFrom}
 use Rattle.layouts.specs.Layouts.{firstOver, shownRow, entriesIn, Sized, Signed, Summed, rowIn, numbersOf, rowNumbers, overPlace, LaidOut}
@@ -25,17 +25,17 @@ use Rattle.layouts.specs.declared.Laid.the-variants.{Over, Fine}
 pub most-group : (k : ℕ) → eqb k 0 || eqb k 7 ≡ true → 65535 ≡ most k
 most-group k e = rw e
 
-pub most-letters : (k : ℕ) → eqb k 0 || eqb k 7 ≡ false → k ≤ 2 → 256 ≡ most k
-most-letters k h l = rw (h, leb-so l)
+pub most-letters : (k : ℕ) → eqb k 0 || eqb k 7 ≡ false → eqb k 1 || eqb k 2 ≡ true → 256 ≡ most k
+most-letters k h l = rw (h, l)
 
-pub most-digits : (k : ℕ) → eqb k 0 || eqb k 7 ≡ false → 2 < k → k ≤ 4 → 18 ≡ most k
-most-digits k h l m = rw (h, leb-no k 2 l, leb-so m)
+pub most-digits : (k : ℕ) → eqb k 0 || eqb k 7 ≡ false → eqb k 1 || eqb k 2 ≡ false → eqb k 3 || eqb k 4 ≡ true → 18 ≡ most k
+most-digits k h l m = rw (h, l, m)
 
-pub most-signed : (k : ℕ) → eqb k 0 || eqb k 7 ≡ false → 2 < k → 4 < k → 19 ≡ most k
-most-signed k h l m = rw (h, leb-no k 2 l, leb-no k 4 m)
+pub most-signed : (k : ℕ) → eqb k 0 || eqb k 7 ≡ false → eqb k 1 || eqb k 2 ≡ false → eqb k 3 || eqb k 4 ≡ false → 19 ≡ most k
+most-signed k h l m = rw (h, l, m)
 
 pub most-le : (k : ℕ) → most k ≤ 65535
-most-le k = by (eqb k 0 || eqb k 7) (leb k 2) (leb k 4)
+most-le k = by (eqb k 0 || eqb k 7) (eqb k 1 || eqb k 2) (eqb k 3 || eqb k 4)
   where
     by : (a b c : Bool) → cond a 65535 (cond b 256 (cond c 18 19)) ≤ 65535
     by true b c = omega arith

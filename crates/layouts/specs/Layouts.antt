@@ -13,6 +13,7 @@ use Rattle.storing.specs.Stored.{notedAt, notedFrom}
 use Rattle.layouts.specs.declared.ItemRow.{ItemRow}
 use Rattle.layouts.specs.declared.Laid.{Laid}
 use Rattle.layouts.specs.declared.Laid.the-variants.{Over, Fine}
+use Rattle.content.specs.Kinds.{rowWidth}
 
 abbrev pub shownRow : ItemRow → Row
 shownRow r = row (r .kind) (r .offset) (r .size) (r .scale) (r .digits)
@@ -61,5 +62,5 @@ firstOver n (e ∷ es) (r ∷ rs) = cond (over n r) (some (e .place)) (firstOver
 -- The place of the first entry over a limit; where there is none, the rows.
 pub record LaidOut (flat : List ℕ) (n : ℕ) (r : Laid) (rows : List ℕ) : Type 0 where
   pub limit : firstOver 0 (entriesIn flat 0 n) (layout 0 (entriesIn flat 0 n)) ≡ overPlace r
-  pub laid : r ≡ Fine → take (n * 5) rows ≡ rowNumbers (layout 0 (entriesIn flat 0 n))
+  pub laid : r ≡ Fine → take (n * rowWidth) rows ≡ rowNumbers (layout 0 (entriesIn flat 0 n))
   pub few : r ≡ Fine → n ≤ 64

@@ -3,17 +3,18 @@ ghost use mathlib.Core.Path.{_≡_};
 ghost use Rattle.description.specs.Limits.{most, over};
 ghost use Rattle.layouts.specs.Layouts.{shownRow};
 use crate::ItemRow;
+use content::Row;
 
 fn most_of(kind: u32) -> usize
     ensures { λ r. ⌜ r ≡ most kind ⌝ }
 {
-    if (kind == 0) | (kind == 7) {
+    if (kind == Row::GROUP) | (kind == Row::UNSIGNED_GROUP) {
         return 65535;
     }
-    if kind <= 2 {
+    if (kind == Row::ALPHABETIC) | (kind == Row::ALPHANUMERIC) {
         return 256;
     }
-    if kind <= 4 {
+    if (kind == Row::UNSIGNED) | (kind == Row::SIGNED) {
         return 18;
     }
     19

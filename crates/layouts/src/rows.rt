@@ -6,10 +6,12 @@ ghost use lib.ListN.{length};
 ghost use lib.Seq.{sets};
 ghost use Rattle.description.specs.Grammar.{groupKind};
 ghost use Rattle.layouts.specs.Layouts.{Sized, Signed, Summed, shownRow, entriesIn, rowIn, numbersOf, LaidOut};
+ghost use Rattle.content.specs.Kinds.{rowWidth};
 use crate::Below;
 use crate::ItemRow;
 use crate::Laid;
 use crate::limits::is_over;
+use content::Row;
 
 fn wide(n: u32) -> usize
     ensures { λ r. ⌜ r ≡ n ⌝ }
@@ -23,7 +25,7 @@ fn size_at(entries: &[u32], i: usize) -> usize
     ensures { λ r. ⌜ Sized (now (entries .entry)) i r ⌝ }
 {
     let at = i * 7;
-    if entries[at + 3] == 0 {
+    if entries[at + 3] == Row::GROUP {
         return 0;
     }
     wide(entries[at + 4])
@@ -36,7 +38,10 @@ fn signed_at(entries: &[u32], i: usize) -> bool
 {
     let at = i * 7;
     let kind = entries[at + 3];
-    (kind == 4) | (kind == 5) | (kind == 6) | (kind == 8)
+    (kind == Row::SIGNED)
+        | (kind == Row::SIGN_LEADING)
+        | (kind == Row::SIGN_TRAILING)
+        | (kind == Row::PACKED)
 }
 
 // What a group of this level has by the entries from i on.
@@ -64,9 +69,9 @@ fn group_kind(signed: bool) -> u32
     ensures { λ r. ⌜ r ≡ groupKind signed ⌝ }
 {
     if signed {
-        return 0;
+        return Row::GROUP;
     }
-    7
+    Row::UNSIGNED_GROUP
 }
 
 // The row of entry i at an offset.
@@ -76,7 +81,7 @@ fn row_of(entries: &[u32], i: usize, n: usize, offset: usize) -> ItemRow
 {
     let at = i * 7;
     let kind = entries[at + 3];
-    if kind == 0 {
+    if kind == Row::GROUP {
         let level = entries[at];
         let below = sum_below(entries, i + 1, n, level);
         return ItemRow {
@@ -97,10 +102,10 @@ fn row_of(entries: &[u32], i: usize, n: usize, offset: usize) -> ItemRow
 }
 
 fn store_row(rows: &mut [u32], i: usize, row: ItemRow)
-    requires { ⌜ (i * 5 + 4 < length (now rows)) × ((row .offset ≤ 65535) × (row .size ≤ 65535)) ⌝ }
-    ensures { λ _. ⌜ now (rows .exit) ≡ sets (now (rows .entry)) (i * 5) (numbersOf (shownRow row)) ⌝ }
+    requires { ⌜ (i * rowWidth + 4 < length (now rows)) × ((row .offset ≤ 65535) × (row .size ≤ 65535)) ⌝ }
+    ensures { λ _. ⌜ now (rows .exit) ≡ sets (now (rows .entry)) (i * rowWidth) (numbersOf (shownRow row)) ⌝ }
 {
-    let at = i * 5;
+    let at = i * Row::WIDTH;
     rows[at] = row.kind;
     rows[at + 1] = row.offset as u32;
     rows[at + 2] = row.size as u32;

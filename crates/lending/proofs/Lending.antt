@@ -10,7 +10,7 @@ use lib.Seq.{take-at, take-append-le, drop-append-le}
 use borrow.Author.Tests.{eq-eqb, le-leb}
 use Rattle.tables.specs.declared.Check.the-variants.{Sound}
 use Rattle.tables.specs.declared.Refusal.the-variants.{ItemRow, LiteralRow, Name}
-use Rattle.tables.specs.declared.Row as Rules
+use Rattle.content.specs.declared.Row as Rules
 use Rattle.tables.specs.Rows.{rowCount, nameCount, rowAt, rowSound, part}
 use Rattle.tables.specs.Operands.{Lent}
 use Rattle.tables.specs.Refusals.{firstFailing, firstOf}

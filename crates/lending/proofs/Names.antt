@@ -8,7 +8,7 @@ use lib.Dec.{leb, ltb}
 use lib.ListN.{length, getD, drop, replicate, length-append, length-replicate, List·getD-append}
 use lib.Seq.{getD-append-add}
 use borrow.Author.Tests.{le-leb, lt-ltb, ltb-true, ltb-false}
-use Rattle.tables.specs.declared.Row as Rules
+use Rattle.content.specs.declared.Row as Rules
 use Rattle.tables.specs.Rows.{rowCount, rowAt}
 use Rattle.tables.specs.Operands.{Lent}
 use Rattle.tables.specs.Names.{nameItem, namePairs, nameLow, nameHigh}

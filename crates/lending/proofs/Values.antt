@@ -11,7 +11,7 @@ use lib.IntN.{ℤ, pos, _*ℤ_}
 use lib.Seq.{drop-cons}
 use lib.Signed.{ltZ}
 use borrow.Author.Tests.{lt-ltb, not-false}
-use Rattle.tables.specs.declared.Row as Rules
+use Rattle.content.specs.declared.Row as Rules
 use Rattle.tables.specs.Rows.{rowCount, rowAt, isNumeric, part}
 use Rattle.tables.specs.Operands.{Lent}
 use Rattle.compare.specs.declared.Order.the-variants.{Less, Equal, Greater}

@@ -9,7 +9,7 @@ use lib.Dec.{ltb}
 use lib.ListN.{length, take, drop, set, length-take, length-drop}
 use lib.Seq.{take-suc-set, append-snoc}
 use borrow.Author.Tests.{lt-ltb, le-ltb}
-use Rattle.tables.specs.declared.Row.{Row}
+use Rattle.content.specs.declared.Row.{Row}
 use Rattle.spelling.specs.Names.{Known}
 use Rattle.spelling.specs.Literals.{Literal, rowOfLiteral, laid}
 use Rattle.spelling.specs.Keywords.{Piece as Spelt, token, literal, fault}

@@ -5,7 +5,7 @@ use mathlib.Core.List.{List, [], _∷_, _++_, map}
 use Prim.Native.Nat.{ℕ, _+_, _*_, _≤_, _<_}
 use lib.Dec.{ltb}
 use lib.ListN.{length, take, drop, set}
-use Rattle.tables.specs.declared.Row.{Row}
+use Rattle.content.specs.declared.Row.{Row}
 use Rattle.spelling.specs.Names.{Known, Book, book}
 use Rattle.spelling.specs.Literals.{Literal, rowOfLiteral, laid}
 use Rattle.spelling.specs.Keywords.{Piece as Spelt, token, literal, fault}
@@ -19,6 +19,7 @@ use Rattle.lexer.specs.declared.Stepped.{Stepped}
 use Rattle.lexer.specs.declared.Stepped.the-variants.{On, End, Fault}
 use Rattle.lexer.specs.declared.Lexed.{Lexed}
 use Rattle.lexer.specs.declared.Lexed.the-variants.{Whole, Fault as LexedFault}
+use Rattle.content.specs.Kinds.{kindAlphanumeric, rowWidth}
 
 -- a list with other numbers from a place on
 abbrev pub overAt : ℕ → List ℕ → List ℕ → List ℕ
@@ -60,12 +61,12 @@ totalOf b text =
 
 -- the first `literals` rows and `content` bytes are the description's
 abbrev pub bookIn : Known → ℕ → ℕ → List ℕ → List ℕ → Book
-bookIn known literals content rows bytes = book known (take (literals * 5) rows) (take content bytes)
+bookIn known literals content rows bytes = book known (take (literals * rowWidth) rows) (take content bytes)
 
 -- What is gathered, with what is left, is the whole.
 pub record Gathers (known : Known) (text : List ℕ) (w : Total) (g : Gathered) (tokens rows bytes : List ℕ) : Type 0 where
   pub tokens-are : w .tokens ≡ take (g .tokens) tokens ++ tokensFrom (g .literals) (leftPieces known text (g .past))
-  pub rows-are : w .rows ≡ take (g .literals * 5) rows ++ rowsFrom (g .bytes) (leftPieces known text (g .past))
+  pub rows-are : w .rows ≡ take (g .literals * rowWidth) rows ++ rowsFrom (g .bytes) (leftPieces known text (g .past))
   pub bytes-are : w .bytes ≡ take (g .bytes) bytes ++ bytesOf (leftPieces known text (g .past))
   pub fault-is : w .fault ≡ firstFault (g .literals) (left known text (g .past))
 
@@ -86,7 +87,7 @@ pub record Made (word : List ℕ) (l : Literal) : Type 0 where
   pub by : l ≡ literalBy (l .kind) word
   pub short : length (l .bytes) ≤ length word
   pub small : length (l .bytes) ≤ 256
-  pub quoted : l .kind ≡ 2 → 2 ≤ length word
+  pub quoted : l .kind ≡ kindAlphanumeric → 2 ≤ length word
 
 abbrev pub MadeBy : List ℕ → Spelt → Type 0
 MadeBy word (token t) = Unit {0}
@@ -114,17 +115,17 @@ withLiteral g size past = record { tokens = g .tokens + 1; literals = g .literal
 pub record LiteralRoom (row : Row) (word : List ℕ) (g : Gathered) (tokens rows bytes : List ℕ) : Type 0 where
   pub token-room : g .tokens < length tokens
   pub few : g .literals < 64
-  pub row-room : g .literals * 5 + 5 ≤ length rows
+  pub row-room : g .literals * rowWidth + rowWidth ≤ length rows
   pub near : g .bytes ≤ 65535
   pub room : g .bytes + row .size ≤ length bytes
   pub size : length (literalBy (row .kind) word .bytes) ≡ row .size
   pub small : row .size ≤ 256
-  pub quoted : row .kind ≡ 2 → 2 ≤ length word
+  pub quoted : row .kind ≡ kindAlphanumeric → 2 ≤ length word
 
 pub record LiteralLaid (row : Row) (word : List ℕ) (g : Gathered) (past : ℕ) (tokens rows bytes : List ℕ) (r : Gathered) (tokens-after rows-after bytes-after : List ℕ) : Type 0 where
   pub counts : r ≡ withLiteral g (row .size) past
   pub token-laid : tokens-after ≡ set tokens (g .tokens) (65536 + g .literals)
-  pub row-laid : rows-after ≡ overAt (g .literals * 5) (laid (movedTo (g .bytes) row)) rows
+  pub row-laid : rows-after ≡ overAt (g .literals * rowWidth) (laid (movedTo (g .bytes) row)) rows
   pub bytes-laid : bytes-after ≡ overAt (g .bytes) (literalBy (row .kind) word .bytes) bytes
 
 -- What is gathered, with what is left, stays the whole.
@@ -151,7 +152,7 @@ earlyBy number place = cond (ltb place 2048) (LexedFault number place) (LexedFau
 pub record Holds (b : Book) (text : List ℕ) (g : Gathered) (tokens rows bytes : List ℕ) : Type 0 where
   pub faultless : faultOf (b .known) (literalsBefore b) text ≡ none
   pub tokens-are : totalOf b text .tokens ≡ take (g .tokens) tokens
-  pub rows-are : totalOf b text .rows ≡ take (g .literals * 5) rows
+  pub rows-are : totalOf b text .rows ≡ take (g .literals * rowWidth) rows
   pub bytes-are : totalOf b text .bytes ≡ take (g .bytes) bytes
   pub few-tokens : g .tokens ≤ 2048
   pub few-literals : g .literals ≤ 64

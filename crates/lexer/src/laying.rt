@@ -6,16 +6,16 @@ ghost use Rattle.spelling.specs.Literals.{laid};
 ghost use Rattle.literal_words.specs.Found.{literalBy};
 ghost use Rattle.naming.specs.Named.{knownAt};
 ghost use Rattle.lexer.specs.Gathers.{overAt, movedTo, withToken, LiteralRoom, LiteralLaid, Ready, Meets, Steps};
+ghost use Rattle.content.specs.Kinds.{rowWidth};
 use crate::Gathered;
 use crate::Stepped;
+use content::Row;
 use literal_words::copies::copy_literal;
 use senses::Met;
 use senses::Piece;
-use tables::Row;
+use tables::tokens::FIRST_LITERAL;
 
 // The numbers of a row.
-const WIDTH: usize = 5;
-
 fn wide(x: u32) -> usize
     ensures { λ r. ⌜ r ≡ x ⌝ }
 {
@@ -24,10 +24,10 @@ fn wide(x: u32) -> usize
 
 // A literal's row, laid with its bytes at this offset.
 fn lay_row(row: Row, offset: usize, rows: &mut [u32], v: usize)
-    requires { ⌜ (offset ≤ 65535) × (v * 5 + 5 ≤ length (now rows)) ⌝ }
-    ensures { λ _. ⌜ now (rows .exit) ≡ overAt (v * 5) (laid (movedTo offset row)) (now (rows .entry)) ⌝ }
+    requires { ⌜ (offset ≤ 65535) × (v * rowWidth + rowWidth ≤ length (now rows)) ⌝ }
+    ensures { λ _. ⌜ now (rows .exit) ≡ overAt (v * rowWidth) (laid (movedTo offset row)) (now (rows .entry)) ⌝ }
 {
-    let at = v * WIDTH;
+    let at = v * Row::WIDTH;
     rows[at] = row.kind;
     rows[at + 1] = offset as u32;
     rows[at + 2] = row.size;
@@ -51,9 +51,9 @@ fn add_literal(
     let n = held.tokens;
     let v = held.literals;
     let b = held.bytes;
-    tokens[n] = 65536 + v as u32;
+    tokens[n] = FIRST_LITERAL + v as u32;
     lay_row(row, b, rows, v);
-    copy_literal(row.kind, word, &mut bytes[b..]);
+    copy_literal(row, word, &mut bytes[b..]);
     Gathered {
         tokens: n + 1,
         literals: v + 1,

@@ -10,7 +10,7 @@ use lib.Dec.{eqb, ltb}
 use borrow.Author.Tests.{eq-eqb, ne-eqb}
 use Rattle.content.specs.Content.{all, isDigit, isSign, firstByte, lastByte}
 use Rattle.content.specs.WrongByte.{validContent}
-use Rattle.tables.specs.declared.Row.{Row}
+use Rattle.content.specs.declared.Row.{Row}
 use Rattle.tables.specs.Rows.{rowSound}
 use Rattle.tables.proofs.Bytes.{row-facts}
 use Rattle.literal_words.specs.declared.Number.the-variants.{Is, Not}

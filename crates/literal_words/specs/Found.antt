@@ -5,13 +5,14 @@ use mathlib.Core.List.{List, [], _∷_, _++_}
 use Prim.Native.Nat.{ℕ, suc, _-_, _≤_}
 use lib.Dec.{ltb, leb, eqb}
 use lib.ListN.{length, drop}
-use Rattle.tables.specs.declared.Row.{Row}
+use Rattle.content.specs.declared.Row.{Row}
 use Rattle.spelling.specs.Words.{isQuote}
 use Rattle.spelling.specs.Literals.{Literal, literalDigits, rowOfLiteral, numberOf, isNumber, textOf, isText}
 use Rattle.literal_words.specs.declared.Number.{Number}
 use Rattle.literal_words.specs.declared.Number.the-variants.{Is, Not}
 use Rattle.literal_words.specs.declared.Text.{Text}
 use Rattle.literal_words.specs.declared.Text.the-variants.{Is as Held, Not as NoText}
+use Rattle.content.specs.Kinds.{kindAlphanumeric, kindUnsigned, kindSignLeading}
 
 -- the row of the numeric literal that a word writes, if it writes one
 abbrev pub numberFound : List ℕ → Number
@@ -21,11 +22,11 @@ numberFound word = cond (isNumber word) (Is (rowOfLiteral 0 (numberOf word))) No
 abbrev pub rowBy : ℕ → ℕ → Bool → Row
 rowBy n p signed =
     record {
-      kind = cond signed 5 3;
+      kind = cond signed kindSignLeading kindUnsigned;
       offset = 0;
       size = cond (ltb p n) (n - 1) n;
       scale = n - suc p;
-      digits = literalDigits (cond signed 5 3) (cond (ltb p n) (n - 1) n);
+      digits = literalDigits (cond signed kindSignLeading kindUnsigned) (cond (ltb p n) (n - 1) n);
     }
 
 -- A nonnumeric literal after its opening quote, byte by byte: whether it closes at its end, and the bytes that it holds. `pending`: the
@@ -54,7 +55,7 @@ textFound word = cond (isText word) (Held (length (textOf word .bytes))) NoText
 
 -- the literal of a kind that a word writes
 abbrev pub literalBy : ℕ → List ℕ → Literal
-literalBy kind word = cond (eqb kind 2) (textOf word) (numberOf word)
+literalBy kind word = cond (eqb kind kindAlphanumeric) (textOf word) (numberOf word)
 
 -- an output with these bytes written over its start
 abbrev pub writtenOver : List ℕ → List ℕ → List ℕ

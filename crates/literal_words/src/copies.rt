@@ -7,7 +7,9 @@ ghost use lib.ListN.{length, drop};
 ghost use Rattle.spelling.specs.Words.{isQuote};
 ghost use Rattle.spelling.specs.Literals.{undoubled, numberOf};
 ghost use Rattle.literal_words.specs.Found.{literalBy, writtenOver};
+ghost use Rattle.content.specs.Kinds.{kindAlphanumeric};
 use crate::numbers::point_place;
+use content::Row;
 
 pub fn copy_bytes(from: &[u8], to: &mut [u8])
     requires { ⌜ length (now from) ≤ length (now to) ⌝ }
@@ -57,11 +59,12 @@ fn copy_undoubled(from: &[u8], to: &mut [u8])
 }
 
 // The bytes of a literal of this kind that a word writes.
-pub fn copy_literal(kind: u32, word: &[u8], to: &mut [u8])
-    requires { ⌜ (kind ≡ 2 → 2 ≤ length (now word)) × (length (literalBy kind (now word) .bytes) ≤ length (now to)) ⌝ }
-    ensures { λ _. ⌜ now (to .exit) ≡ writtenOver (literalBy kind (now (word .entry)) .bytes) (now (to .entry)) ⌝ }
+pub fn copy_literal(row: Row, word: &[u8], to: &mut [u8])
+    requires { ⌜ (row .kind ≡ kindAlphanumeric → 2 ≤ length (now word)) × (length (literalBy (row .kind) (now word) .bytes) ≤ length (now to)) ⌝ }
+    ensures { λ _. ⌜ now (to .exit) ≡ writtenOver (literalBy (row .kind) (now (word .entry)) .bytes) (now (to .entry)) ⌝ }
 {
-    if kind == 2 {
+    let kind = row.kind;
+    if kind == Row::ALPHANUMERIC {
         let last = word.len() - 1;
         copy_undoubled(&word[1..last], to);
         return;

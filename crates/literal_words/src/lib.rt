@@ -4,7 +4,7 @@ pub mod copies; // the bytes of a literal
 pub mod numbers; // numeric literals
 pub mod quotes; // nonnumeric literals
 
-use tables::Row;
+use content::Row;
 
 // The row of a numeric literal whose bytes would be laid at offset 0.
 pub enum Number {

@@ -8,10 +8,11 @@ ghost use Rattle.content.specs.Content.{all, isDigit, isSign, firstByte};
 ghost use Rattle.spelling.specs.Literals.{literalDigits, pointPlace, withoutPoint};
 ghost use Rattle.literal_words.specs.Found.{numberFound, rowBy};
 ghost use Rattle.content.specs.WrongByte.{validContent};
+ghost use Rattle.content.specs.Kinds.{kindUnsigned, kindSignLeading};
 use crate::Number;
+use content::Row;
+use fields::held::all_digits;
 use fields::held::is_sign;
-use fields::held::valid_content;
-use tables::Row;
 use tables::rows::row_sound;
 
 // The place of the first point, or the length.
@@ -29,33 +30,24 @@ pub(crate) fn point_place(word: &[u8]) -> usize
     i
 }
 
-fn digits(part: &[u8]) -> bool
-    ensures { λ r. ⌜ r ≡ all isDigit (now (part .entry)) ⌝ }
-{
-    if part.len() == 0 {
-        return true;
-    }
-    valid_content(3, 0, part)
-}
-
 // Whether all bytes after place `at` are digits.
 fn digits_after(word: &[u8], at: usize) -> bool
     requires { ⌜ at ≤ length (now word) ⌝ }
     ensures { λ r. ⌜ r ≡ all isDigit (drop (suc at) (now (word .entry))) ⌝ }
 {
     if at < word.len() {
-        return digits(&word[at + 1..]);
+        return all_digits(&word[at + 1..]);
     }
     true
 }
 
 fn kind_of(signed: bool) -> u32
-    ensures { λ r. ⌜ r ≡ cond signed 5 3 ⌝ }
+    ensures { λ r. ⌜ r ≡ cond signed kindSignLeading kindUnsigned ⌝ }
 {
     if signed {
-        return 5;
+        return Row::SIGN_LEADING;
     }
-    3
+    Row::UNSIGNED
 }
 
 fn start_of(signed: bool) -> usize
@@ -86,7 +78,7 @@ fn scale_of(n: u32, p: u32) -> u32
 }
 
 fn digits_of(size: u32, signed: bool) -> u32
-    ensures { λ r. ⌜ r ≡ literalDigits (cond signed 5 3) size ⌝ }
+    ensures { λ r. ⌜ r ≡ literalDigits (cond signed kindSignLeading kindUnsigned) size ⌝ }
 {
     if !signed {
         return size;
@@ -115,10 +107,10 @@ fn row_of_number(n: usize, p: usize, signed: bool) -> Row
 // Whether the bytes without the point at `p` are digits after a sign or none.
 fn number_content(word: &[u8], p: usize, signed: bool) -> bool
     requires { ⌜ (p ≡ pointPlace (now word)) × (signed ≡ isSign (firstByte (now word))) ⌝ }
-    ensures { λ r. ⌜ ((digits : ℕ) → r ≡ validContent (cond signed 5 3) digits (withoutPoint (now (word .entry)))) ⌝ }
+    ensures { λ r. ⌜ ((digits : ℕ) → r ≡ validContent (cond signed kindSignLeading kindUnsigned) digits (withoutPoint (now (word .entry)))) ⌝ }
 {
     let from = start_of(signed);
-    digits(&word[from..p]) & digits_after(word, p)
+    all_digits(&word[from..p]) & digits_after(word, p)
 }
 
 // The numeric literal that a word writes, if it writes one.

@@ -5,6 +5,7 @@ use crate::files::Loaded;
 use crate::files::load;
 use crate::files::wide;
 use crate::refusals::of_record;
+use content::Row;
 use differences::calls::differ;
 use fronts::front;
 use fronts::front_bytes;
@@ -25,7 +26,7 @@ fn row_line(
     v: usize,
     what: &[u8],
 ) {
-    if v < items.len() / 5 {
+    if v < items.len() / Row::WIDTH {
         let row = row_at(items, v);
         change(
             description,

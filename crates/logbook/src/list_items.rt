@@ -4,18 +4,16 @@ use crate::print::text;
 use crate::wording::item_name;
 use crate::wording::name_at;
 use crate::wording::words;
+use content::Row;
 use fronts::front_bytes;
 use item_lines::rows::put_item;
 use libc::STDOUT_FILENO;
-use tables::Row;
+use tables::rows::NAME_WIDTH;
 use tables::rows::row_at;
+use tables::tokens::FIRST_LITERAL;
+use tables::tokens::SPAN;
 
-// A literal's token is this and the literal's row.
-const LITERAL: u32 = 65536;
-
-// The numbers of a name row, and how many rows there may be.
-const NAME: usize = 18;
-
+// How many rows a name table may have.
 const ROWS: usize = 64;
 
 // A name of 30 bytes and columns.
@@ -31,8 +29,8 @@ fn row_line(description: &[u8], places: &[u32], v: usize, row: Row) {
 }
 
 fn literal(description: &[u8], literals: &[u32], bytes: &[u8], row: u32) {
-    if row < LITERAL {
-        let token = [LITERAL + row];
+    if row < SPAN {
+        let token = [FIRST_LITERAL + row];
         let mut value = [0u8; VALUE];
         let n = words(description, literals, bytes, &token, &mut value);
         text(STDOUT_FILENO, front_bytes(&value, n));
@@ -51,7 +49,7 @@ fn value(description: &[u8], literals: &[u32], bytes: &[u8], low: u32, high: u32
 
 // The values in a row of the name table.
 fn values(description: &[u8], literals: &[u32], bytes: &[u8], name: &[u32]) {
-    if name.len() < NAME {
+    if name.len() < NAME_WIDTH {
         return;
     }
     let count = wide(name[1]);
@@ -74,7 +72,7 @@ fn values(description: &[u8], literals: &[u32], bytes: &[u8], name: &[u32]) {
 // The name table from row k on.
 fn names_from(names: &[u32], k: usize) -> &[u32] {
     if k < ROWS {
-        let from = k * NAME;
+        let from = k * NAME_WIDTH;
         if from <= names.len() {
             return &names[from..];
         }
@@ -133,7 +131,7 @@ fn row_lines(
     literals: &[u32],
     bytes: &[u8],
 ) {
-    let rows = items.len() / 5;
+    let rows = items.len() / Row::WIDTH;
     let mut v: usize = 0;
     while v < rows {
         row_line(description, places, v, row_at(items, v));

@@ -16,6 +16,7 @@ mod verdicts; // where a rule stops
 
 use books::Recognized;
 use conditions::calls::plan;
+use content::Row;
 use describing::Described;
 use descriptions::calls::describe;
 use files::Loaded;
@@ -38,6 +39,7 @@ use refusals::sentence;
 use show_rule::show_rule;
 use sweep_file::sweep_file;
 use tables::Written;
+use tables::rows::NAME_TABLE;
 use texts::calls::read;
 
 // A description has at most 4,096 bytes; one byte more tells that a file is longer.
@@ -47,11 +49,11 @@ const DESCRIPTION: usize = 4097;
 const RULE: usize = 2049;
 
 // The room that any description and any rule need.
-const ROW_NUMBERS: usize = 320;
+const ROW_NUMBERS: usize = Row::TABLE;
 
 const ROWS: usize = 64;
 
-const NAME_NUMBERS: usize = 1152;
+const NAME_NUMBERS: usize = NAME_TABLE;
 
 const LITERAL_BYTES: usize = 8192;
 

@@ -8,11 +8,11 @@ use crate::files::save;
 use crate::print::argument;
 use crate::print::text;
 use crate::refusals::of_record;
+use content::Row;
 use fronts::front_bytes;
 use items::parts::same_bytes;
 use libc::STDOUT_FILENO;
 use mender::calls::mend;
-use tables::Row;
 use tables::Written;
 use tables::rows::is_group;
 use tables::rows::row_at;
@@ -41,7 +41,7 @@ fn row_line(description: &[u8], places: &[u32], v: usize, row: Row, old: &[u8], 
 }
 
 fn listing(description: &[u8], items: &[u32], places: &[u32], old: &[u8], new: &[u8]) {
-    let rows = items.len() / 5;
+    let rows = items.len() / Row::WIDTH;
     let mut v: usize = 0;
     while v < rows {
         row_line(description, places, v, row_at(items, v), old, new);

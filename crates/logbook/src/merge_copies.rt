@@ -10,6 +10,7 @@ use crate::judge_record::refused;
 use crate::print::text;
 use crate::refusals::of_record;
 use conditions::calls::run;
+use content::Row;
 use fronts::front;
 use fronts::front_bytes;
 use item_lines::changes::put_merged;
@@ -17,7 +18,6 @@ use items::parts::same_bytes;
 use libc::STDOUT_FILENO;
 use merger::calls::merge;
 use merging::Merged;
-use tables::Row;
 use tables::Verdict;
 use tables::rows::is_group;
 use tables::rows::row_at;
@@ -140,7 +140,7 @@ fn listing(
     second: &[u8],
     merged: &[u8],
 ) {
-    let rows = items.len() / 5;
+    let rows = items.len() / Row::WIDTH;
     let mut v: usize = 0;
     while v < rows {
         let row = row_at(items, v);

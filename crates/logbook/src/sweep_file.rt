@@ -9,6 +9,7 @@ use crate::print::text;
 use crate::refusals::of_record;
 use crate::refusals::sentence;
 use crate::verdicts::stop;
+use content::Row;
 use fronts::front;
 use fronts::front_bytes;
 use libc::STDERR_FILENO;
@@ -70,7 +71,7 @@ fn smaller(a: usize, b: usize) -> usize
 
 // Where the last item ends.
 fn entry_size(items: &[u32]) -> usize {
-    let rows = items.len() / 5;
+    let rows = items.len() / Row::WIDTH;
     let mut size: usize = 0;
     let mut v: usize = 0;
     while v < rows {

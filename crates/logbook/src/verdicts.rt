@@ -3,19 +3,18 @@ use crate::print::text;
 use crate::wording::item_name;
 use crate::wording::item_with;
 use crate::wording::words;
+use content::relations::NEGATED;
+use content::relations::NUMERIC;
 use fronts::front;
 use fronts::front_bytes;
 use grammar::PlanRow;
 use libc::STDOUT_FILENO;
 use plan_checks::plan_row;
+use tables::tokens::FIRST_WORD;
+use tables::words::NOT;
 use verdict_lines::verdicts::put_judged;
 use verdict_lines::verdicts::put_stop;
 use verdict_lines::verdicts::put_verdict;
-
-// A word's token is this and the word's number.
-const WORD: u32 = 262144;
-
-const NOT: u32 = WORD + 2;
 
 // No condition has more bytes of words: two literals of 256 quotes each, NOT and a relation.
 const WORDS: usize = 2048;
@@ -23,19 +22,19 @@ const WORDS: usize = 2048;
 // With an item's name and what is said around them.
 const LINES: usize = 2304;
 
-// Whether a relation has an object: class and sign words, from 10 on, have none.
+// Whether a relation has an object: class and sign words have none.
 fn has_object(relation: u32) -> bool {
-    relation % 32 < 10
+    relation % NEGATED < NUMERIC
 }
 
 // A row's condition as tokens. A switch or a condition-name stands alone.
 fn row_tokens(row: PlanRow, tokens: &mut [u32; 4]) -> usize {
-    let word = WORD + row.relation % 32;
+    let word = FIRST_WORD + row.relation % NEGATED;
     tokens[0] = row.subject;
     if row.relation == 0 {
         return 1;
     }
-    if row.relation < 32 {
+    if row.relation < NEGATED {
         tokens[1] = word;
         tokens[2] = row.object;
         if has_object(row.relation) {

@@ -1,8 +1,8 @@
 // Items by their names, and conditions by their words.
 use crate::files::wide;
 use books::Printed;
+use content::Row;
 use fronts::front_bytes;
-use tables::Row;
 use tables::rows::is_group;
 use tables::rows::row_at;
 use texts::calls::print;
@@ -71,7 +71,7 @@ fn holds(row: Row, byte: usize) -> bool {
 
 // The elementary item that has a byte of the record, of at most 64; 64 where none has it.
 pub(crate) fn item_with(items: &[u32], byte: usize) -> usize {
-    let count = items.len() / 5;
+    let count = items.len() / Row::WIDTH;
     if 64 < count {
         return 64;
     }

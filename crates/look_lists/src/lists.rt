@@ -11,6 +11,7 @@ ghost use Rattle.rules.specs.Footprint.{footprint};
 ghost use Rattle.runner.specs.Runs.{Runnable};
 ghost use Rattle.walker.specs.Marks.{lentNames, AllMarkable, rowsAt};
 ghost use Rattle.look_lists.specs.Looked.{rising, listing};
+use content::Row;
 use tables::Written;
 use walker::marks::give_marked;
 use walks::mark_named;
@@ -41,7 +42,7 @@ pub fn list_reached<'a>(
         switches,
         &mut marks,
     );
-    give_marked(&marks, items.len() / 5, rows)
+    give_marked(&marks, items.len() / Row::WIDTH, rows)
 }
 
 // The items of every row of a plan.
@@ -51,5 +52,5 @@ pub fn list_named(items: &[u32], names: &[u32], plan: &[u32], rows: &mut [u32]) 
 {
     let mut marks = [0u32; 64];
     mark_named(names, plan, &mut marks);
-    give_marked(&marks, items.len() / 5, rows)
+    give_marked(&marks, items.len() / Row::WIDTH, rows)
 }

@@ -17,14 +17,15 @@ use Rattle.tables.proofs.Bytes.{RowFacts}
 use Rattle.tables.specs.declared.Check.the-variants.{Sound}
 use Rattle.tables.specs.Refusals.{firstOf}
 use Rattle.items.specs.Items.{elementaryAt, partAt, replaced}
-use Rattle.mending.specs.Mend.{mendedItem, mendedAt, mendedRecord, changesFrom, changes, mendLines, isZoned}
+use Rattle.mending.specs.Mend.{mendedItem, mendedAt, mendedRecord, changesFrom, changes, mendLines}
 use Rattle.mender.specs.Walks.{Next, Lying, mendedPart, rowChanges}
-use Rattle.tables.specs.declared.Row.{Row}
+use Rattle.content.specs.declared.Row.{Row}
 use Rattle.tables.proofs.Tests.{both}
 use native.Mathlib.Decide.{decLt}
 use Rattle.items.proofs.Rewriting.{Clear, Lies}
 use Rattle.mending.proofs.Theorems.{clear, lies, facts, mended-long, byte-untouched, item-mended}
 use Rattle.mender.proofs.Walking.{half, seen, seen-more, half-more, still-old, seen-same, half-same, Ahead, free-until, ahead-row}
+use Rattle.content.specs.Kinds.{isZoned}
 
 -- the walk stands at an offset, and this row is the next
 pub record Walk (items content : List ℕ) (at row : ℕ) : Type 0 where

@@ -4,10 +4,11 @@ use mathlib.Core.List.{List}
 use mathlib.Core.Path.{_≡_}
 use Prim.Native.Nat.{ℕ, _+_, _≤_, _<_}
 use lib.ListN.{length}
-use Rattle.tables.specs.declared.Row.{Row}
+use Rattle.content.specs.declared.Row.{Row}
 use Rattle.tables.specs.Rows.{rowAt, rowCount, part}
 use Rattle.items.specs.Items.{elementaryAt}
-use Rattle.mending.specs.Mend.{isZoned, mendedItem, changesFrom}
+use Rattle.mending.specs.Mend.{mendedItem, changesFrom}
+use Rattle.content.specs.Kinds.{isZoned}
 
 -- the elementary row that starts next, at an offset or later; the number of rows where there is none
 pub record Next (items : List ℕ) (at row : ℕ) : Type 0 where

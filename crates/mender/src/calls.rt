@@ -11,6 +11,7 @@ use crate::rows::mend_row;
 use crate::rows::next_row;
 use crate::rows::row_end;
 use checks::lent::check_record;
+use content::Row;
 use items::lines::check_items;
 use items::lines::check_room;
 use overlaps::check_overlap;
@@ -23,7 +24,7 @@ fn count_mended(items: &[u32], record: &[u8]) -> usize
     requires { ⌜ firstOf (mendLines (now items) (now «record»)) ≡ Sound ⌝ }
     ensures { λ r. ⌜ r ≡ length (changes (now (items .entry)) (now («record» .entry))) ⌝ }
 {
-    let rows = items.len() / 5;
+    let rows = items.len() / Row::WIDTH;
     let mut count: usize = 0;
     let mut at: usize = 0;
     let mut v = next_row(items, at);
@@ -43,7 +44,7 @@ fn write_mended(items: &[u32], record: &mut [u8], list: &mut [u32]) -> usize
     ensures { λ r. ⌜ now (list .exit) ≡ changes (now (items .entry)) (now («record» .entry)) ++ drop r (now (list .entry)) ⌝ }
     ensures { λ r. ⌜ now («record» .exit) ≡ mendedRecord (now (items .entry)) (now («record» .entry)) ⌝ }
 {
-    let rows = items.len() / 5;
+    let rows = items.len() / Row::WIDTH;
     let mut count: usize = 0;
     let mut at: usize = 0;
     let mut v = next_row(items, at);

@@ -8,12 +8,12 @@ ghost use lib.ListN.{length, drop};
 ghost use Rattle.tables.specs.Rows.{rowAt, rowCount};
 ghost use Rattle.items.specs.Items.{isElementary, replaced};
 ghost use Rattle.mender.specs.Walks.{Next, Lying, mendedPart, rowChanges};
+use content::Row;
+use content::rows::is_zoned;
 use items::parts::put_part;
-use meters::kinds::is_zoned;
 use meters::kinds::mended_into;
 use meters::listing::count_changes;
 use meters::listing::list_changes;
-use tables::Row;
 use tables::rows::is_group;
 use tables::rows::row_at;
 use tables::rows::row_part;
@@ -36,7 +36,7 @@ pub(crate) fn next_row(items: &[u32], at: usize) -> usize
     requires { ⌜ ((v : ℕ) → v < rowCount (now items) → rowAt (now items) v .offset ≤ 65535) ⌝ }
     ensures { λ r. ⌜ Next (now (items .entry)) at r ⌝ }
 {
-    let rows = items.len() / 5;
+    let rows = items.len() / Row::WIDTH;
     let mut best = rows;
     let mut nearest: usize = 65536;
     let mut v: usize = 0;
@@ -62,14 +62,13 @@ pub(crate) fn count_row(row: Row, record: &[u8]) -> usize
     requires { ⌜ Lying row (now «record») ⌝ }
     ensures { λ r. ⌜ r ≡ length (rowChanges row (now («record» .entry))) ⌝ }
 {
-    let kind = row.kind;
-    if !is_zoned(kind) {
+    if !is_zoned(row) {
         return 0;
     }
     let item = row_part(row, record);
     let size = item.len();
     let mut mended = [0u8; 19];
-    mended_into(kind, row.digits, item, &mut mended[..size]);
+    mended_into(row, item, &mut mended[..size]);
     count_changes(item, &mended[..size], long(row.offset))
 }
 
@@ -80,13 +79,12 @@ pub(crate) fn mend_row(row: Row, record: &mut [u8], list: &mut [u32]) -> usize
     ensures { λ r. ⌜ now (list .exit) ≡ rowChanges row (now («record» .entry)) ++ drop r (now (list .entry)) ⌝ }
     ensures { λ r. ⌜ now («record» .exit) ≡ replaced row (mendedPart row (now («record» .entry))) (now («record» .entry)) ⌝ }
 {
-    let kind = row.kind;
-    if !is_zoned(kind) {
+    if !is_zoned(row) {
         return 0;
     }
     let size = long(row.size);
     let mut mended = [0u8; 19];
-    mended_into(kind, row.digits, row_part(row, record), &mut mended[..size]);
+    mended_into(row, row_part(row, record), &mut mended[..size]);
     let count = list_changes(row_part(row, record), &mended[..size], row.offset, list);
     put_part(row, &mended[..size], record);
     count

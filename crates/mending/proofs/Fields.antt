@@ -17,7 +17,8 @@ use Rattle.content.specs.WrongByte.{validContent}
 use Rattle.content.proofs.WrongByte.{valid-digits, valid-signed, valid-leading, valid-trailing}
 use Rattle.content.proofs.Bytes.{but-last-length}
 use Rattle.tables.proofs.Tests.{both, either}
-use Rattle.mending.specs.Mend.{filled, leading, signOf, attempt, isZoned, mendedItem}
+use Rattle.mending.specs.Mend.{filled, leading, signOf, attempt, mendedItem}
+use Rattle.content.specs.Kinds.{isZoned}
 
 -- bytes that are no space
 digit-ink : (b : ℕ) → isDigit b ≡ true → isSpace b ≡ false

@@ -15,6 +15,7 @@ use Rattle.tables.specs.Rows.{rowAt, rowCount}
 use Rattle.tables.specs.Refusals.{firstOf}
 use Rattle.items.specs.Items.{partAt, rewritten}
 use Rattle.items.specs.Lines.{itemLines, overlapCheck, longCheck, roomCheck}
+use Rattle.content.specs.Kinds.{kindSignLeading, kindSignTrailing, isZoned}
 
 -- "spaces leading its digit bytes .. become 0"
 unfoldable pub filled : List ℕ → List ℕ
@@ -33,14 +34,10 @@ signOf b = cond (isSpace b) 0x2b b
 -- an item of kinds 3 to 6 with both done: the sign of kind 5 leads, that of kind 6 trails, and "kind 4's last byte counts as" a digit
 unfoldable pub attempt : ℕ → List ℕ → List ℕ
 attempt kind bytes =
-    cond (eqb kind 5) (signOf (firstByte bytes) ∷ leading (butFirst bytes))
-    (cond (eqb kind 6) (leading (butLast bytes) ++ signOf (lastByte bytes) ∷ []) (leading bytes))
+    cond (eqb kind kindSignLeading) (signOf (firstByte bytes) ∷ leading (butFirst bytes))
+    (cond (eqb kind kindSignTrailing) (leading (butLast bytes) ++ signOf (lastByte bytes) ∷ []) (leading bytes))
 
--- "in each item of kinds 3 to 6"
-abbrev pub isZoned : ℕ → Bool
-isZoned kind = leb 3 kind && leb kind 6
-
--- "if the item is then valid; otherwise the item is untouched"
+-- "in each item of kinds 3 to 6 ..", "if the item is then valid; otherwise the item is untouched"
 unfoldable pub mendedItem : ℕ → ℕ → List ℕ → List ℕ
 mendedItem kind digits bytes = cond (isZoned kind && validContent kind digits (attempt kind bytes)) (attempt kind bytes) bytes
 

@@ -12,7 +12,7 @@ use borrow.Author.Tests.{eqb-true}
 use Rattle.tables.specs.declared.Check.{Check}
 use Rattle.tables.specs.declared.Check.the-variants.{Sound}
 use Rattle.tables.specs.declared.Refusal.the-variants.{Lengths}
-use Rattle.tables.specs.declared.Row.{Row}
+use Rattle.content.specs.declared.Row.{Row}
 use Rattle.tables.specs.declared.Verdict.{Verdict}
 use Rattle.tables.specs.declared.Verdict.the-variants.{True, False, Refused as Stopped}
 use Rattle.tables.specs.Rows.{rowAt, rowCount}

@@ -14,7 +14,8 @@ use borrow.Rule.Slice.PartMut.{putMid}
 use Rattle.content.specs.Content.{firstByte, lastByte}
 use Rattle.content.specs.WrongByte.{validContent}
 use Rattle.content.specs.Letters.{isSpace}
-use Rattle.mending.specs.Mend.{filled, leading, signOf, attempt, isZoned, mendedItem}
+use Rattle.mending.specs.Mend.{filled, leading, signOf, attempt, mendedItem}
+use Rattle.content.specs.Kinds.{isZoned}
 
 pub record Filling (old now : List ℕ) (i : ℕ) : Type 0 where
   pub within : i ≤ length old

@@ -4,9 +4,11 @@ ghost use Prim.Native.Nat.{_≤_};
 ghost use lib.ListN.{length};
 ghost use Rattle.content.specs.Content.{all};
 ghost use Rattle.content.specs.Letters.{isSpace};
-ghost use Rattle.mending.specs.Mend.{filled, leading, signOf, attempt, isZoned, mendedItem};
+ghost use Rattle.mending.specs.Mend.{filled, leading, signOf, attempt, mendedItem};
+use content::Row;
 use content::marks::is_space;
 use content::marks::marks;
+use content::rows::is_zoned;
 use fields::held::valid_content;
 use items::parts::copy_bytes;
 
@@ -59,24 +61,19 @@ fn sign_of(b: u8) -> u8
     b
 }
 
-pub fn is_zoned(kind: u32) -> bool
-    ensures { λ r. ⌜ r ≡ isZoned kind ⌝ }
-{
-    (3 <= kind) & (kind <= 6)
-}
-
 // Digits and sign of an item of kinds 3 to 6.
-fn mend_digits(kind: u32, bytes: &mut [u8])
+fn mend_digits(row: Row, bytes: &mut [u8])
     requires { ⌜ 1 ≤ length (now bytes) ⌝ }
-    ensures { λ r. ⌜ now (bytes .exit) ≡ attempt kind (now (bytes .entry)) ⌝ }
+    ensures { λ r. ⌜ now (bytes .exit) ≡ attempt (row .kind) (now (bytes .entry)) ⌝ }
 {
+    let kind = row.kind;
     let last = bytes.len() - 1;
-    if kind == 5 {
+    if kind == Row::SIGN_LEADING {
         bytes[0] = sign_of(bytes[0]);
         lead(&mut bytes[1..]);
         return;
     }
-    if kind == 6 {
+    if kind == Row::SIGN_TRAILING {
         bytes[last] = sign_of(bytes[last]);
         lead(&mut bytes[..last]);
         return;
@@ -85,16 +82,16 @@ fn mend_digits(kind: u32, bytes: &mut [u8])
 }
 
 // What an item becomes, into a buffer of its length.
-pub fn mended_into(kind: u32, digits: u32, bytes: &[u8], out: &mut [u8])
+pub fn mended_into(row: Row, bytes: &[u8], out: &mut [u8])
     requires { ⌜ (1 ≤ length (now bytes)) × (length (now out) ≡ length (now bytes)) ⌝ }
-    ensures { λ r. ⌜ now (out .exit) ≡ mendedItem kind digits (now (bytes .entry)) ⌝ }
+    ensures { λ r. ⌜ now (out .exit) ≡ mendedItem (row .kind) (row .digits) (now (bytes .entry)) ⌝ }
 {
     copy_bytes(bytes, out);
-    if !is_zoned(kind) {
+    if !is_zoned(row) {
         return;
     }
-    mend_digits(kind, out);
-    if !valid_content(kind, digits, out) {
+    mend_digits(row, out);
+    if !valid_content(row, out) {
         copy_bytes(bytes, out);
     }
 }

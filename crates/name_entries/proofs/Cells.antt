@@ -6,7 +6,7 @@ use native.Mathlib.Omega.{arith}
 use native.Mathlib.Numerals.{add-one}
 use lib.ListN.{length, drop, set, replicate, length-replicate, length-append, length-drop, replicate-append-replicate, drop-of-length-le}
 use lib.Seq.{sets, drop-cons, set-at, append-snoc}
-use Rattle.tables.specs.declared.Row as Rules
+use Rattle.content.specs.declared.Row as Rules
 use Rattle.name_entries.specs.Taking.{noteNumbers}
 
 pub two-set : (l : List ℕ) (a x y : ℕ) → set (set l a x) (a + 1) y ≡ sets l a (x ∷ y ∷ [])

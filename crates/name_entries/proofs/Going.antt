@@ -8,7 +8,7 @@ use native.Mathlib.Omega.{arith}
 use borrow.Author.Tests.{le-ltb}
 use lib.Dec.{eqb, ltb}
 use lib.ListN.{length, take, drop, replicate, length-drop}
-use Rattle.tables.specs.declared.Row as Rules
+use Rattle.content.specs.declared.Row as Rules
 use Rattle.description.specs.Grammar.{bytes, Value, pairs, literals}
 use Rattle.description.specs.Limits.{anyBarred}
 use Rattle.description.specs.Reader.{isName, beginsName, Naming, label, value, values, labelled, faulty}

@@ -10,7 +10,7 @@ use borrow.Author.Tests.{leb-true, leb-false, ltb-true, ltb-false, le-leb, lt-le
 use lib.Dec.{leb, ltb}
 use lib.ListN.{length, take, drop, replicate, length-append, length-replicate, replicate-append-replicate}
 use lib.Seq.{sets, sets-eq, length-sets, drop-append-add, take-append-add, take-append-le, take-append-seam, take-at, length-take-le}
-use Rattle.tables.specs.declared.Row as Rules
+use Rattle.content.specs.declared.Row as Rules
 use Rattle.tables.specs.Rows.{rowSound}
 use Rattle.description.specs.Grammar.{Row, Literal, literalRow, Value, single, range, Pair, pair, pairs, literals, literalBytes}
 use Rattle.description.specs.Limits.{ruled, unfit, barredAlone, barred, anyBarred}

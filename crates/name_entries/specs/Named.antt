@@ -6,7 +6,7 @@ use mathlib.Core.List.{List, [], _∷_, _++_, map}
 use Prim.Native.Nat.{ℕ, zero, suc, _+_, _*_, _-_, _≤_, _<_}
 use lib.Dec.{leb, ltb}
 use lib.ListN.{length, take, drop, replicate}
-use Rattle.tables.specs.declared.Row as Rules
+use Rattle.content.specs.declared.Row as Rules
 use Rattle.description.specs.Grammar.{Row, Literal, literalRow, Value, Pair, pairs, literals, literalBytes}
 use Rattle.description.specs.Limits.{ruled, anyBarred}
 use Rattle.description.specs.Reader.{Naming, label, values, labelled, faulty}
@@ -16,6 +16,7 @@ use Rattle.name_entries.specs.Taking.{noteNumbers}
 use Rattle.name_entries.specs.declared.Tally.{Tally}
 use Rattle.name_entries.specs.declared.NameRead.{NameRead}
 use Rattle.name_entries.specs.declared.NameRead.the-variants.{Whole, Fault}
+use Rattle.tables.specs.Rows.{nameWidth}
 
 -- where a literal stands in the text, and the literals that stand in such places
 pub record Span : Type 0 where
@@ -69,7 +70,7 @@ pub record Left (text : List ℕ) (ss : List Span) (vs : List Value) (t : Tally)
 pub record Begun (text : List ℕ) (t : Tally) (row notes : List ℕ) : Type 0 where
   pub short : length text ≤ 4096
   pub values : t .values ≡ 0
-  pub zeros : row ≡ replicate 18 0
+  pub zeros : row ≡ replicate nameWidth 0
   pub long : 448 ≤ length notes
   pub spans : List Span
   pub noted : t .over ≡ false → Noted text notes t spans

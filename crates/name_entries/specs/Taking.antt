@@ -6,7 +6,7 @@ use Prim.Native.Nat.{ℕ, zero, suc, _+_, _*_, _-_, _≤_, _<_}
 use lib.Dec.{eqb, leb, ltb}
 use lib.ListN.{length, getD, take, drop, replicate}
 use lib.Seq.{sets}
-use Rattle.tables.specs.declared.Row as Rules
+use Rattle.content.specs.declared.Row as Rules
 use Rattle.description.specs.Grammar.{Row, Literal, literal, literalRow, Value, Pair, pairs, literals, literalBytes}
 use Rattle.description.specs.Limits.{ruled, anyBarred}
 use Rattle.description.specs.Stages.{literalIn}
@@ -14,6 +14,7 @@ use Rattle.condition_names.specs.declared.Found.{Found}
 use Rattle.condition_names.specs.declared.Weighed.{Weighed}
 use Rattle.condition_names.specs.declared.Weighed.the-variants.{Barred, Single, Range}
 use Rattle.name_entries.specs.declared.Tally.{Tally}
+use Rattle.tables.specs.Rows.{nameWidth}
 
 abbrev pub noteNumbers : Rules.Row → ℕ → ℕ → ℕ → List ℕ
 noteNumbers r o p e = r .kind ∷ o ∷ r .size ∷ r .scale ∷ r .digits ∷ p ∷ e ∷ []
@@ -23,7 +24,7 @@ tally b v l n = record { over = b; values = v; literals = l; bytes = n }
 
 -- what the buffers hold room for
 pub record Rooms (f : Found) (t : Tally) (row notes : List ℕ) : Type 0 where
-  pub wide : length row ≡ 18
+  pub wide : length row ≡ nameWidth
   pub long : 448 ≤ length notes
   pub mid : (f .low ≤ 4096) × (f .mid ≤ 4096)
   pub end : (f .high ≤ 4096) × (f .end ≤ 4096)

@@ -6,7 +6,7 @@ ghost use Prim.Native.Nat.{_+_, _*_, _<_, _≤_};
 ghost use lib.ListN.{length, replicate};
 ghost use lib.Seq.{sets};
 ghost use Rattle.name_entries.specs.Taking.{noteNumbers};
-use tables::Row;
+use content::Row;
 
 pub(crate) fn put_literal(notes: &mut [u32], i: usize, row: Row, offset: usize, p: usize, e: usize)
     requires { ⌜ (i * 7 + 6 < length (now notes)) × ((offset ≤ 65535) × ((p ≤ 4096) × (e ≤ 4096))) ⌝ }

@@ -3,6 +3,7 @@ ghost use mathlib.Core.Path.{_≡_};
 ghost use Prim.Native.Nat.{_+_, _≤_};
 ghost use lib.ListN.{length, replicate};
 ghost use Rattle.name_entries.specs.Named.{Begun, Ready, ValuesBy, NamedBy};
+ghost use Rattle.tables.specs.Rows.{nameWidth};
 use crate::NameRead;
 use crate::Tally;
 use crate::notes::clear;
@@ -10,8 +11,8 @@ use crate::taking::take_value;
 use condition_names::ValueRead;
 use condition_names::scan::value_at;
 use condition_names::weights::weigh;
+use content::Row;
 use description::Reached;
-use tables::Row;
 use words::literals::literal;
 use words::names::label_at;
 
@@ -55,7 +56,7 @@ pub fn read_name(
     row: &mut [u32],
     notes: &mut [u32],
 ) -> NameRead
-    requires { ⌜ (n ≤ length (now text)) × (Ready (now text) start (now notes) × (length (now row) ≡ 18)) ⌝ }
+    requires { ⌜ (n ≤ length (now text)) × (Ready (now text) start (now notes) × (length (now row) ≡ nameWidth)) ⌝ }
     ensures { λ r. ⌜ NamedBy (now (text .entry)) n item start (now (notes .entry)) r (now (row .exit)) (now (notes .exit)) ⌝ }
 {
     clear(row);

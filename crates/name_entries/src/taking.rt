@@ -13,7 +13,7 @@ use crate::notes::put_literal;
 use crate::notes::put_pair;
 use condition_names::Found;
 use condition_names::Weighed;
-use tables::Row;
+use content::Row;
 
 fn passed(tally: Tally) -> Tally
     ensures { λ r. ⌜ r .over ≡ true ⌝ }

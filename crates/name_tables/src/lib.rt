@@ -4,7 +4,7 @@ ghost use mathlib.Core.List.{[]};
 ghost use Prim.Native.Nat.{_+_, _*_, _<_};
 ghost use lib.ListN.{length};
 ghost use Rattle.tables.specs.declared.Check.the-variants.{Sound};
-ghost use Rattle.tables.specs.Rows.{rowCount};
+ghost use Rattle.tables.specs.Rows.{rowCount, nameWidth};
 ghost use Rattle.tables.specs.Operands.{lend, lendNames};
 ghost use Rattle.tables.specs.Refusals.{firstOf};
 ghost use Rattle.tables.specs.Tables.{tableLines};
@@ -13,12 +13,15 @@ ghost use Rattle.values.specs.Comparison.{comparison};
 ghost use Rattle.names.specs.Ranges.{Literals, placeOf};
 use compare::Order;
 use compare::orders::relation_holds;
+use content::Row;
+use content::relations::GREATER;
 use names::ranges::compare_literal;
 use names::ranges::held;
 use names::ranges::number_at;
 use tables::Check;
 use tables::Refusal;
-use tables::Row;
+use tables::rows::NAME_TABLE;
+use tables::rows::NAME_WIDTH;
 use tables::rows::is_numeric;
 use tables::rows::row_at;
 use tables::rows::row_part;
@@ -47,7 +50,7 @@ fn pair_sound(item: Row, literals: &[u32], bytes: &[u8], low: usize, high: usize
     requires { ⌜ Literals (now literals) (now bytes) ⌝ }
     ensures { λ r. ⌜ r ≡ pairSound (lend [] (now (literals .entry)) (now (bytes .entry))) item low high ⌝ }
 {
-    let rows = literals.len() / 5;
+    let rows = literals.len() / Row::WIDTH;
     if !((low < rows) & (high < rows)) {
         return false;
     }
@@ -56,7 +59,7 @@ fn pair_sound(item: Row, literals: &[u32], bytes: &[u8], low: usize, high: usize
     if !(is_numeric(first) == is_numeric(last)) {
         return false;
     }
-    if relation_holds(5, compare_ends(literals, bytes, low, high)) {
+    if relation_holds(GREATER, compare_ends(literals, bytes, low, high)) {
         return false;
     }
     sides_fit(item, first) & sides_fit(item, last)
@@ -64,10 +67,10 @@ fn pair_sound(item: Row, literals: &[u32], bytes: &[u8], low: usize, high: usize
 
 // Place k of the eight: a pair, or zeros.
 fn place_sound(item: Row, literals: &[u32], bytes: &[u8], names: &[u32], v: usize, k: usize) -> bool
-    requires { ⌜ Literals (now literals) (now bytes) × (v * 18 + 17 < length (now names)) × (k < 8) ⌝ }
+    requires { ⌜ Literals (now literals) (now bytes) × (v * nameWidth + 17 < length (now names)) × (k < 8) ⌝ }
     ensures { λ r. ⌜ r ≡ placeOf (now (literals .entry)) (now (bytes .entry)) (now (names .entry)) item v k ⌝ }
 {
-    let at = v * 18;
+    let at = v * NAME_WIDTH;
     let low = number_at(names, at + 2 + k * 2);
     let high = number_at(names, at + 3 + k * 2);
     if k < number_at(names, at + 1) {
@@ -77,7 +80,7 @@ fn place_sound(item: Row, literals: &[u32], bytes: &[u8], names: &[u32], v: usiz
 }
 
 fn places_sound(item: Row, literals: &[u32], bytes: &[u8], names: &[u32], v: usize) -> bool
-    requires { ⌜ Literals (now literals) (now bytes) × (v * 18 + 17 < length (now names)) ⌝ }
+    requires { ⌜ Literals (now literals) (now bytes) × (v * nameWidth + 17 < length (now names)) ⌝ }
     ensures { λ r. ⌜ r ≡ every (placeOf (now (literals .entry)) (now (bytes .entry)) (now (names .entry)) item v) 8 ⌝ }
 {
     let mut k: usize = 0;
@@ -92,13 +95,13 @@ fn places_sound(item: Row, literals: &[u32], bytes: &[u8], names: &[u32], v: usi
 
 // Row v: an item row, a count of 1 to 8, that many pairs, zeros.
 fn name_sound(items: &[u32], literals: &[u32], bytes: &[u8], names: &[u32], v: usize) -> bool
-    requires { ⌜ Literals (now literals) (now bytes) × (v * 18 + 17 < length (now names)) ⌝ }
+    requires { ⌜ Literals (now literals) (now bytes) × (v * nameWidth + 17 < length (now names)) ⌝ }
     ensures { λ r. ⌜ r ≡ nameSound (lendNames (now (items .entry)) (now (literals .entry)) (now (bytes .entry)) (now (names .entry))) v ⌝ }
 {
-    let at = v * 18;
+    let at = v * NAME_WIDTH;
     let item = number_at(names, at);
     let pairs = number_at(names, at + 1);
-    if !((item < items.len() / 5) & (1 <= pairs) & (pairs <= 8)) {
+    if !((item < items.len() / Row::WIDTH) & (1 <= pairs) & (pairs <= 8)) {
         return false;
     }
     places_sound(row_at(items, item), literals, bytes, names, v)
@@ -109,8 +112,8 @@ fn check_name_rows(items: &[u32], literals: &[u32], bytes: &[u8], names: &[u32])
     requires { ⌜ firstOf (tableLines (lend (now items) (now literals) (now bytes))) ≡ Sound ⌝ }
     ensures { λ r. ⌜ r ≡ nameCheck (lendNames (now (items .entry)) (now (literals .entry)) (now (bytes .entry)) (now (names .entry))) ⌝ }
 {
-    let rows = names.len() / 18;
-    if !((names.len() % 18 == 0) & (names.len() <= 1152)) {
+    let rows = names.len() / NAME_WIDTH;
+    if !((names.len() % NAME_WIDTH == 0) & (names.len() <= NAME_TABLE)) {
         return Check::Refused(Refusal::Name(0));
     }
     let mut v: usize = 0;

@@ -8,7 +8,7 @@ use lib.ListN.{length, drop, length-take, length-drop}
 use Rattle.content.specs.WrongByte.{validContent}
 use Rattle.tables.specs.declared.Check.the-variants.{Sound}
 use Rattle.tables.specs.declared.Outcome.{Outcome}
-use Rattle.tables.specs.declared.Row.{Row}
+use Rattle.content.specs.declared.Row.{Row}
 use Rattle.tables.specs.Rows.{rowCount, rowAt, isNumeric, part}
 use Rattle.tables.specs.Operands.{Lent, lend}
 use Rattle.tables.specs.Refusals.{firstOf}

@@ -6,8 +6,8 @@ use Prim.Native.Nat.{ℕ, _+_, _*_, _≤_, _<_}
 use lib.ListN.{length}
 use lib.Dec.{eqb, ltb}
 use Rattle.content.specs.WrongByte.{validContent}
-use Rattle.tables.specs.declared.Row.{Row}
-use Rattle.tables.specs.Rows.{rowCount, isNumeric}
+use Rattle.content.specs.declared.Row.{Row}
+use Rattle.tables.specs.Rows.{rowCount, isNumeric, nameWidth}
 use Rattle.tables.specs.Operands.{lend}
 use Rattle.tables.specs.Names.{namePairs, nameLow, nameHigh}
 use Rattle.compare.specs.declared.Number.{Number}
@@ -26,7 +26,7 @@ pub record Literals (literals bytes : List ℕ) : Type 0 where
 
 -- the row of a name, and the ends of its pairs, are there
 pub record Pairs (literals names : List ℕ) (v : ℕ) : Type 0 where
-  pub inside : v * 18 + 17 < length names
+  pub inside : v * nameWidth + 17 < length names
   pub few : namePairs names v ≤ 8
   pub low : (k : ℕ) → k < namePairs names v → nameLow names v k < rowCount literals
   pub high : (k : ℕ) → k < namePairs names v → nameHigh names v k < rowCount literals

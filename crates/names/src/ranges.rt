@@ -13,11 +13,12 @@ ghost use Rattle.names.specs.Ranges.{Held, Literals, Pairs};
 use compare::Number;
 use compare::Order;
 use compare::orders::relation_holds;
+use content::Row;
 use fields::held::valid_content;
 use numbers::reading::read_number;
 use scaled::compare_scaled;
 use tables::Outcome;
-use tables::Row;
+use tables::rows::NAME_WIDTH;
 use tables::rows::is_numeric;
 use tables::rows::row_at;
 use tables::rows::row_part;
@@ -44,10 +45,10 @@ pub fn held(row: Row, bytes: &[u8]) -> Number
     ensures { λ r. ⌜ Held row (now (bytes .entry)) r ⌝ }
 {
     if is_numeric(row) {
-        return read_number(row.kind, row.digits, bytes);
+        return read_number(row, bytes);
     }
     Number {
-        valid: valid_content(row.kind, row.digits, bytes),
+        valid: valid_content(row, bytes),
         minus: false,
         digits: 0,
     }
@@ -67,7 +68,7 @@ pub fn compare_literal(
     ensures { λ r. ⌜ r ≡ comparison (side item row (now (bytes .entry))) (side false literal (now (value .entry))) ⌝ }
 {
     if is_numeric(row) & is_numeric(literal) {
-        let right = read_number(literal.kind, literal.digits, value);
+        let right = read_number(literal, value);
         return compare_scaled(
             number.minus,
             number.digits,
@@ -135,7 +136,7 @@ fn some_range(
     requires { ⌜ Literals (now literals) (now bytes) × Pairs (now literals) (now names) v ⌝ }
     ensures { λ r. ⌜ r ≡ nameHolds (lendNames [] (now (literals .entry)) (now (bytes .entry)) (now (names .entry))) (side true row (now (part .entry))) v ⌝ }
 {
-    let at = v * 18;
+    let at = v * NAME_WIDTH;
     let pairs = number_at(names, at + 1);
     let mut k: usize = 0;
     while k < pairs {
@@ -161,7 +162,7 @@ pub fn name_outcome(
     requires { ⌜ Named (lendNames (now items) (now literals) (now bytes) (now names)) (now «record») v ⌝ }
     ensures { λ r. ⌜ r ≡ nameOutcome (lendNames (now (items .entry)) (now (literals .entry)) (now (bytes .entry)) (now (names .entry))) (now («record» .entry)) v ⌝ }
 {
-    let row = row_at(items, number_at(names, v * 18));
+    let row = row_at(items, number_at(names, v * NAME_WIDTH));
     let part = row_part(row, record);
     let number = held(row, part);
     if !number.valid {

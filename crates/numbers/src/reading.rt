@@ -8,13 +8,14 @@ ghost use Rattle.content.specs.Packed.{isPacked};
 ghost use Rattle.compare.specs.Compared.{numberOf, pairsOf};
 ghost use Rattle.compare.specs.Fields.{NumberField};
 use compare::Number;
+use content::Row;
 use content::marks::is_digit;
 use content::marks::marks;
+use content::rows::is_packed;
 use fields::held::is_minus;
 use fields::held::is_sign;
 use fields::held::is_signed_digit;
 use fields::packed::digit_and_sign;
-use fields::packed::is_packed;
 use fields::packed::left_half;
 use fields::packed::may_lead;
 use fields::packed::two_digits;
@@ -69,62 +70,63 @@ fn read_pairs(bytes: &[u8]) -> Number
 }
 
 // A packed field: pairs of digits, and a last byte of a digit and the sign.
-fn read_packed(kind: u32, digits: u32, bytes: &[u8]) -> Number
-    requires { ⌜ isPacked kind ≡ true ⌝ }
+fn read_packed(row: Row, bytes: &[u8]) -> Number
+    requires { ⌜ isPacked (row .kind) ≡ true ⌝ }
     requires { ⌜ (1 ≤ length (now bytes)) × (length (now bytes) ≤ 10) ⌝ }
-    ensures { λ r. ⌜ r ≡ numberOf kind digits (now (bytes .entry)) ⌝ }
+    ensures { λ r. ⌜ r ≡ numberOf (row .kind) (row .digits) (now (bytes .entry)) ⌝ }
 {
     let last = bytes.len() - 1;
     let pairs = read_pairs(&bytes[..last]);
     let b = bytes[last];
     Number {
-        valid: pairs.valid & digit_and_sign(kind, b) & may_lead(digits, bytes[0]),
-        minus: is_minus(kind, bytes),
+        valid: pairs.valid & digit_and_sign(row, b) & may_lead(row, bytes[0]),
+        minus: is_minus(row, bytes),
         digits: pairs.digits * 10 + wide(left_half(b)),
     }
 }
 
 // A field of kinds 3 to 6. How many digits it has, its bytes tell.
-fn read_display(kind: u32, bytes: &[u8]) -> Number
-    requires { ⌜ (3 ≤ kind) × (kind ≤ 6) ⌝ }
-    requires { ⌜ (1 ≤ length (now bytes)) × (length (digitBytes kind (now bytes)) ≤ 18) ⌝ }
-    ensures { λ r. ⌜ ((digits : ℕ) → r ≡ numberOf kind digits (now (bytes .entry))) ⌝ }
+fn read_display(row: Row, bytes: &[u8]) -> Number
+    requires { ⌜ (3 ≤ row .kind) × (row .kind ≤ 6) ⌝ }
+    requires { ⌜ (1 ≤ length (now bytes)) × (length (digitBytes (row .kind) (now bytes)) ≤ 18) ⌝ }
+    ensures { λ r. ⌜ ((digits : ℕ) → r ≡ numberOf (row .kind) digits (now (bytes .entry))) ⌝ }
 {
-    if kind == 3 {
+    let kind = row.kind;
+    if kind == Row::UNSIGNED {
         return read_digits(bytes);
     }
-    if kind == 5 {
+    if kind == Row::SIGN_LEADING {
         let rest = read_digits(&bytes[1..]);
         return Number {
             valid: is_sign(bytes[0]) & rest.valid,
-            minus: is_minus(kind, bytes),
+            minus: is_minus(row, bytes),
             digits: rest.digits,
         };
     }
     let last = bytes.len() - 1;
     let rest = read_digits(&bytes[..last]);
     let b = bytes[last];
-    if kind == 4 {
+    if kind == Row::SIGNED {
         return Number {
             valid: rest.valid & is_signed_digit(b),
-            minus: is_minus(kind, bytes),
+            minus: is_minus(row, bytes),
             digits: rest.digits * 10 + wide(b % 16),
         };
     }
     Number {
         valid: rest.valid & is_sign(b),
-        minus: is_minus(kind, bytes),
+        minus: is_minus(row, bytes),
         digits: rest.digits,
     }
 }
 
 // All that a numeric field holds, in one pass over its bytes.
-pub fn read_number(kind: u32, digits: u32, bytes: &[u8]) -> Number
-    requires { ⌜ NumberField kind (now bytes) ⌝ }
-    ensures { λ r. ⌜ r ≡ numberOf kind digits (now (bytes .entry)) ⌝ }
+pub fn read_number(row: Row, bytes: &[u8]) -> Number
+    requires { ⌜ NumberField (row .kind) (now bytes) ⌝ }
+    ensures { λ r. ⌜ r ≡ numberOf (row .kind) (row .digits) (now (bytes .entry)) ⌝ }
 {
-    if is_packed(kind) {
-        return read_packed(kind, digits, bytes);
+    if is_packed(row) {
+        return read_packed(row, bytes);
     }
-    read_display(kind, bytes)
+    read_display(row, bytes)
 }

@@ -6,16 +6,18 @@ ghost use Prim.Native.Nat.{_*_, _≤_};
 ghost use lib.ListN.{length, drop};
 ghost use Rattle.literal_words.specs.Found.{writtenOver};
 ghost use Rattle.outputs.specs.Noted.{rowsFrom, bytesFrom, Words};
+ghost use Rattle.content.specs.Kinds.{rowWidth};
+use content::Row;
 use literal_words::copies::copy_literal;
 
 pub fn copy_rows(notes: &[u32], n: usize, to: &mut [u32])
-    requires { ⌜ (n * 7 ≤ length (now notes)) × (n * 5 ≤ length (now to)) ⌝ }
-    ensures { λ _. ⌜ now (to .exit) ≡ rowsFrom (now (notes .entry)) 0 n ++ drop (n * 5) (now (to .entry)) ⌝ }
+    requires { ⌜ (n * 7 ≤ length (now notes)) × (n * rowWidth ≤ length (now to)) ⌝ }
+    ensures { λ _. ⌜ now (to .exit) ≡ rowsFrom (now (notes .entry)) 0 n ++ drop (n * rowWidth) (now (to .entry)) ⌝ }
 {
     let mut i: usize = 0;
     while i < n {
         let from = i * 7;
-        let at = i * 5;
+        let at = i * Row::WIDTH;
         to[at] = notes[from];
         to[at + 1] = notes[from + 1];
         to[at + 2] = notes[from + 2];

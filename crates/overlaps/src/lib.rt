@@ -6,9 +6,10 @@ ghost use lib.ListN.{length};
 ghost use Rattle.tables.specs.declared.Check.the-variants.{Sound};
 ghost use Rattle.items.specs.Items.{apart, clearAt};
 ghost use Rattle.items.specs.Lines.{overlapCheck};
+ghost use Rattle.content.specs.Kinds.{rowWidth};
+use content::Row;
 use tables::Check;
 use tables::Refusal;
-use tables::Row;
 use tables::rows::ends_within;
 use tables::rows::is_group;
 use tables::rows::row_at;
@@ -28,7 +29,7 @@ fn share_none(r: Row, s: Row) -> bool
 
 // Whether row v is a group's, or shares no byte with an elementary row before it.
 fn is_clear(items: &[u32], v: usize) -> bool
-    requires { ⌜ v * 5 + 4 < length (now items) ⌝ }
+    requires { ⌜ v * rowWidth + 4 < length (now items) ⌝ }
     ensures { λ r. ⌜ r ≡ clearAt (now (items .entry)) v ⌝ }
 {
     let row = row_at(items, v);
@@ -49,7 +50,7 @@ fn is_clear(items: &[u32], v: usize) -> bool
 fn first_overlap(items: &[u32]) -> Check
     ensures { λ r. ⌜ r ≡ overlapCheck (now (items .entry)) ⌝ }
 {
-    let rows = items.len() / 5;
+    let rows = items.len() / Row::WIDTH;
     let mut v: usize = 0;
     while v < rows {
         if !is_clear(items, v) {
@@ -65,7 +66,7 @@ fn first_overlap(items: &[u32]) -> Check
 fn lie_in_turn(items: &[u32]) -> bool
     ensures { λ r. ⌜ (r ≡ true → overlapCheck (now (items .entry)) ≡ Sound) ⌝ }
 {
-    let rows = items.len() / 5;
+    let rows = items.len() / Row::WIDTH;
     let mut in_turn = true;
     let mut end: usize = 0;
     let mut v: usize = 0;

@@ -11,6 +11,7 @@ use crate::Tallied;
 use crate::Tally;
 use crate::tallies::capped;
 use crate::tallies::read_byte;
+use content::Row;
 use description::Pictured;
 
 fn total(t: Tally) -> Counted
@@ -125,9 +126,9 @@ fn number_end(signed: bool, m: u32, n: u32, k: usize, period: bool) -> Pictured
     }
     if period {
         if signed {
-            return Pictured::Ended(4, digits, n, digits, k + 1);
+            return Pictured::Ended(Row::SIGNED, digits, n, digits, k + 1);
         }
-        return Pictured::Ended(3, digits, n, digits, k + 1);
+        return Pictured::Ended(Row::UNSIGNED, digits, n, digits, k + 1);
     }
     Pictured::Number(signed, m, n, k)
 }
@@ -143,9 +144,9 @@ fn letters_end(c: u8, n: u32, k: usize, period: bool) -> Pictured
         return Pictured::Fault(k);
     }
     if c == 0x58 {
-        return Pictured::Ended(2, n, 0, 0, k + 1);
+        return Pictured::Ended(Row::ALPHANUMERIC, n, 0, 0, k + 1);
     }
-    Pictured::Ended(1, n, 0, 0, k + 1)
+    Pictured::Ended(Row::ALPHABETIC, n, 0, 0, k + 1)
 }
 
 // What a picture is that goes on to place k, with or without a period there.

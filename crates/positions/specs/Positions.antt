@@ -7,14 +7,15 @@ use lib.Dec.{eqb}
 use Rattle.description.specs.Grammar.{isBlank}
 use Rattle.spelling.specs.Names.{Known}
 use Rattle.spelling.specs.Reading.{Placed, placed}
+use Rattle.tables.specs.Words.{OPEN, NOT, AND, OR}
 
 -- words 3 and 4, AND and OR
 abbrev pub isConnective : ℕ → Bool
-isConnective token = eqb token 262147 || eqb token 262148
+isConnective token = eqb token AND || eqb token OR
 
 -- words 0 and 2, "(" and NOT
 abbrev pub leadsIn : ℕ → Bool
-leadsIn token = eqb token 262144 || eqb token 262146
+leadsIn token = eqb token OPEN || eqb token NOT
 
 -- "Simple conditions are numbered from 0 in text order": AND and OR part each from the next; brackets and NOT lead in. Of those before the one that is
 -- looked for, `left` are still to be passed: whether it starts with this token, and how many are left after it.

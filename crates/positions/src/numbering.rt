@@ -1,19 +1,23 @@
 // The token at which a simple condition starts.
 ghost use mathlib.Core.Path.{_≡_};
 ghost use Rattle.positions.specs.Positions.{isConnective, leadsIn, startsHere, leftAfter, conditionToken};
+use tables::words::AND;
+use tables::words::NOT;
+use tables::words::OPEN;
+use tables::words::OR;
 
 // AND or OR.
 fn is_connective(token: u32) -> bool
     ensures { λ r. ⌜ r ≡ isConnective token ⌝ }
 {
-    (token == 262147) | (token == 262148)
+    (token == AND) | (token == OR)
 }
 
 // An opening bracket or NOT.
 fn leads_in(token: u32) -> bool
     ensures { λ r. ⌜ r ≡ leadsIn token ⌝ }
 {
-    (token == 262144) | (token == 262146)
+    (token == OPEN) | (token == NOT)
 }
 
 // Whether the next simple condition but `left` starts with this token.

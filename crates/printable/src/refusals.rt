@@ -11,6 +11,9 @@ use keywords::same_bytes;
 use naming::Called;
 use naming::names::row_named;
 use naming::parts::name_part;
+use tables::tokens::ITEM;
+use tables::tokens::NAME;
+use tables::tokens::SPAN;
 use tables::tokens::token_there;
 
 // Whether there is such a token: an off switch is none.
@@ -55,12 +58,12 @@ fn has_name(description: &[u8], places: &[u32], items: usize, token: u32) -> boo
     requires { ⌜ Listed items (now places) × There items (now places) token ⌝ }
     ensures { λ r. ⌜ r ≡ hasName (knownAt (now (description .entry)) items (now (places .entry))) token ⌝ }
 {
-    let kind = token / 65536;
-    let v = (token % 65536) as usize;
-    if kind == 0 {
+    let kind = token / SPAN;
+    let v = (token % SPAN) as usize;
+    if kind == ITEM {
         return named_once(description, places, items, places[v]);
     }
-    if kind == 5 {
+    if kind == NAME {
         return named_once(description, places, items, places[items + v]);
     }
     true

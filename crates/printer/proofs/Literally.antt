@@ -10,7 +10,7 @@ use lib.Dec.{eqb, leb, ltb}
 use lib.ListN.{length}
 use borrow.Author.Tests.{leb-true, ltb-true, eqb-true, le-leb, eq-eqb, ne-eqb}
 use Rattle.content.specs.WrongByte.{validContent}
-use Rattle.tables.specs.declared.Row.{Row}
+use Rattle.content.specs.declared.Row.{Row}
 use Rattle.tables.specs.Rows.{isGroup, groupSound, characterSound, isNumeric, fieldSize, digitsSound, rowSound, part, liesIn}
 use Rattle.tables.specs.Tables.{literalSound}
 use Rattle.tables.proofs.Tests.{both, four, either, and-both}

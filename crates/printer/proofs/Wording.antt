@@ -8,7 +8,7 @@ use lib.Dec.{eqb, leb, ltb}
 use lib.ListN.{length, getD, take, drop, length-drop}
 use lib.Seq.{length-take-le, getD-take, getD-drop}
 use borrow.Author.Tests.{leb-true, ltb-true, ne-eqb}
-use Rattle.tables.specs.declared.Row.{Row}
+use Rattle.content.specs.declared.Row.{Row}
 use Rattle.tables.specs.Rows.{rowCount, rowAt}
 use Rattle.tables.specs.Tokens.{isItem, isLiteral, isOn, isOff, isWord, isName, nameThere}
 use Rattle.tables.specs.Tables.{literalSound}

@@ -10,15 +10,21 @@ ghost use Rattle.spelling.specs.Names.{leading};
 ghost use Rattle.spelling.specs.Printing.{wordOf};
 ghost use Rattle.literal_words.specs.Found.{writtenOver};
 ghost use Rattle.printer.specs.Prints.{literalOf, Printable};
+use content::Row;
 use literal_words::copies::copy_bytes;
 use naming::parts::name_part;
 use quoting::parts::pointed_size;
 use quoting::parts::put_pointed;
 use quoting::parts::put_quoted;
 use quoting::parts::quoted_size;
-use tables::Row;
 use tables::rows::row_at;
 use tables::rows::row_part;
+use tables::tokens::ITEM;
+use tables::tokens::LITERAL;
+use tables::tokens::NAME;
+use tables::tokens::SPAN;
+use tables::tokens::SWITCH_ON;
+use vocabulary::spellings::AT_SWITCHES;
 use vocabulary::spellings::copy_word;
 use vocabulary::spellings::word_size;
 
@@ -33,7 +39,7 @@ fn literal_size(row: Row, bytes: &[u8]) -> usize
     ensures { λ r. ⌜ r ≡ length (written (literalOf row (now (bytes .entry)))) ⌝ }
 {
     let part = row_part(row, bytes);
-    if row.kind == 2 {
+    if row.kind == Row::ALPHANUMERIC {
         return quoted_size(part);
     }
     pointed_size(wide(row.scale), part)
@@ -44,7 +50,7 @@ fn put_literal(row: Row, bytes: &[u8], out: &mut [u8])
     ensures { λ _. ⌜ now (out .exit) ≡ writtenOver (written (literalOf row (now (bytes .entry)))) (now (out .entry)) ⌝ }
 {
     let part = row_part(row, bytes);
-    if row.kind == 2 {
+    if row.kind == Row::ALPHANUMERIC {
         put_quoted(part, out);
         return;
     }
@@ -77,18 +83,18 @@ pub(crate) fn token_size(
     requires { ⌜ Printable (now description) items (now places) (now literals) (now bytes) token ⌝ }
     ensures { λ r. ⌜ r ≡ length (wordOf (knownAt (now (description .entry)) items (now (places .entry))) (now (literals .entry)) (now (bytes .entry)) token) ⌝ }
 {
-    let v = wide(token % 65536);
-    let kind = token / 65536;
-    if kind == 0 {
+    let v = wide(token % SPAN);
+    let kind = token / SPAN;
+    if kind == ITEM {
         return name_size(description, places[v]);
     }
-    if kind == 1 {
+    if kind == LITERAL {
         return literal_size(row_at(literals, v), bytes);
     }
-    if kind == 2 {
-        return word_size(17 + v);
+    if kind == SWITCH_ON {
+        return word_size(AT_SWITCHES + v);
     }
-    if kind == 5 {
+    if kind == NAME {
         return name_size(description, places[items + v]);
     }
     word_size(v)
@@ -107,21 +113,21 @@ pub(crate) fn put_token(
     requires { ⌜ length (wordOf (knownAt (now description) items (now places)) (now literals) (now bytes) token) ≤ length (now out) ⌝ }
     ensures { λ _. ⌜ now (out .exit) ≡ writtenOver (wordOf (knownAt (now (description .entry)) items (now (places .entry))) (now (literals .entry)) (now (bytes .entry)) token) (now (out .entry)) ⌝ }
 {
-    let v = wide(token % 65536);
-    let kind = token / 65536;
-    if kind == 0 {
+    let v = wide(token % SPAN);
+    let kind = token / SPAN;
+    if kind == ITEM {
         put_name(description, places[v], out);
         return;
     }
-    if kind == 1 {
+    if kind == LITERAL {
         put_literal(row_at(literals, v), bytes, out);
         return;
     }
-    if kind == 2 {
-        copy_word(17 + v, out);
+    if kind == SWITCH_ON {
+        copy_word(AT_SWITCHES + v, out);
         return;
     }
-    if kind == 5 {
+    if kind == NAME {
         put_name(description, places[items + v], out);
         return;
     }

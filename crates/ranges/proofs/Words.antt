@@ -14,7 +14,7 @@ use Rattle.content.specs.Content as C
 use Rattle.content.specs.WrongByte.{validContent}
 use Rattle.content.proofs.WrongByte.{valid-digits, valid-leading, valid-other}
 use Rattle.tables.specs.Rows.{rowSound}
-use Rattle.tables.specs.declared.Row.{Row}
+use Rattle.content.specs.declared.Row.{Row}
 use Rattle.description.specs.Grammar.{isDigit, isSign, all, same, Literal, literal, literalRow, digitCount, Digits, Quoted, Spells}
 use Rattle.description.specs.Reader.{isSome, readLiteral}
 use Rattle.description.specs.Stages.{isLiteral}

@@ -4,7 +4,7 @@ use mathlib.Core.Bool.{Bool, true, not, cond}
 use mathlib.Core.Option.{Option·getD}
 use mathlib.Core.List.{List, []}
 use Prim.Native.Nat.{ℕ}
-use Rattle.tables.specs.declared.Row.{Row}
+use Rattle.content.specs.declared.Row.{Row}
 use Rattle.tables.specs.Rows.{rowSound, isNumeric}
 use Rattle.description.specs.Grammar.{Literal, literal, literalRow}
 use Rattle.description.specs.Reader.{readLiteral}
@@ -12,6 +12,7 @@ use Rattle.description.specs.Stages.{isLiteral}
 use Rattle.description.specs.Limits.{ruled, unfit}
 use Rattle.literal_words.specs.declared.Number.{Number}
 use Rattle.literal_words.specs.declared.Number.the-variants.{Is, Not}
+use Rattle.content.specs.Kinds.{kindAlphanumeric}
 
 -- the literal that a word is
 abbrev pub literalOf : List ℕ → Literal
@@ -22,7 +23,7 @@ abbrev pub rowFound : Literal → Number
 rowFound x = cond (unfit x) Not (Is (ruled (literalRow 0 x)))
 
 abbrev pub heldRow : ℕ → Row
-heldRow n = record { kind = 2; offset = 0; size = n; scale = 0; digits = 0 }
+heldRow n = record { kind = kindAlphanumeric; offset = 0; size = n; scale = 0; digits = 0 }
 
 -- the word is a literal within 01's limits, and this is its row
 pub record Written (word : List ℕ) (r : Row) : Type 0 where

@@ -9,10 +9,11 @@ ghost use Rattle.values.specs.Truth.{Fit, Numeral};
 ghost use Rattle.description.specs.Limits.{above};
 ghost use Rattle.ranges.specs.Spelling.{literalOf, Written, unlikeRows};
 use compare::orders::relation_holds;
+use content::Row;
+use content::relations::GREATER;
 use literal_words::copies::copy_literal;
 use numbers::reading::read_number;
 use scaled::compare_scaled;
-use tables::Row;
 use tables::rows::is_numeric;
 use values::sides::compare_sides;
 
@@ -30,8 +31,8 @@ fn above_by_value(low: Row, left: &[u8], high: Row, right: &[u8]) -> bool
     requires { ⌜ Numeral low (now left) × Numeral high (now right) ⌝ }
     ensures { λ r. ⌜ r ≡ isGreater (comparison (side false low (now (left .entry))) (side false high (now (right .entry)))) ⌝ }
 {
-    let one = read_number(low.kind, low.digits, left);
-    let other = read_number(high.kind, high.digits, right);
+    let one = read_number(low, left);
+    let other = read_number(high, right);
     let order = compare_scaled(
         one.minus,
         one.digits,
@@ -40,7 +41,7 @@ fn above_by_value(low: Row, left: &[u8], high: Row, right: &[u8]) -> bool
         other.digits,
         high.scale,
     );
-    relation_holds(5, order)
+    relation_holds(GREATER, order)
 }
 
 // Whether the first literal's bytes come after the second's.
@@ -51,7 +52,7 @@ fn is_above(low: Row, left: &[u8], high: Row, right: &[u8]) -> bool
     if is_numeric(low) & is_numeric(high) {
         return above_by_value(low, left, high, right);
     }
-    relation_holds(5, compare_sides(false, low, left, false, high, right))
+    relation_holds(GREATER, compare_sides(false, low, left, false, high, right))
 }
 
 // The same as `exceeds`, with room for the bytes of both.
@@ -67,8 +68,8 @@ fn exceeds_in(
     requires { ⌜ (256 ≤ length (now left)) × (256 ≤ length (now right)) ⌝ }
     ensures { λ r. ⌜ r ≡ above (literalOf (now (first .entry))) (literalOf (now (second .entry))) ⌝ }
 {
-    copy_literal(low.kind, first, left);
-    copy_literal(high.kind, second, right);
+    copy_literal(low, first, left);
+    copy_literal(high, second, right);
     let n = low.size as usize;
     let m = high.size as usize;
     is_above(low, &left[..n], high, &right[..m])

@@ -6,12 +6,12 @@ ghost use lib.ListN.{length};
 ghost use Rattle.description.specs.Stages.{isLiteral};
 ghost use Rattle.typing.specs.Typing.{fitsBeside, sideFits};
 ghost use Rattle.ranges.specs.Spelling.{literalOf, rowFound, heldRow};
-use fields::packed::is_packed;
+use content::Row;
+use content::rows::is_packed;
 use literal_words::Number;
 use literal_words::Text;
 use literal_words::numbers::read_number;
 use literal_words::quotes::read_text;
-use tables::Row;
 use tables::rows::is_numeric;
 use words::bytes::byte_at;
 
@@ -21,7 +21,7 @@ fn text_row(n: usize) -> Row
     ensures { λ r. ⌜ r ≡ heldRow n ⌝ }
 {
     Row {
-        kind: 2,
+        kind: Row::ALPHANUMERIC,
         offset: 0,
         size: n as u32,
         scale: 0,
@@ -46,7 +46,7 @@ pub fn literal_row(word: &[u8]) -> Number
 fn fits_beside(row: Row) -> bool
     ensures { λ r. ⌜ r ≡ fitsBeside row ⌝ }
 {
-    (row.scale == 0) & !is_packed(row.kind)
+    (row.scale == 0) & !is_packed(row)
 }
 
 fn side_fits(side: Row, other: Row) -> bool

@@ -4,7 +4,7 @@ use mathlib.Core.Bool.{Bool, true, false, cond}
 use Rattle.content.specs.WrongByte.{Wrong, Nowhere}
 use Prim.Native.Nat.{ℕ}
 use Rattle.tables.specs.declared.Outcome.{Outcome}
-use Rattle.tables.specs.declared.Row.{Row}
+use Rattle.content.specs.declared.Row.{Row}
 use Rattle.tables.specs.Rows.{isGroup}
 use Rattle.compare.specs.Order.{relationHolds}
 use Rattle.values.specs.Comparison.{Side, comparison, wrongByte, fault}

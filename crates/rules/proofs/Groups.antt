@@ -6,7 +6,7 @@ use Prim.Native.Nat.{ℕ, suc}
 use lib.ListN.{length}
 use Rattle.content.specs.WrongByte.{Wrong, Nowhere, rightAt, firstFrom}
 use Rattle.tables.specs.declared.Outcome.{Outcome}
-use Rattle.tables.specs.declared.Row.{Row}
+use Rattle.content.specs.declared.Row.{Row}
 use Rattle.tables.specs.Rows.{isGroup}
 use Rattle.compare.specs.Classes.{classHolds}
 use Rattle.values.specs.Comparison.{Side, comparison, moved, fault}

@@ -17,7 +17,7 @@ use Rattle.tables.specs.declared.Stop.{Stop}
 use Rattle.tables.specs.declared.Stop.the-variants.{Digits, Letters}
 use Rattle.tables.specs.declared.Verdict.{Verdict}
 use Rattle.tables.specs.declared.Verdict.the-variants.{True, False, Refused}
-use Rattle.tables.specs.declared.Row.{Row}
+use Rattle.content.specs.declared.Row.{Row}
 use Rattle.tables.specs.Rows.{rowCount, nameCount, rowAt, rowSound, isGroup, part, liesIn}
 use Rattle.tables.specs.Operands.{Lent}
 use Rattle.tables.specs.Refusals.{unless, firstOf}

@@ -16,7 +16,7 @@ use Rattle.tables.specs.declared.Stop.{Stop}
 use Rattle.tables.specs.declared.Stop.the-variants.{Digits, Letters}
 use Rattle.tables.specs.declared.Verdict.{Verdict}
 use Rattle.tables.specs.declared.Verdict.the-variants.{True, False, Refused}
-use Rattle.tables.specs.declared.Row.{Row}
+use Rattle.content.specs.declared.Row.{Row}
 use Rattle.tables.specs.Tokens.{isItem, isName, indexOf}
 use Rattle.tables.specs.Rows.{rowAt, isGroup, part}
 use Rattle.tables.specs.Operands.{Lent}

@@ -5,7 +5,7 @@ use Prim.Native.Nat.{ℕ}
 use lib.Dec.{eqb}
 use Rattle.content.specs.Content.{all, isDigit}
 use Rattle.content.specs.WrongByte.{Nowhere}
-use Rattle.tables.specs.declared.Row.{Row}
+use Rattle.content.specs.declared.Row.{Row}
 use Rattle.tables.specs.Rows.{rowSound}
 use Rattle.typing.specs.Typing.{sideFits, mayBeNumeric, mayBeAlphabetic}
 use Rattle.values.specs.Comparison.{Side, side, fault}

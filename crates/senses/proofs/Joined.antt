@@ -8,7 +8,7 @@ use lib.Dec.{ltb, leb}
 use lib.ListN.{length, drop}
 use lib.Seq.{drop-drop}
 use borrow.Author.Tests.{lt-ltb, le-ltb, le-leb}
-use Rattle.tables.specs.declared.Row.{Row}
+use Rattle.content.specs.declared.Row.{Row}
 use Rattle.description.specs.Grammar.{Word, bytes}
 use Rattle.spelling.specs.Literals.{Literal, rowOfLiteral}
 use Rattle.spelling.specs.Keywords.{Meaning, alone, item, value, order, equal, faulty}

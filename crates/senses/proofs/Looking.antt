@@ -8,7 +8,7 @@ use native.Mathlib.Omega.{arith}
 use lib.Dec.{eqb, leb, ltb}
 use lib.ListN.{length, getD}
 use borrow.Author.Tests.{eqb-true}
-use Rattle.tables.specs.declared.Row.{Row}
+use Rattle.content.specs.declared.Row.{Row}
 use Rattle.description.specs.Grammar.{same, within, any, all, isLetter, isHyphen, isNameByte, keywords}
 use Rattle.description.specs.Reader.{isName}
 use Rattle.description.proofs.Bytes.{and-both}

@@ -4,7 +4,7 @@ use mathlib.Core.List.{List, []}
 use Prim.Native.Nat.{ℕ, _≤_}
 use lib.Dec.{ltb, leb}
 use lib.ListN.{length, getD, drop}
-use Rattle.tables.specs.declared.Row.{Row}
+use Rattle.content.specs.declared.Row.{Row}
 use Rattle.spelling.specs.Literals.{rowOfLiteral}
 use Rattle.spelling.specs.Keywords.{Piece as Spelt, token, literal, fault, Meaning, alone, item, value, order, equal, faulty, keyword, vocabulary}
 use Rattle.spelling.specs.Meanings.{orEqual, joins, pieceOf}
@@ -14,10 +14,11 @@ use Rattle.senses.specs.declared.Sense.the-variants.{Token, Item, Litera
 use Rattle.senses.specs.declared.Met.{Met}
 use Rattle.senses.specs.declared.Met.the-variants.{Token as MetToken, Literal as MetLiteral, Fault as MetFault}
 use Rattle.senses.specs.declared.Piece.{Piece}
+use Rattle.content.specs.Kinds.{kindAlphanumeric}
 
 -- a nonnumeric literal's row of so many bytes
 abbrev pub textRow : ℕ → Row
-textRow size = record { kind = 2; offset = 0; size = size; scale = 0; digits = 0 }
+textRow size = record { kind = kindAlphanumeric; offset = 0; size = size; scale = 0; digits = 0 }
 
 -- a literal stands as its row at offset 0
 abbrev pub senseOf : Meaning → Sense

@@ -4,7 +4,7 @@ mod meanings; // what a word means
 pub mod pieces; // a word and the words that join it
 mod vocables; // words that mean something by themselves
 
-use tables::Row;
+use content::Row;
 
 // What a word means: a token that nothing joins, an item, a literal by its row at offset 0, GREATER or
 // LESS by their tokens without and with OR EQUAL, EQUAL, or a refusal's number.

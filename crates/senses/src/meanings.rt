@@ -10,13 +10,14 @@ ghost use Rattle.spelling.specs.Meanings.{lookup, named, meaning};
 ghost use Rattle.senses.specs.Senses.{textRow, senseOf};
 use crate::Sense;
 use crate::vocables::vocable;
+use content::Row;
 use literal_words::Number;
 use literal_words::Text;
 use literal_words::numbers::read_number;
 use literal_words::quotes::read_text;
 use naming::Called;
 use naming::names::row_named;
-use tables::Row;
+use tables::tokens::FIRST_NAME;
 use words::names::is_name;
 
 fn text_row(size: usize) -> Row
@@ -24,7 +25,7 @@ fn text_row(size: usize) -> Row
     ensures { λ r. ⌜ r ≡ textRow size ⌝ }
 {
     Row {
-        kind: 2,
+        kind: Row::ALPHANUMERIC,
         offset: 0,
         size: size as u32,
         scale: 0,
@@ -40,7 +41,7 @@ fn called(description: &[u8], places: &[u32], items: usize, word: &[u8]) -> Sens
     let called = row_named(description, places, items, word);
     match called {
         Called::Item(v) => Sense::Item(v),
-        Called::Condition(v) => Sense::Token(327680 + v),
+        Called::Condition(v) => Sense::Token(FIRST_NAME + v),
         Called::Not => Sense::Fault(16),
     }
 }

@@ -8,11 +8,13 @@ ghost use Rattle.naming.specs.Named.{Listed, knownAt};
 ghost use Rattle.splitter.specs.Splits.{between};
 ghost use Rattle.senses.specs.Senses.{PastOrEqual, PieceAfter, PieceBy};
 ghost use Rattle.description.specs.Grammar.{bytes};
+ghost use Rattle.tables.specs.Words.{EQUAL};
 use crate::Met;
 use crate::Piece;
 use crate::Sense;
 use crate::meanings::sense_of;
 use splitter::splits::skip_word;
+use tables::words::EQUAL;
 
 // The place after OR EQUAL, with or without TO; else `from`.
 fn skip_or_equal(text: &[u8], from: usize) -> usize
@@ -61,11 +63,11 @@ fn operand_at(met: Met, text: &[u8], end: usize) -> Piece
 // EQUAL.
 fn equal_at(text: &[u8], end: usize) -> Piece
     requires { ⌜ end ≤ length (now text) ⌝ }
-    ensures { λ r. ⌜ PieceAfter (bytes "TO") (Met.Token 262151) (now (text .entry)) end r ⌝ }
+    ensures { λ r. ⌜ PieceAfter (bytes "TO") (Met.Token EQUAL) (now (text .entry)) end r ⌝ }
 {
     let past = skip_word(text, end, b"TO");
     Piece {
-        met: Met::Token(262151),
+        met: Met::Token(EQUAL),
         past,
     }
 }

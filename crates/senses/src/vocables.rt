@@ -4,22 +4,32 @@ ghost use Rattle.spelling.specs.Keywords.{faulty, vocabulary};
 ghost use Rattle.spelling.specs.Meanings.{lookup};
 ghost use Rattle.senses.specs.Senses.{senseOf, meaningAt};
 use crate::Sense;
+use tables::tokens::FIRST_ON;
+use tables::tokens::FIRST_WORD;
+use tables::words::GREATER;
+use tables::words::GREATER_OR_EQUAL;
+use tables::words::LESS;
+use tables::words::LESS_OR_EQUAL;
+use vocabulary::spellings::AT_EQUAL;
+use vocabulary::spellings::AT_GREATER;
+use vocabulary::spellings::AT_LESS;
+use vocabulary::spellings::AT_SWITCHES;
 use vocabulary::spellings::word_index;
 
 // The sense of word k; any other word is faulty.
 fn sense_at(k: usize) -> Sense
     ensures { λ r. ⌜ r ≡ senseOf (meaningAt k) ⌝ }
 {
-    if k < 17 {
-        return Sense::Token(262144 + k as u32);
+    if k < AT_SWITCHES {
+        return Sense::Token(FIRST_WORD + k as u32);
     }
-    if k < 25 {
-        return Sense::Token(131072 + (k - 17) as u32);
+    if k < AT_GREATER {
+        return Sense::Token(FIRST_ON + (k - AT_SWITCHES) as u32);
     }
     match k {
-        25 => Sense::Order(262149, 262152),
-        26 => Sense::Order(262150, 262153),
-        27 => Sense::Equal,
+        AT_GREATER => Sense::Order(GREATER, GREATER_OR_EQUAL),
+        AT_LESS => Sense::Order(LESS, LESS_OR_EQUAL),
+        AT_EQUAL => Sense::Equal,
         _ => Sense::Fault(15),
     }
 }

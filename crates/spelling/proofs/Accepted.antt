@@ -11,7 +11,7 @@ use lib.Seq.{getD-append-add, getD-append-seam, drop-append-seam, take-append-se
 use lib.Dec.{leb, ltb, eqb}
 use borrow.Author.Tests.{leb-true, le-leb, lt-ltb, eqb-true, eq-eqb}
 use Rattle.content.specs.WrongByte.{validContent}
-use Rattle.tables.specs.declared.Row.{Row}
+use Rattle.content.specs.declared.Row.{Row}
 use Rattle.tables.specs.declared.Refusal.{Refusal}
 use Rattle.tables.specs.declared.Refusal.the-variants.{LiteralRow}
 use Rattle.tables.specs.declared.Check.the-variants.{Sound}

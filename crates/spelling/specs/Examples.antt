@@ -6,6 +6,7 @@ use Prim.Native.String.{String}
 use Rattle.description.specs.Grammar.{bytes}
 use Rattle.spelling.specs.Names.{Book, book, knownBy}
 use Rattle.spelling.specs.Reading.{Reading, read, refused, reading}
+use Rattle.tables.specs.Words.{ALPHABETIC-LOWER, AND, CLOSE, EQUAL, GREATER, GREATER-OR-EQUAL, LESS, LESS-OR-EQUAL, NOT, OPEN, OR, literalToken, nameToken, onToken}
 
 pub record Example : Type 0 where
   pub text : String
@@ -29,15 +30,15 @@ named =
 
 abbrev pub examples : List Example
 examples =
-    example "A IS GREATER THAN OR EQUAL TO 0.50" (read (0 ∷ 262152 ∷ 65536 ∷ []) (3 ∷ 0 ∷ 3 ∷ 2 ∷ 3 ∷ []) (bytes "050"))
-    ∷ example "A >= 0.50" (read (0 ∷ 262152 ∷ 65536 ∷ []) (3 ∷ 0 ∷ 3 ∷ 2 ∷ 3 ∷ []) (bytes "050"))
-    ∷ example "A>B AND NOT<.5 OR \"IT\"\"S\"" (read (0 ∷ 262149 ∷ 1 ∷ 262147 ∷ 262146 ∷ 262150 ∷ 65536 ∷ 262148 ∷ 65537 ∷ []) (3 ∷ 0 ∷ 1 ∷ 1 ∷ 1 ∷ 2 ∷ 1 ∷ 4 ∷ 0 ∷ 0 ∷ []) (bytes "5IT\"S"))
-    ∷ example "SERIAL-NO IS NOT EQUAL TO -12\n" (read (2 ∷ 262146 ∷ 262151 ∷ 65536 ∷ []) (5 ∷ 0 ∷ 3 ∷ 0 ∷ 2 ∷ []) (bytes "-12"))
-    ∷ example "A > OR = B" (read (0 ∷ 262149 ∷ 262148 ∷ 262151 ∷ 1 ∷ []) [] [])
-    ∷ example "A LESS OR EQUAL B" (read (0 ∷ 262153 ∷ 1 ∷ []) [] [])
-    ∷ example "A => B" (read (0 ∷ 262151 ∷ 262149 ∷ 1 ∷ []) [] [])
-    ∷ example "(UPSI-0 OR NOT UPSI-7)" (read (262144 ∷ 131072 ∷ 262148 ∷ 262146 ∷ 131079 ∷ 262145 ∷ []) [] [])
-    ∷ example "A IS ALPHABETIC-LOWER" (read (0 ∷ 262156 ∷ []) [] [])
+    example "A IS GREATER THAN OR EQUAL TO 0.50" (read (0 ∷ GREATER-OR-EQUAL ∷ literalToken 0 ∷ []) (3 ∷ 0 ∷ 3 ∷ 2 ∷ 3 ∷ []) (bytes "050"))
+    ∷ example "A >= 0.50" (read (0 ∷ GREATER-OR-EQUAL ∷ literalToken 0 ∷ []) (3 ∷ 0 ∷ 3 ∷ 2 ∷ 3 ∷ []) (bytes "050"))
+    ∷ example "A>B AND NOT<.5 OR \"IT\"\"S\"" (read (0 ∷ GREATER ∷ 1 ∷ AND ∷ NOT ∷ LESS ∷ literalToken 0 ∷ OR ∷ literalToken 1 ∷ []) (3 ∷ 0 ∷ 1 ∷ 1 ∷ 1 ∷ 2 ∷ 1 ∷ 4 ∷ 0 ∷ 0 ∷ []) (bytes "5IT\"S"))
+    ∷ example "SERIAL-NO IS NOT EQUAL TO -12\n" (read (2 ∷ NOT ∷ EQUAL ∷ literalToken 0 ∷ []) (5 ∷ 0 ∷ 3 ∷ 0 ∷ 2 ∷ []) (bytes "-12"))
+    ∷ example "A > OR = B" (read (0 ∷ GREATER ∷ OR ∷ EQUAL ∷ 1 ∷ []) [] [])
+    ∷ example "A LESS OR EQUAL B" (read (0 ∷ LESS-OR-EQUAL ∷ 1 ∷ []) [] [])
+    ∷ example "A => B" (read (0 ∷ EQUAL ∷ GREATER ∷ 1 ∷ []) [] [])
+    ∷ example "(UPSI-0 OR NOT UPSI-7)" (read (OPEN ∷ onToken 0 ∷ OR ∷ NOT ∷ onToken 7 ∷ CLOSE ∷ []) [] [])
+    ∷ example "A IS ALPHABETIC-LOWER" (read (0 ∷ ALPHABETIC-LOWER ∷ []) [] [])
     ∷ example "" (refused 5 0)
     ∷ example "A IS IS B" (refused 15 5)
     ∷ example "A > THAN B" (refused 15 4)
@@ -63,9 +64,9 @@ examples =
 abbrev pub namedExamples : List Example
 namedExamples =
     example "NOT OVERDUE AND A > 0.5 OR LOST"
-    (read (262146 ∷ 327680 ∷ 262147 ∷ 0 ∷ 262149 ∷ 65538 ∷ 262148 ∷ 327684 ∷ [])
+    (read (NOT ∷ nameToken 0 ∷ AND ∷ 0 ∷ GREATER ∷ literalToken 2 ∷ OR ∷ nameToken 4 ∷ [])
     (3 ∷ 0 ∷ 2 ∷ 0 ∷ 2 ∷ 2 ∷ 2 ∷ 1 ∷ 0 ∷ 0 ∷ 3 ∷ 3 ∷ 2 ∷ 1 ∷ 2 ∷ []) (bytes "30X05"))
-    ∷ example "OVERDUE" (read (327680 ∷ []) (3 ∷ 0 ∷ 2 ∷ 0 ∷ 2 ∷ 2 ∷ 2 ∷ 1 ∷ 0 ∷ 0 ∷ []) (bytes "30X"))
+    ∷ example "OVERDUE" (read (nameToken 0 ∷ []) (3 ∷ 0 ∷ 2 ∷ 0 ∷ 2 ∷ 2 ∷ 2 ∷ 1 ∷ 0 ∷ 0 ∷ []) (bytes "30X"))
     ∷ example "OVERDUE IS NUMERIC" (refused 15 8)
     ∷ example "A = BOTH" (refused 16 4)
     ∷ example "A = SERIAL-NO" (refused 16 4)

@@ -3,6 +3,7 @@ use mathlib.Core.List.{List, [], _∷_}
 use Prim.Native.Nat.{ℕ, _+_}
 use Rattle.description.specs.Grammar.{bytes}
 use Rattle.spelling.specs.Literals.{Literal}
+use Rattle.tables.specs.Words.{GREATER, LESS, GREATER-OR-EQUAL, LESS-OR-EQUAL, wordToken, onToken}
 
 -- What a word adds to what is read: a token, a literal, or a refusal's number.
 pub data Piece : Type 0 where
@@ -40,10 +41,10 @@ keyword bytes meaning = record { bytes = bytes; meaning = meaning }
 
 -- the word with number v of document 01, and "UPSI-0 to UPSI-7 mean that switch on"
 abbrev pub word : List ℕ → ℕ → Keyword
-word bytes v = keyword bytes (alone (262144 + v))
+word bytes v = keyword bytes (alone (wordToken v))
 
 abbrev pub switch : ℕ → Keyword
-switch v = keyword (UPSI v) (alone (131072 + v))
+switch v = keyword (UPSI v) (alone (onToken v))
 
 -- The words that mean something by themselves. Keywords of a) that are not among them (IS, FILLER, PIC and so on) are faulty words, where no
 -- other word takes them.
@@ -74,7 +75,7 @@ vocabulary =
     ∷ switch 5
     ∷ switch 6
     ∷ switch 7
-    ∷ keyword (bytes "GREATER") (order 262149 262152)
-    ∷ keyword (bytes "LESS") (order 262150 262153)
+    ∷ keyword (bytes "GREATER") (order GREATER GREATER-OR-EQUAL)
+    ∷ keyword (bytes "LESS") (order LESS LESS-OR-EQUAL)
     ∷ keyword (bytes "EQUAL") equal
     ∷ []

@@ -7,9 +7,10 @@ use lib.Dec.{eqb}
 use Rattle.content.specs.Content.{isSign, firstByte, lastByte, butFirst, butLast}
 use Rattle.content.specs.WrongByte.{validContent}
 use Rattle.description.specs.Grammar.{same}
-use Rattle.tables.specs.declared.Row.{Row}
+use Rattle.content.specs.declared.Row.{Row}
 use Rattle.tables.specs.Rows.{rowSound}
 use Rattle.spelling.specs.Words.{isQuote}
+use Rattle.content.specs.Kinds.{kindAlphanumeric, kindUnsigned, kindSignLeading}
 
 -- a literal without its place among the literal bytes
 pub record Literal : Type 0 where
@@ -19,7 +20,7 @@ pub record Literal : Type 0 where
 
 -- Document 02, f): the digit count, "agreeing with the size, 0 for others"; a sign is one byte more
 abbrev pub literalDigits : ℕ → ℕ → ℕ
-literalDigits kind size = cond (eqb kind 3) size (cond (eqb kind 5) (size - 1) 0)
+literalDigits kind size = cond (eqb kind kindUnsigned) size (cond (eqb kind kindSignLeading) (size - 1) 0)
 
 -- its row, where its bytes are laid at an offset
 abbrev pub rowOfLiteral : ℕ → Literal → Row
@@ -50,7 +51,7 @@ undoubled false (b ∷ bytes) = b ∷ undoubled (isQuote b) bytes
 
 -- the nonnumeric literal that a word writes: what stands between its first and its last byte
 abbrev pub textOf : List ℕ → Literal
-textOf word = record { kind = 2; scale = 0; bytes = undoubled false (butLast (butFirst word)) }
+textOf word = record { kind = kindAlphanumeric; scale = 0; bytes = undoubled false (butLast (butFirst word)) }
 
 unfoldable pub isText : List ℕ → Bool
 isText word = same word (quoted (textOf word .bytes)) && fits (textOf word)
@@ -76,7 +77,7 @@ pointPlace (b ∷ bytes) = cond (isPoint b) 0 (suc (pointPlace bytes))
 -- digits after the point.
 abbrev pub numberOf : List ℕ → Literal
 numberOf word =
-    record { kind = cond (isSign (firstByte word)) 5 3; scale = length (afterPoint word); bytes = withoutPoint word }
+    record { kind = cond (isSign (firstByte word)) kindSignLeading kindUnsigned; scale = length (afterPoint word); bytes = withoutPoint word }
 
 -- "numeric literals may be signed and hold one point, not last"
 unfoldable pub isNumber : List ℕ → Bool
@@ -88,4 +89,4 @@ pointed scale bytes = cond (eqb scale 0) bytes (take (length bytes - scale) byte
 
 -- a literal as it is printed
 abbrev pub written : Literal → List ℕ
-written l = cond (eqb (l .kind) 2) (quoted (l .bytes)) (pointed (l .scale) (l .bytes))
+written l = cond (eqb (l .kind) kindAlphanumeric) (quoted (l .bytes)) (pointed (l .scale) (l .bytes))

@@ -9,6 +9,7 @@ use Rattle.description.specs.Reader.{isName}
 use Rattle.spelling.specs.Names.{Known, everyName}
 use Rattle.spelling.specs.Literals.{textOf, isText, numberOf, isNumber}
 use Rattle.spelling.specs.Keywords.{Piece, token, literal, fault, Meaning, alone, item, value, order, equal, faulty, Keyword, vocabulary}
+use Rattle.tables.specs.Words.{EQUAL, nameToken}
 
 -- how many rows have the name, and the first that has it
 unfoldable pub count : List ℕ → List (List ℕ) → ℕ
@@ -22,7 +23,7 @@ position word (name ∷ names) = cond (same word name) 0 (suc (position word nam
 -- The name with number p, of which the first `items` are items': an item, or a condition-name. This is a simple condition and no
 -- operand, so that IS may not follow.
 abbrev pub called : ℕ → ℕ → Meaning
-called items p = cond (ltb p items) (item p) (alone (327680 + (p - items)))
+called items p = cond (ltb p items) (item p) (alone (nameToken (p - items)))
 
 -- "an unknown or doubled name with 16"; "A faulty word .. with 15": a name is one of a), so no keyword
 abbrev pub named : Known → List ℕ → Meaning
@@ -75,5 +76,5 @@ pieceOf (alone t) ws = token t
 pieceOf (item t) ws = token t
 pieceOf (value l) ws = literal l
 pieceOf (order plain joined) ws = token (cond (leb 1 (orEqual (afterThan ws))) joined plain)
-pieceOf equal ws = token 262151
+pieceOf equal ws = token EQUAL
 pieceOf (faulty number) ws = fault number

@@ -7,7 +7,7 @@ use native.Mathlib.Omega.{arith}
 use borrow.Author.Tests.{leb-false}
 use lib.Dec.{leb}
 use lib.ListN.{length}
-use Rattle.tables.specs.declared.Row as Rules
+use Rattle.content.specs.declared.Row as Rules
 use Rattle.description.specs.Reader.{Naming}
 use Rattle.description.specs.Stages.{inked}
 use Rattle.description.proofs.Bytes.{apart}

@@ -7,7 +7,7 @@ use Prim.Native.Nat.{ℕ, zero, suc, _+_, _*_, _-_, _≤_, _<_}
 use lib.Dec.{leb}
 use lib.ListN.{length, take, drop, set, replicate}
 use lib.Seq.{sets}
-use Rattle.tables.specs.declared.Row as Rules
+use Rattle.content.specs.declared.Row as Rules
 use Rattle.description.specs.Grammar.{Entry, Value, Condition, condition, NameRow, Pair, nameRows, literals, literalsOf}
 use Rattle.description.specs.Limits.{nameMarks}
 use Rattle.description.specs.Reader.{Naming, label, labelled, faulty}
@@ -20,6 +20,7 @@ use Rattle.storing.specs.Stored.{notedAt}
 use Rattle.storing.specs.declared.Names.{Names}
 use Rattle.storing.specs.declared.NameStep.{NameStep}
 use Rattle.storing.specs.declared.NameStep.the-variants.{Read, Fault}
+use Rattle.tables.specs.Rows.{nameWidth}
 
 abbrev pub itemRow : Noted → Rules.Row
 itemRow x = record { kind = x .kind; offset = 0; size = x .size; scale = x .scale; digits = x .digits }
@@ -59,7 +60,7 @@ pub record Stores (text : List ℕ) (cs : List Condition) (s : Names) (rows plac
   pub valued : literalsIn text spans ≡ literalsOf cs
   pub counted : s .count ≡ length cs
   pub few : s .count ≤ 64
-  pub named : take (s .count * 18) rows ≡ nameNumbers (nameRows 0 cs)
+  pub named : take (s .count * nameWidth) rows ≡ nameNumbers (nameRows 0 cs)
   pub placed : take (s .count) places ≡ map nameOf cs
 
 pub record Kept (text : List ℕ) (es : List Entry) (cs : List Condition) (s : Names) (rows places notes : List ℕ) : Type 0 where
@@ -69,7 +70,7 @@ pub record Kept (text : List ℕ) (es : List Entry) (cs : List Condition) (s : N
 
 -- What private functions promise. A name's row and its place:
 pub record NameStored (i item values named : ℕ) (rows places row rows-after places-after : List ℕ) : Type 0 where
-  pub stored : rows-after ≡ sets rows (i * 18) (item ∷ values ∷ drop 2 row)
+  pub stored : rows-after ≡ sets rows (i * nameWidth) (item ∷ values ∷ drop 2 row)
   pub placed : places-after ≡ set places i named
 
 pub record NameReady (text : List ℕ) (p : ℕ) (flat : List ℕ) (count : ℕ) (s : Names) (rows places notes row : List ℕ) : Type 0 where
@@ -78,7 +79,7 @@ pub record NameReady (text : List ℕ) (p : ℕ) (flat : List ℕ) (count : ℕ)
   pub some : 0 < count
   pub few : count ≤ 820
   pub held : count * 7 ≤ length flat
-  pub wide : (1152 ≤ length rows) × (64 ≤ length places) × (448 ≤ length notes) × (length row ≡ 18)
+  pub wide : (1152 ≤ length rows) × (64 ≤ length places) × (448 ≤ length notes) × (length row ≡ nameWidth)
   pub spans : List Span
   pub noted : s .over ≡ false → NotesHold text notes (tally false 0 (s .literals) (s .bytes)) spans
 

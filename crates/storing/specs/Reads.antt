@@ -13,6 +13,7 @@ use Rattle.entries.specs.Entries.{capNoted, entryOf}
 use Rattle.storing.specs.Stored.{notedFrom, Scaled}
 use Rattle.storing.specs.Naming.{limitOf, Stores}
 use Rattle.storing.specs.declared.Found.{Found}
+use Rattle.content.specs.Kinds.{rowWidth}
 
 abbrev pub readingOf : Bool → Parts → ℕ → Reading
 readingOf true d place = read (tableOf d)
@@ -25,6 +26,6 @@ pub record ReadBy (text reading-of : List ℕ) (is : Reading) (flat rows places 
   pub held : notedFrom flat 0 (r .count) ≡ map capNoted exact
   pub scaled : Scaled exact
   pub reading : is ≡ readingOf (r .whole) (parts (map entryOf exact) conditions) (r .place)
-  pub few : 5 * r .count ≤ 4096
+  pub few : rowWidth * r .count ≤ 4096
   pub limit : firstOver (nameMarks 0 0 (ownRows (map entryOf exact)) conditions) ≡ limitOf (r .names)
   pub stores : r .whole ≡ true → r .names .over ≡ false → Stores text conditions (r .names) rows places notes

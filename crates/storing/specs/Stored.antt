@@ -8,6 +8,7 @@ use lib.ListN.{getD, set}
 use Rattle.description.specs.Grammar.{Entry}
 use Rattle.entries.specs.declared.Noted.{Noted}
 use Rattle.entries.specs.Entries.{noted, capNoted, entryOf}
+use Rattle.content.specs.Kinds.{kindGroup}
 
 abbrev pub numbersOf : Noted → List ℕ
 numbersOf x = x .level ∷ x .place ∷ x .named ∷ x .kind ∷ x .size ∷ x .scale ∷ x .digits ∷ []
@@ -29,7 +30,7 @@ pushed stack (suc d) l = set stack d l
 
 -- one more than the level of a group, which waits for its first member
 abbrev pub waitingAfter : Noted → ℕ
-waitingAfter x = cond (eqb (x .kind) 0) (x .level + 1) 0
+waitingAfter x = cond (eqb (x .kind) kindGroup) (x .level + 1) 0
 
 -- No scale is above its digits.
 abbrev pub Scaled : List Noted → Type 0

@@ -6,12 +6,14 @@ ghost use lib.ListN.{length};
 ghost use lib.Seq.{sets};
 ghost use Rattle.storing.specs.Stored.{notedAt};
 ghost use Rattle.storing.specs.Naming.{itemRow, startOf, passedBy, NameStored, NameBy, NameReady};
+ghost use Rattle.tables.specs.Rows.{nameWidth};
 use crate::NameStep;
 use crate::Names;
+use content::Row;
 use name_entries::NameRead;
 use name_entries::Tally;
 use name_entries::reading::read_name;
-use tables::Row;
+use tables::rows::NAME_WIDTH;
 use words::blanks::next_ink;
 
 // What entry i tells of its row.
@@ -58,12 +60,12 @@ fn passed_by(kept: Names, p: usize) -> Names
 
 // The eighteen numbers of a row, at row i.
 fn put_row(names: &mut [u32], i: usize, row: &[u32])
-    requires { ⌜ (i * 18 + 17 < length (now names)) × (length (now row) ≡ 18) ⌝ }
-    ensures { λ _. ⌜ now (names .exit) ≡ sets (now (names .entry)) (i * 18) (now (row .entry)) ⌝ }
+    requires { ⌜ (i * nameWidth + 17 < length (now names)) × (length (now row) ≡ nameWidth) ⌝ }
+    ensures { λ _. ⌜ now (names .exit) ≡ sets (now (names .entry)) (i * nameWidth) (now (row .entry)) ⌝ }
 {
-    let at = i * 18;
+    let at = i * NAME_WIDTH;
     let mut k: usize = 0;
-    while k < 18 {
+    while k < NAME_WIDTH {
         names[at + k] = row[k];
         k += 1;
     }
@@ -79,7 +81,7 @@ fn store_name(
     values: usize,
     named: usize,
 )
-    requires { ⌜ (i * 18 + 17 < length (now names)) × ((i < length (now places)) × (length (now row) ≡ 18)) ⌝ }
+    requires { ⌜ (i * nameWidth + 17 < length (now names)) × ((i < length (now places)) × (length (now row) ≡ nameWidth)) ⌝ }
     requires { ⌜ (item ≤ 4096) × ((values ≤ 4096) × (named ≤ 4096)) ⌝ }
     ensures { λ _. ⌜ NameStored i item values named (now (names .entry)) (now (places .entry)) (now (row .entry)) (now (names .exit)) (now (places .exit)) ⌝ }
 {

@@ -4,6 +4,7 @@ ghost use Prim.Native.Nat.{_+_, _*_, _<_, _≤_};
 ghost use lib.ListN.{length};
 ghost use lib.Seq.{sets};
 ghost use Rattle.storing.specs.Stored.{numbersOf, pushed, waitingAfter};
+use content::Row;
 use entries::Noted;
 
 pub fn store(entries: &mut [u32], i: usize, x: Noted)
@@ -35,7 +36,7 @@ pub fn waiting_after(x: Noted) -> u32
     requires { ⌜ x .level < 4294967295 ⌝ }
     ensures { λ r. ⌜ r ≡ waitingAfter x ⌝ }
 {
-    if x.kind == 0 {
+    if x.kind == Row::GROUP {
         return x.level + 1;
     }
     0

@@ -14,6 +14,7 @@ use books::given::give;
 use books::names::book_of;
 use checks::lent::check_tables;
 use checks::tokens::check_token_count;
+use content::Row;
 use lexer::Lexed;
 use lexer::gathering::gather;
 use printable::refusals::first_missing;
@@ -24,8 +25,6 @@ use tables::Check;
 use tables::Refusal;
 
 // The numbers of a row.
-const WIDTH: usize = 5;
-
 fn refused(number: u32, place: usize) -> Recognized
     ensures { λ r. ⌜ r ≡ refusedAs number place ⌝ }
 {
@@ -84,7 +83,7 @@ pub fn read(
     ensures { λ r. ⌜ ReadAs (readCondition (now (description .entry)) (now (condition .entry))) (now (tokens .entry)) (now (literals .entry)) (now (bytes .entry)) r (now (tokens .exit)) (now (literals .exit)) (now (bytes .exit)) ⌝ }
 {
     let mut places = [0u32; 128];
-    let mut rows = [0u32; 320];
+    let mut rows = [0u32; Row::TABLE];
     let mut content = [0u8; 6400];
     let named = book_of(description, &mut places, &mut rows, &mut content);
     match named {
@@ -141,7 +140,12 @@ fn print_there(
     requires { ⌜ Sized (now description) items (now places) (now literals) (now bytes) (now tokens) ⌝ }
     ensures { λ r. ⌜ PrintedAs (printing (knownAt (now (description .entry)) items (now (places .entry))) (now (literals .entry)) (now (bytes .entry)) (now (tokens .entry))) (now (text .entry)) r (now (text .exit)) ⌝ }
 {
-    let missing = first_missing(tokens, items, literals.len() / WIDTH, places.len() - items);
+    let missing = first_missing(
+        tokens,
+        items,
+        literals.len() / Row::WIDTH,
+        places.len() - items,
+    );
     if missing < tokens.len() {
         return Printed::Refused(Refusal::Token(missing));
     }
@@ -187,7 +191,7 @@ pub fn print(
     ensures { λ r. ⌜ PrintedAs (printCondition (now (description .entry)) (now (literals .entry)) (now (bytes .entry)) (now (tokens .entry))) (now (text .entry)) r (now (text .exit)) ⌝ }
 {
     let mut places = [0u32; 128];
-    let mut rows = [0u32; 320];
+    let mut rows = [0u32; Row::TABLE];
     let mut content = [0u8; 4096];
     let named = book_of(description, &mut places, &mut rows, &mut content);
     match named {

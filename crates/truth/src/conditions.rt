@@ -9,15 +9,17 @@ use compare::classes::class_holds;
 use compare::orders::relation_holds;
 use compare::orders::sign_holds;
 use compare::switches::switch_on;
+use content::Row;
 use names::ranges::name_outcome;
 use numbers::reading::read_number;
 use scaled::compare_scaled;
 use scaled::compare_zero;
 use tables::Outcome;
-use tables::Row;
 use tables::operands::operand_bytes;
 use tables::operands::row_of;
 use tables::rows::is_numeric;
+use tables::tokens::NAME;
+use tables::tokens::SPAN;
 use tables::tokens::is_item;
 use typing::Test;
 use typing::shape::test_of;
@@ -49,8 +51,8 @@ fn value_outcome(
     requires { ⌜ Numeral row1 (now bytes1) × Numeral row2 (now bytes2) ⌝ }
     ensures { λ r. ⌜ r ≡ relationOutcome word negated (side item1 row1 (now (bytes1 .entry))) (side item2 row2 (now (bytes2 .entry))) ⌝ }
 {
-    let left = read_number(row1.kind, row1.digits, bytes1);
-    let right = read_number(row2.kind, row2.digits, bytes2);
+    let left = read_number(row1, bytes1);
+    let right = read_number(row2, bytes2);
     if item1 & !left.valid {
         return stop_at(row1, bytes1);
     }
@@ -139,7 +141,7 @@ fn class_outcome<'a>(
 {
     let row = row_of(subject, items, literals);
     let part = operand_bytes(subject, items, literals, bytes, record);
-    truth_value(negated, class_holds(word, row.kind, row.digits, part))
+    truth_value(negated, class_holds(word, row, part))
 }
 
 fn sign_outcome<'a>(
@@ -157,7 +159,7 @@ fn sign_outcome<'a>(
 {
     let row = row_of(subject, items, literals);
     let part = operand_bytes(subject, items, literals, bytes, record);
-    let number = read_number(row.kind, row.digits, part);
+    let number = read_number(row, part);
     if is_item(subject) & !number.valid {
         return stop_at(row, part);
     }
@@ -183,11 +185,11 @@ pub fn truth_of<'a>(
     let test = test_of(relation);
     match test {
         Test::Alone => {
-            if subject / 65536 == 5 {
-                let name = (subject % 65536) as usize;
+            if subject / SPAN == NAME {
+                let name = (subject % SPAN) as usize;
                 return name_outcome(items, literals, bytes, names, record, name);
             }
-            truth_value(false, switch_on(switches, subject % 65536))
+            truth_value(false, switch_on(switches, subject % SPAN))
         }
         Test::Relation { word, negated } => {
             relation_outcome(

@@ -4,6 +4,7 @@ use Prim.Native.Nat.{ℕ, _-_}
 use lib.Dec.{eqb, leb}
 use Rattle.typing.specs.declared.Test.{Test}
 use Rattle.typing.specs.declared.Test.the-variants.{Alone, Relation, Class, Sign, Unknown}
+use Rattle.content.specs.Relations.{wordGreater, wordLessOrEqual, wordNumeric, wordUpper, wordPositive, wordZero}
 
 abbrev pub within : ℕ → ℕ → ℕ → Bool
 within low high x = leb low x && leb x high
@@ -14,9 +15,9 @@ within low high x = leb low x && leb x high
 abbrev pub testOf : ℕ → Test
 testOf relation =
     cond (eqb relation 0) Alone
-    (cond (within 5 9 relation) (Relation relation false)
-    (cond (within 10 13 relation) (Class relation false)
-    (cond (within 14 16 relation) (Sign relation false)
+    (cond (within wordGreater wordLessOrEqual relation) (Relation relation false)
+    (cond (within wordNumeric wordUpper relation) (Class relation false)
+    (cond (within wordPositive wordZero relation) (Sign relation false)
     (cond (within 37 39 relation) (Relation (relation - 32) true)
     (cond (within 42 45 relation) (Class (relation - 32) true)
     (cond (within 46 48 relation) (Sign (relation - 32) true) Unknown))))))

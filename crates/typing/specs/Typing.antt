@@ -1,8 +1,8 @@
 -- Document 01, "The condition grammar": typing of a simple condition, over kinds.
 use mathlib.Core.Bool.{Bool, true, false, not, cond, _&&_, _||_}
 use Prim.Native.Nat.{ℕ}
-use lib.Dec.{eqb, leb}
-use Rattle.tables.specs.declared.Row.{Row}
+use lib.Dec.{eqb}
+use Rattle.content.specs.declared.Row.{Row}
 use Rattle.typing.specs.declared.Test.{Test}
 use Rattle.typing.specs.declared.Test.the-variants.{Alone, Relation, Class, Sign, Unknown}
 use Rattle.content.specs.Packed.{isPacked}
@@ -10,6 +10,8 @@ use Rattle.tables.specs.Tokens.{isItem, isLiteral}
 use Rattle.tables.specs.Rows.{isGroup, isNumeric}
 use Rattle.tables.specs.Operands.{Lent, rowOf}
 use Rattle.typing.specs.Tests.{testOf}
+use Rattle.content.specs.Relations.{wordNumeric}
+use Rattle.content.specs.Kinds.{kindAlphabetic, kindAlphanumeric, kindUnsignedGroup}
 
 -- a numeric side that may stand beside one that is not: "its scale is 0". Document 02, f), of packed items: "beside any nonnumeric operand they
 -- are refused with 9".
@@ -29,16 +31,16 @@ relationTyped lent subject object =
 -- "NUMERIC for kinds 2 to 6": document 02, b), "corrects 01's typing rule", so that it is for kind 7 too; f): "NUMERIC .. and sign tests
 -- are allowed on packed items"
 abbrev pub mayBeNumeric : Row → Bool
-mayBeNumeric r = leb 2 (r .kind) && leb (r .kind) 9
+mayBeNumeric r = eqb (r .kind) kindAlphanumeric || eqb (r .kind) kindUnsignedGroup || isNumeric r
 
 -- "the alphabetic tests for 0 to 2": for groups and kinds 1 and 2. Document 02, b): kind 7 is "tested for letters as a group".
 abbrev pub mayBeAlphabetic : Row → Bool
-mayBeAlphabetic r = isGroup r || eqb (r .kind) 1 || eqb (r .kind) 2
+mayBeAlphabetic r = isGroup r || eqb (r .kind) kindAlphabetic || eqb (r .kind) kindAlphanumeric
 
 -- "class: the operand is an item; NUMERIC for kinds .., the alphabetic tests for .."
 abbrev pub classTyped : Lent → ℕ → ℕ → Bool
 classTyped lent word subject =
-    isItem subject && cond (eqb word 10) (mayBeNumeric (rowOf lent subject)) (mayBeAlphabetic (rowOf lent subject))
+    isItem subject && cond (eqb word wordNumeric) (mayBeNumeric (rowOf lent subject)) (mayBeAlphabetic (rowOf lent subject))
 
 -- "sign: an item of kinds 3 to 6", and of the packed kinds
 abbrev pub signTyped : Lent → ℕ → Bool

@@ -2,20 +2,50 @@
 ghost use mathlib.Core.Path.{_≡_};
 ghost use mathlib.Core.Bool.{true, _&&_, _||_};
 ghost use mathlib.Core.List.{[]};
-ghost use lib.Dec.{eqb, leb};
+ghost use Prim.Native.Nat.{ℕ};
+ghost use lib.Dec.{eqb};
 ghost use Rattle.tables.specs.Operands.{lend, lendNames, under, operandSound};
-ghost use Rattle.tables.specs.Tokens.{isLiteral, isOn, isOff, indexOf, nameThere};
+ghost use Rattle.tables.specs.Tokens.{isOperand, isSwitch, isName, exists, nameThere};
 ghost use Rattle.tables.specs.Rows.{nameCount};
 ghost use Rattle.typing.specs.Tests.{testOf};
 ghost use Rattle.typing.specs.Shape.{shapeSound, operandsSound};
-ghost use Rattle.typing.specs.Typing.{fitsBeside, sideFits, relationTyped, classTyped, signTyped, testTyped, typed};
+ghost use Rattle.typing.specs.Typing.{fitsBeside, sideFits, relationTyped, mayBeNumeric, mayBeAlphabetic, classTyped, signTyped, testTyped, typed};
 use crate::Test;
-use tables::Row;
+use content::Row;
+use content::relations::ALPHABETIC_UPPER;
+use content::relations::EQUAL;
+use content::relations::GREATER;
+use content::relations::LESS_OR_EQUAL;
+use content::relations::NEGATED;
+use content::relations::NUMERIC;
+use content::relations::POSITIVE;
+use content::relations::ZERO;
+use content::rows::is_packed;
 use tables::operands::row_of;
+use tables::rows::NAME_WIDTH;
 use tables::rows::is_group;
 use tables::rows::is_numeric;
+use tables::tokens::ITEM;
+use tables::tokens::LITERAL;
+use tables::tokens::NAME;
+use tables::tokens::SPAN;
+use tables::tokens::SWITCH_OFF;
+use tables::tokens::SWITCH_ON;
 use tables::tokens::is_item;
-use tables::tokens::name_there;
+use tables::tokens::is_literal;
+use tables::tokens::token_there;
+
+const NOT_GREATER: u32 = NEGATED + GREATER;
+
+const NOT_EQUAL: u32 = NEGATED + EQUAL;
+
+const NOT_NUMERIC: u32 = NEGATED + NUMERIC;
+
+const NOT_ALPHABETIC_UPPER: u32 = NEGATED + ALPHABETIC_UPPER;
+
+const NOT_POSITIVE: u32 = NEGATED + POSITIVE;
+
+const NOT_ZERO: u32 = NEGATED + ZERO;
 
 // The relation, class or sign test of a relation number, and whether NOT belongs to it.
 pub fn test_of(relation: u32) -> Test
@@ -23,66 +53,63 @@ pub fn test_of(relation: u32) -> Test
 {
     match relation {
         0 => Test::Alone,
-        5..=9 => Test::Relation {
+        GREATER..=LESS_OR_EQUAL => Test::Relation {
             word: relation,
             negated: false,
         },
-        10..=13 => Test::Class {
+        NUMERIC..=ALPHABETIC_UPPER => Test::Class {
             word: relation,
             negated: false,
         },
-        14..=16 => Test::Sign {
+        POSITIVE..=ZERO => Test::Sign {
             word: relation,
             negated: false,
         },
-        37..=39 => Test::Relation {
-            word: relation - 32,
+        NOT_GREATER..=NOT_EQUAL => Test::Relation {
+            word: relation - NEGATED,
             negated: true,
         },
-        42..=45 => Test::Class {
-            word: relation - 32,
+        NOT_NUMERIC..=NOT_ALPHABETIC_UPPER => Test::Class {
+            word: relation - NEGATED,
             negated: true,
         },
-        46..=48 => Test::Sign {
-            word: relation - 32,
+        NOT_POSITIVE..=NOT_ZERO => Test::Sign {
+            word: relation - NEGATED,
             negated: true,
         },
         _ => Test::Unknown,
     }
 }
 
-fn is_literal(token: u32) -> bool
-    ensures { λ r. ⌜ r ≡ isLiteral token ⌝ }
+fn is_operand(token: u32) -> bool
+    ensures { λ r. ⌜ r ≡ isOperand token ⌝ }
 {
-    token / 65536 == 1
+    let kind = token / SPAN;
+    (kind == ITEM) | (kind == LITERAL)
 }
 
 fn operand_exists(items: &[u32], literals: &[u32], token: u32) -> bool
     ensures { λ r. ⌜ r ≡ operandSound (lend (now (items .entry)) (now (literals .entry)) []) token ⌝ }
 {
-    let v = (token % 65536) as usize;
-    match token / 65536 {
-        0 => v < items.len() / 5,
-        1 => v < literals.len() / 5,
-        _ => false,
-    }
+    let items = items.len() / Row::WIDTH;
+    let literals = literals.len() / Row::WIDTH;
+    is_operand(token) & token_there(false, token, items, literals, 0)
+}
+
+// A token that is a condition by itself: a switch, or a condition-name.
+fn is_alone(token: u32) -> bool
+    ensures { λ r. ⌜ r ≡ (isSwitch token || isName token) ⌝ }
+{
+    let kind = token / SPAN;
+    (kind == SWITCH_ON) | (kind == SWITCH_OFF) | (kind == NAME)
 }
 
 // `off`, here and below: the rules have the switch-off words.
-fn switch_exists(off: bool, token: u32) -> bool
-    ensures { λ r. ⌜ r ≡ ((isOn token || isOff token && off) && leb (indexOf token) 7) ⌝ }
-{
-    ((token / 65536 == 2) | ((token / 65536 == 3) & off)) & (token % 65536 <= 7)
-}
-
-// A switch, or a condition-name of its table.
 fn alone_exists(off: bool, names: &[u32], token: u32) -> bool
-    ensures { λ r. ⌜ r ≡ ((isOn token || isOff token && off) && leb (indexOf token) 7 || nameThere (nameCount (now (names .entry))) token) ⌝ }
+    ensures { λ r. ⌜ ((items literals : ℕ) → r ≡ (isSwitch token && exists off items literals token || nameThere (nameCount (now (names .entry))) token)) ⌝ }
 {
-    if switch_exists(off, token) {
-        return true;
-    }
-    name_there(token, names.len() / 18)
+    let names = names.len() / NAME_WIDTH;
+    is_alone(token) & token_there(off, token, 0, 0, names)
 }
 
 // The shape of a relation, and that of a class or a sign test.
@@ -135,7 +162,7 @@ fn shape_sound(
 fn fits_beside(row: Row) -> bool
     ensures { λ r. ⌜ r ≡ fitsBeside row ⌝ }
 {
-    (row.scale == 0) & !((row.kind == 8) | (row.kind == 9))
+    (row.scale == 0) & !is_packed(row)
 }
 
 // Whether two sides may be compared: an item with a literal of a condition-name too.
@@ -166,15 +193,28 @@ fn relation_typed(items: &[u32], literals: &[u32], subject: u32, object: u32) ->
     )
 }
 
+// Which rows NUMERIC may test, and which the alphabetic words may.
+fn may_be_numeric(row: Row) -> bool
+    ensures { λ r. ⌜ r ≡ mayBeNumeric row ⌝ }
+{
+    (row.kind == Row::ALPHANUMERIC) | (row.kind == Row::UNSIGNED_GROUP) | is_numeric(row)
+}
+
+fn may_be_alphabetic(row: Row) -> bool
+    ensures { λ r. ⌜ r ≡ mayBeAlphabetic row ⌝ }
+{
+    is_group(row) | (row.kind == Row::ALPHABETIC) | (row.kind == Row::ALPHANUMERIC)
+}
+
 fn class_typed(items: &[u32], literals: &[u32], word: u32, subject: u32) -> bool
     requires { ⌜ operandSound (lend (now items) (now literals) []) subject ≡ true ⌝ }
     ensures { λ r. ⌜ r ≡ classTyped (lend (now (items .entry)) (now (literals .entry)) []) word subject ⌝ }
 {
     let row = row_of(subject, items, literals);
-    if word == 10 {
-        return is_item(subject) & ((2 <= row.kind) & (row.kind <= 9));
+    if word == NUMERIC {
+        return is_item(subject) & may_be_numeric(row);
     }
-    is_item(subject) & (is_group(row) | (row.kind == 1) | (row.kind == 2))
+    is_item(subject) & may_be_alphabetic(row)
 }
 
 fn sign_typed(items: &[u32], literals: &[u32], subject: u32) -> bool

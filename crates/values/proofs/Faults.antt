@@ -9,7 +9,7 @@ use mathlib.Core.Logic.{⊎-elim}
 use borrow.Author.Tests.{ne-eqb}
 use Rattle.content.specs.WrongByte.{Wrong, Nowhere, At, firstWrong, nowhere, validContent}
 use Rattle.tables.specs.declared.Outcome.{Outcome}
-use Rattle.tables.specs.declared.Row.{Row}
+use Rattle.content.specs.declared.Row.{Row}
 use Rattle.tables.specs.Rows.{isGroup, isNumeric}
 use Rattle.tables.proofs.Bytes.{numeric-kinds}
 use Rattle.compare.specs.declared.Number.{Number}

@@ -10,7 +10,7 @@ use borrow.Author.Tests.{leb-true, ltb-true, lt-ltb}
 use Rattle.content.specs.WrongByte.{validContent}
 use Rattle.tables.specs.declared.Check.the-variants.{Sound}
 use Rattle.tables.specs.declared.Refusal.the-variants.{ItemRow, LiteralRow, Record, Name}
-use Rattle.tables.specs.declared.Row.{Row}
+use Rattle.content.specs.declared.Row.{Row}
 use Rattle.tables.specs.Rows.{rowCount, nameCount, rowAt, rowSound, part, liesIn}
 use Rattle.tables.specs.Operands.{Lent}
 use Rattle.tables.specs.Refusals.{unless, firstOf}

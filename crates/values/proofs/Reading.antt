@@ -12,7 +12,7 @@ use lib.ListN.{length, length-drop}
 use borrow.Author.Tests.{leb-true, ltb-true, eqb-true, ne-eqb}
 use Rattle.tables.specs.declared.Check.the-variants.{Sound}
 use Rattle.tables.specs.declared.Refusal.the-variants.{ItemRow, LiteralRow, Record}
-use Rattle.tables.specs.declared.Row.{Row}
+use Rattle.content.specs.declared.Row.{Row}
 use Rattle.typing.specs.declared.Test.the-variants.{Alone, Relation, Class, Sign}
 use Rattle.tables.specs.Tokens.{isItem, isOn, isOff, isSwitch, isName, indexOf, exists}
 use Rattle.tables.specs.Rows.{rowCount, rowSound, isNumeric}

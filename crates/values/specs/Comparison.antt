@@ -5,7 +5,7 @@ use Prim.Native.Nat.{ℕ, _+_}
 use lib.IntN.{ℤ}
 use Rattle.content.specs.Content.{digitCharacters, value}
 use Rattle.content.specs.WrongByte.{Wrong, Nowhere, At, firstWrong}
-use Rattle.tables.specs.declared.Row.{Row}
+use Rattle.content.specs.declared.Row.{Row}
 use Rattle.tables.specs.Tokens.{isItem}
 use Rattle.tables.specs.Rows.{isGroup, isNumeric}
 use Rattle.tables.specs.Operands.{Lent, rowOf, operandBytes}

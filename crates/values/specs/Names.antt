@@ -5,7 +5,7 @@ use Prim.Native.Nat.{ℕ, zero, suc}
 use lib.Dec.{eqb, leb, ltb}
 use Rattle.tables.specs.declared.Check.{Check}
 use Rattle.tables.specs.declared.Refusal.the-variants.{Name}
-use Rattle.tables.specs.declared.Row.{Row}
+use Rattle.content.specs.declared.Row.{Row}
 use Rattle.tables.specs.Rows.{rowCount, nameCount, rowAt, isNumeric, part}
 use Rattle.tables.specs.Operands.{Lent}
 use Rattle.tables.specs.Refusals.{unless, firstFailing, firstOf}

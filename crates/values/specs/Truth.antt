@@ -13,7 +13,7 @@ use Rattle.tables.specs.declared.Stop.the-variants.{Digits, Letters}
 use Rattle.typing.specs.declared.Test.{Test}
 use Rattle.typing.specs.declared.Test.the-variants.{Alone, Relation, Class, Sign, Unknown}
 use Rattle.tables.specs.declared.Check.the-variants.{Sound}
-use Rattle.tables.specs.declared.Row.{Row}
+use Rattle.content.specs.declared.Row.{Row}
 use Rattle.tables.specs.Rows.{rowSound, isNumeric, nameCount}
 use Rattle.content.specs.WrongByte.{Wrong, Nowhere, At}
 use Rattle.tables.specs.Operands.{Lent, Within}
@@ -30,6 +30,7 @@ use Rattle.values.specs.Comparison.{Side, sideOf, valueOf, comparison, w
 use Rattle.values.specs.Names.{itemSide, nameHolds, lentLines}
 use Rattle.compare.specs.Classes.{classHolds}
 use Rattle.compare.specs.Switches.{switchHolds}
+use Rattle.content.specs.Kinds.{kindAlphabetic}
 
 abbrev pub truth : Bool → Outcome
 truth true = True
@@ -41,7 +42,7 @@ turned negated b = cond negated (not b) b
 
 -- the stop at a byte of an item of this kind: 17 for kind 1, 13 for the numeric kinds
 abbrev pub stopOf : ℕ → ℕ → Stop
-stopOf kind byte = cond (eqb kind 1) (Letters byte) (Digits byte)
+stopOf kind byte = cond (eqb kind kindAlphabetic) (Letters byte) (Digits byte)
 
 -- the stop at the wrong byte of an item of this kind, or what comes where there is none
 abbrev pub orStop : ℕ → Wrong → Outcome → Outcome

@@ -10,11 +10,11 @@ ghost use Rattle.values.specs.Comparison.{side, comparison, wrongByte, f
 ghost use Rattle.values.specs.Truth.{Fit, Near, orStop};
 use characters::filled::compare_characters;
 use compare::Order;
+use content::Row;
 use fields::held::digit_bytes;
 use fields::held::first_wrong;
 use fields::held::valid_content;
 use tables::Outcome;
-use tables::Row;
 use tables::Stop;
 use tables::rows::is_group;
 use tables::rows::is_numeric;
@@ -25,7 +25,7 @@ pub fn is_faulty(item: bool, row: Row, bytes: &[u8], other: Row) -> bool
     ensures { λ r. ⌜ r ≡ not (nowhere (fault (side item row (now (bytes .entry))) other)) ⌝ }
 {
     if item & !is_group(other) {
-        return !valid_content(row.kind, row.digits, bytes);
+        return !valid_content(row, bytes);
     }
     false
 }
@@ -35,8 +35,8 @@ pub fn stop_at(row: Row, bytes: &[u8]) -> Outcome
     requires { ⌜ Near row (now bytes) × (validContent (row .kind) (row .digits) (now bytes) ≡ false) ⌝ }
     ensures { λ r. ⌜ ((rest : Outcome) → r ≡ orStop (row .kind) (wrongByte (side true row (now (bytes .entry)))) rest) ⌝ }
 {
-    let byte = row.offset as usize + first_wrong(row.kind, row.digits, bytes);
-    if row.kind == 1 {
+    let byte = row.offset as usize + first_wrong(row, bytes);
+    if row.kind == Row::ALPHABETIC {
         return Outcome::Stopped(Stop::Letters(byte));
     }
     Outcome::Stopped(Stop::Digits(byte))
@@ -49,12 +49,12 @@ fn gives_digits(item: bool, row: Row, other: Row) -> bool
 }
 
 // The bytes of a side that are compared: those of its digits, or all.
-fn compared_part(digits: bool, kind: u32, bytes: &[u8]) -> &[u8]
+fn compared_part(digits: bool, row: Row, bytes: &[u8]) -> &[u8]
     requires { ⌜ 1 ≤ length (now bytes) ⌝ }
-    ensures { λ r. ⌜ now r ≡ cond digits (digitBytes kind (now (bytes .entry))) (now (bytes .entry)) ⌝ }
+    ensures { λ r. ⌜ now r ≡ cond digits (digitBytes (row .kind) (now (bytes .entry))) (now (bytes .entry)) ⌝ }
 {
     if digits {
-        return digit_bytes(kind, bytes);
+        return digit_bytes(row, bytes);
     }
     bytes
 }
@@ -75,9 +75,9 @@ pub fn compare_sides(
     let digits1 = gives_digits(item1, row1, row2);
     let digits2 = gives_digits(item2, row2, row1);
     compare_characters(
-        compared_part(digits1, row1.kind, bytes1),
-        digits1 & (row1.kind == 4),
-        compared_part(digits2, row2.kind, bytes2),
-        digits2 & (row2.kind == 4),
+        compared_part(digits1, row1, bytes1),
+        digits1 & (row1.kind == Row::SIGNED),
+        compared_part(digits2, row2, bytes2),
+        digits2 & (row2.kind == Row::SIGNED),
     )
 }

@@ -11,6 +11,17 @@ use keywords::same_bytes;
 use literal_words::copies::copy_bytes;
 use words::bytes::byte_at;
 
+// Where the words stand in the list: first document 01's by their numbers, then the switches, then those that other words may join.
+pub const AT_SWITCHES: usize = 17;
+
+pub const AT_GREATER: usize = 25;
+
+pub const AT_LESS: usize = 26;
+
+pub const AT_EQUAL: usize = 27;
+
+const COUNT: usize = 28;
+
 fn wide(x: u8) -> usize
     ensures { λ r. ⌜ r ≡ x ⌝ }
 {
@@ -58,7 +69,7 @@ pub fn word_index(w: &[u8]) -> usize
     ensures { λ r. ⌜ r ≡ position (now (w .entry)) spelt ⌝ }
 {
     let mut k: usize = 0;
-    while k < 28 {
+    while k < COUNT {
         if is_word(w, k) {
             return k;
         }

@@ -13,6 +13,9 @@ use items::lines::check_room;
 use names::ranges::number_at;
 use tables::Check;
 use tables::Written;
+use tables::rows::NAME_WIDTH;
+use tables::tokens::NAME;
+use tables::tokens::SPAN;
 use tables::tokens::is_item;
 use typing::Test;
 use typing::shape::test_of;
@@ -36,7 +39,7 @@ fn mark_operand(token: u32, marks: &mut [u32])
     ensures { λ _. ⌜ now (marks .exit) ≡ marked (now (marks .entry)) (itemsAmong (token ∷ [])) ⌝ }
 {
     if is_item(token) {
-        mark(wide(token % 65536), marks);
+        mark(wide(token % SPAN), marks);
     }
 }
 
@@ -48,8 +51,8 @@ pub fn mark_condition(names: &[u32], subject: u32, relation: u32, object: u32, m
     let test = test_of(relation);
     match test {
         Test::Alone => {
-            if subject / 65536 == 5 {
-                mark(number_at(names, wide(subject % 65536) * 18), marks);
+            if subject / SPAN == NAME {
+                mark(number_at(names, wide(subject % SPAN) * NAME_WIDTH), marks);
             }
         }
         Test::Relation { word, negated } => {

@@ -6,7 +6,7 @@ use mathlib.Core.Bool.{cond}
 use lib.ListN.{length}
 use denote.Ref.{now}
 use borrow.Author.Needs.{needs}
-use Rattle.tables.specs.declared.Row.{Row}
+use Rattle.content.specs.declared.Row.{Row}
 use Rattle.tables.specs.Rows.{rowAt, rowCount, part}
 use Rattle.items.specs.Items.{isElementary, replaced, rewritten}
 use Rattle.merging.specs.Merge.{copiesOf, mergedAt, mergedItem}

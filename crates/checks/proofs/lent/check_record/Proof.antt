@@ -3,7 +3,7 @@ use Prim.Native.Nat.{_-_}
 use native.Mathlib.Omega.{arith}
 use mathlib.Core.Path.{ap, _∙_}
 use denote.Ref.{now}
-use Rattle.tables.specs.declared.Row.{Row}
+use Rattle.content.specs.declared.Row.{Row}
 use Rattle.tables.specs.Rows.{rowAt, liesIn}
 use Rattle.tables.specs.declared.Refusal.the-variants.{Record}
 use Rattle.tables.proofs.Lines.{Passed, passed-none, passed-more, failed-at, passed-all}

@@ -1,4 +1,4 @@
--- Rests on the word and the kind, which pick their case of `classHolds`, on kind 3 having all digits, and on what each test of the bytes returns.
+-- Rests on the word and the kind, which pick their case of `classHolds`, and on what each test of the bytes returns.
 use Prim.Native.Nat.{ℕ}
 use mathlib.Core.Path.{_≡_, _∙_}
 use mathlib.Core.Bool.{true, false, _||_}
@@ -7,37 +7,37 @@ use lib.Dec.{eqb}
 use denote.Ref.{now}
 use borrow.Author.Tests.{ne-eqb}
 use borrow.Author.Needs.{needs}
+use Rattle.content.specs.Content.{all, isDigit}
 use Rattle.content.specs.WrongByte.{validContent}
-use Rattle.content.proofs.WrongByte.{valid-digits}
 use Rattle.compare.specs.Classes.{classHolds}
 use Rattle.compare.proofs.classes.class_holds.Statement.{statement}
 use Rattle.compare.proofs.classes.class_holds.Tie as tie
 
--- NUMERIC by kind: as kind 3 has it, or valid content
+-- NUMERIC by kind: all digits, or valid content
 module _ (word kind digits : ℕ) (bytes : List ℕ) (numeric : word ≡ 10) where
-  as-digits : eqb kind 2 || eqb kind 7 ≡ true → validContent 3 digits bytes ≡ classHolds word kind digits bytes
+  as-digits : eqb kind 2 || eqb kind 7 ≡ true → all isDigit bytes ≡ classHolds word kind digits bytes
   unfolding classHolds
-  as-digits e = rw (numeric, e) (valid-digits digits bytes)
+  as-digits e = rw (numeric, e)
 
   as-content : eqb kind 2 || eqb kind 7 ≡ false → validContent kind digits bytes ≡ classHolds word kind digits bytes
   unfolding classHolds
   as-content e = rw (numeric, e)
 
-valid-content-requires : tie.Need-valid-content-requires
-valid-content-requires c κs = search needs
+all-digits-requires : tie.Need-all-digits-requires
+all-digits-requires c κs = search needs
 
 returns : tie.Need-returns
 returns c =
     let a = c .before .before .before .before .args in
-    c .valid-content .ensures ∙ as-digits (a .word) (a .kind) (a .digits) (now (a .bytes)) (c .before .before .if1 .taken) (c .before .if2 .taken)
+    c .all-digits .ensures ∙ as-digits (a .word) (a .row .kind) (a .row .digits) (now (a .bytes)) (c .before .before .if1 .taken) (c .before .if2 .taken)
 
-valid-content-requires-2 : tie.Need-valid-content-requires-2
-valid-content-requires-2 c κs = search needs
+valid-content-requires : tie.Need-valid-content-requires
+valid-content-requires c κs = search needs
 
 returns-2 : tie.Need-returns-2
 returns-2 c =
     let a = c .before .before .before .before .args in
-    c .valid-content2 .ensures ∙ as-content (a .word) (a .kind) (a .digits) (now (a .bytes)) (c .before .before .if1 .taken) (c .before .if2 .left)
+    c .valid-content .ensures ∙ as-content (a .word) (a .row .kind) (a .row .digits) (now (a .bytes)) (c .before .before .if1 .taken) (c .before .if2 .left)
 
 all-in-alphabet-requires : tie.Need-all-in-alphabet-requires
 all-in-alphabet-requires c κs = search needs
@@ -50,9 +50,9 @@ pub class-holds-spec : {M : Type 1} → statement M
 class-holds-spec =
     tie.close
     (tie.spec
-    valid-content-requires
+    all-digits-requires
     returns
-    valid-content-requires-2
+    valid-content-requires
     returns-2
     all-in-alphabet-requires
     returns-3)

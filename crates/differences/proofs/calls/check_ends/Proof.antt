@@ -4,7 +4,7 @@ use native.Mathlib.Omega.{arith}
 use mathlib.Core.Path.{ap, ap₂, _∙_}
 use mathlib.Core.Bool.{_&&_}
 use denote.Ref.{now}
-use Rattle.tables.specs.declared.Row.{Row}
+use Rattle.content.specs.declared.Row.{Row}
 use Rattle.tables.specs.declared.Refusal.the-variants.{Record}
 use Rattle.tables.specs.Rows.{liesIn}
 use Rattle.tables.proofs.Lines.{Passed, passed-none, passed-more, failed-at, passed-all}

@@ -5,7 +5,7 @@ use mathlib.Core.Path.{ap, _∙_}
 use lib.ListN.{length}
 use lib.Seq.{sets}
 use denote.Ref.{now}
-use Rattle.tables.specs.declared.Row.{Row}
+use Rattle.content.specs.declared.Row.{Row}
 use Rattle.tables.specs.Rows.{rowCount, part}
 use Rattle.items.proofs.Listing.{Listing, listing-start, listing-fits, listing-more, listing-list}
 use Rattle.differences.specs.Differ.{entryOf, entryAt}

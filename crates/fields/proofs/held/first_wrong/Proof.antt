@@ -11,11 +11,11 @@ use Rattle.fields.proofs.held.first_wrong.Statement.{statement}
 use Rattle.fields.proofs.held.first_wrong.Tie as tie
 
 abbrev Inv-loop : tie.InvT-loop
-Inv-loop kind digits bytes marks at₀ at =
-    (at < length bytes) × (firstWrong kind digits bytes ≡ firstFrom (rightAt kind digits (length bytes)) at (drop at bytes))
+Inv-loop row bytes marks at₀ at =
+    (at < length bytes) × (firstWrong (row .kind) (row .digits) bytes ≡ firstFrom (rightAt (row .kind) (row .digits) (length bytes)) at (drop at bytes))
 
 abbrev μ-loop : tie.MeasureT-loop
-μ-loop kind digits bytes marks at₀ at = length bytes - at
+μ-loop row bytes marks at₀ at = length bytes - at
 
 marks-requires : tie.Need-marks-requires Inv-loop μ-loop
 marks-requires c κs = search needs
@@ -24,7 +24,7 @@ loop-holds : tie.Need-loop-holds Inv-loop μ-loop
 loop-holds c =
     let start = c .before .before in
     let a = start .args in
-    (some-left (rightAt (a .kind) (a .digits) (length (now (a .bytes)))) (now (a .bytes)) 0 (some-wrong (a .kind) (a .digits) (now (a .bytes)) (start .pre)), refl)
+    (some-left (rightAt (a .row .kind) (a .row .digits) (length (now (a .bytes)))) (now (a .bytes)) 0 (some-wrong (a .row .kind) (a .row .digits) (now (a .bytes)) (start .pre)), refl)
 
 add-is-right : tie.Need-add-is-right Inv-loop μ-loop
 add-is-right c = omega arith
@@ -46,16 +46,16 @@ loop-again c =
     let l = c .before .before .before .before .loop in
     let start = c .before .before .before .before .before .before .before in
     let bytes = now (start .args .bytes) in
-    let right = rightAt (start .args .kind) (start .args .digits) (length bytes) in
+    let right = rightAt (start .args .row .kind) (start .args .row .digits) (length bytes) in
     let next = l .inv .1 ∙ wrong-then right bytes (l .at) (l .inv .0) (sym (c .before .is-right .ensures) ∙ c .if1 .taken) in
-    (some-left right bytes (l .at + 1) (sym (ap nowhere next) ∙ some-wrong (start .args .kind) (start .args .digits) bytes (start .pre)), next)
+    (some-left right bytes (l .at + 1) (sym (ap nowhere next) ∙ some-wrong (start .args .row .kind) (start .args .row .digits) bytes (start .pre)), next)
 
 returns : tie.Need-returns Inv-loop μ-loop
 returns c =
     let l = c .before .before .before .before .loop in
     let start = c .before .before .before .before .before .before .before in
     let bytes = now (start .args .bytes) in
-    l .inv .1 ∙ wrong-then (rightAt (start .args .kind) (start .args .digits) (length bytes)) bytes (l .at) (l .inv .0) (sym (c .before .is-right .ensures) ∙ c .if1 .left)
+    l .inv .1 ∙ wrong-then (rightAt (start .args .row .kind) (start .args .row .digits) (length bytes)) bytes (l .at) (l .inv .0) (sym (c .before .is-right .ensures) ∙ c .if1 .left)
 
 pub first-wrong-spec : {M : Type 1} → statement M
 first-wrong-spec =

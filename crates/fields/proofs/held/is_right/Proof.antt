@@ -23,12 +23,21 @@ is-sign-requires c κs = search needs
 returns-3 : tie.Need-returns-3
 returns-3 c = rw (ne-eqb _ 1 (c .before .before .before .if1 .left), c .before .before .if2 .left, c .before .if3 .taken) (c .is-sign .ensures)
 
+is-zoned-requires : tie.Need-is-zoned-requires
+is-zoned-requires c κs = search needs
+
 is-digit-requires : tie.Need-is-digit-requires
 is-digit-requires c κs = search needs
 
 returns-4 : tie.Need-returns-4
 returns-4 c =
-    rw (ne-eqb _ 1 (c .before .before .before .before .if1 .left), c .before .before .before .if2 .left, c .before .before .if3 .left, c .before .if4 .taken)
+    let tests = c .before .before .before in
+    rw (
+      ne-eqb _ 1 (tests .before .before .if1 .left),
+      tests .before .if2 .left,
+      tests .if3 .left,
+      sym (c .before .before .is-zoned .ensures) ∙ c .before .if4 .taken,
+    )
     (c .is-digit .ensures)
 
 is-packed-requires : tie.Need-is-packed-requires
@@ -39,24 +48,26 @@ packed-right-requires c κs = search needs
 
 returns-5 : tie.Need-returns-5
 returns-5 c =
-    let digits = c .before .before .before in
+    let zoned = c .before .before .before in
+    let tests = zoned .before .before in
     rw (
-      ne-eqb _ 1 (digits .before .before .before .if1 .left),
-      digits .before .before .if2 .left,
-      digits .before .if3 .left,
-      digits .if4 .left,
+      ne-eqb _ 1 (tests .before .before .if1 .left),
+      tests .before .if2 .left,
+      tests .if3 .left,
+      sym (zoned .before .is-zoned .ensures) ∙ zoned .if4 .left,
       sym (c .before .before .is-packed .ensures) ∙ c .before .if5 .taken,
     )
     (c .packed-right .ensures)
 
 returns-6 : tie.Need-returns-6
 returns-6 c =
-    let digits = c .before .before in
+    let zoned = c .before .before in
+    let tests = zoned .before .before in
     rw (
-      ne-eqb _ 1 (digits .before .before .before .if1 .left),
-      digits .before .before .if2 .left,
-      digits .before .if3 .left,
-      digits .if4 .left,
+      ne-eqb _ 1 (tests .before .before .if1 .left),
+      tests .before .if2 .left,
+      tests .if3 .left,
+      sym (zoned .before .is-zoned .ensures) ∙ zoned .if4 .left,
       sym (c .before .is-packed .ensures) ∙ c .if5 .left,
     )
 
@@ -70,6 +81,7 @@ is-right-spec =
     returns-2
     is-sign-requires
     returns-3
+    is-zoned-requires
     is-digit-requires
     returns-4
     is-packed-requires

@@ -33,7 +33,7 @@ is-signed-digit-requires c κs = search needs
 returns-2 : tie.Need-returns-2
 returns-2 c =
     let start = c .before .before .before .before .before .before .before in
-    rw (c .before .before .before .before .if2 .taken, valid-signed (start .args .digits) (now (start .args .bytes)) (start .pre))
+    rw (c .before .before .before .before .if2 .taken, valid-signed (start .args .row .digits) (now (start .args .bytes)) (start .pre))
     (ap₂ _&&_ (c .before .before .all-digits2 .ensures) (c .is-signed-digit .ensures))
 
 shared-slice-read-is-sign : tie.Need-shared-slice-read-is-sign
@@ -57,7 +57,7 @@ all-digits-requires-3 c κs = search needs
 returns-3 : tie.Need-returns-3
 returns-3 c =
     let start = c .before .before .before .before .before .before .before .before in
-    rw (c .before .before .before .before .if3 .taken, valid-leading (start .args .digits) (now (start .args .bytes)) (start .pre))
+    rw (c .before .before .before .before .if3 .taken, valid-leading (start .args .row .digits) (now (start .args .bytes)) (start .pre))
     (ap₂ _&&_ (c .before .before .is-sign .ensures)
     (c .all-digits3 .ensures ∙ ap (all isDigit) (but-first (now (start .args .bytes)))))
 
@@ -76,7 +76,7 @@ is-sign-requires-2 c κs = search needs
 returns-4 : tie.Need-returns-4
 returns-4 c =
     let start = c .before .before .before .before .before .before .before .before .before in
-    rw (c .before .before .before .before .if4 .taken, valid-trailing (start .args .digits) (now (start .args .bytes)) (start .pre))
+    rw (c .before .before .before .before .if4 .taken, valid-trailing (start .args .row .digits) (now (start .args .bytes)) (start .pre))
     (ap₂ _&&_ (c .before .before .all-digits4 .ensures) (c .is-sign2 .ensures))
 
 all-in-alphabet-requires : tie.Need-all-in-alphabet-requires
@@ -95,7 +95,7 @@ returns-6 : tie.Need-returns-6
 returns-6 c =
     let start = c .before .before .before .before .before .before .before .before .before in
     c .packed-valid .ensures
-    ∙ sym (valid-packed (start .args .kind) (start .args .digits) (now (start .args .bytes)) (start .pre) (sym (c .before .before .is-packed .ensures) ∙ c .before .if6 .taken))
+    ∙ sym (valid-packed (start .args .row .kind) (start .args .row .digits) (now (start .args .bytes)) (start .pre) (sym (c .before .before .is-packed .ensures) ∙ c .before .if6 .taken))
 
 returns-7 : tie.Need-returns-7
 returns-7 c =

@@ -35,7 +35,7 @@ part-copy-undoubled-end c = search needs
 
 -- src/copies.rt:66:9
 copy-undoubled-requires : tie.Need-copy-undoubled-requires
-copy-undoubled-requires c κs = rw (between-quotes (now (c .before .before .before .before .before .args .word)) (c .before .before .before .before .before .pre .0 (c .before .before .if1 .taken))) (rw (eq-eqb (c .before .before .before .before .before .args .kind) 2 (c .before .before .if1 .taken)) at (c .before .before .before .before .before .pre .1))
+copy-undoubled-requires c κs = rw (between-quotes (now (c .before .before .before .before .before .args .word)) (c .before .before .before .before .before .pre .0 (c .before .before .if1 .taken))) (rw (eq-eqb (c .before .before .before .before .before .args .row .kind) 2 (c .before .before .if1 .taken)) at (c .before .before .before .before .before .pre .1))
 
 -- src/copies.rt:67:9
 same-length : tie.Need-same-length
@@ -43,12 +43,12 @@ same-length c = search needs
 
 -- src/copies.rt:67:9
 returns : tie.Need-returns
-returns c = rw (eq-eqb (c .before .before .before .before .before .before .before .before .args .kind) 2 (c .before .before .before .before .before .if1 .taken))
+returns c = rw (eq-eqb (c .before .before .before .before .before .before .before .before .args .row .kind) 2 (c .before .before .before .before .before .if1 .taken))
     (c .before .before .copy-undoubled .ensures ∙ ap (λ (v : List ℕ). writtenOver (undoubled false v) (now (c .before .before .before .before .before .before .before .before .args .to))) (between-quotes (now (c .before .before .before .before .before .before .before .before .args .word)) (c .before .before .before .before .before .before .before .before .pre .0 (c .before .before .before .before .before .if1 .taken))))
 
 -- src/copies.rt:69:5
 copy-number-requires : tie.Need-copy-number-requires
-copy-number-requires c κs = rw (ne-eqb (c .before .before .before .before .args .kind) 2 (c .before .if1 .left)) at (c .before .before .before .before .pre .1)
+copy-number-requires c κs = rw (ne-eqb (c .before .before .before .before .args .row .kind) 2 (c .before .if1 .left)) at (c .before .before .before .before .pre .1)
 
 -- src/copies.rt:60:1
 same-length-2 : tie.Need-same-length-2
@@ -56,7 +56,7 @@ same-length-2 c = search needs
 
 -- src/copies.rt:60:1
 returns-2 : tie.Need-returns-2
-returns-2 c = rw (ne-eqb (c .before .before .before .before .before .before .before .args .kind) 2 (c .before .before .before .before .if1 .left)) (c .before .before .copy-number .ensures)
+returns-2 c = rw (ne-eqb (c .before .before .before .before .before .before .before .args .row .kind) 2 (c .before .before .before .before .if1 .left)) (c .before .before .copy-number .ensures)
 
 pub copy-literal-spec : {M : Type 1} → statement M
 copy-literal-spec =

@@ -12,27 +12,27 @@ use Rattle.literal_words.proofs.numbers.number_content.Tie as tie
 start-of-requires : tie.Need-start-of-requires
 start-of-requires c κs = search needs
 
-sub-digits : tie.Need-sub-digits
-sub-digits c = omega (arith, start-fits (now (c .before .before .args .word)) (c .before .before .args .p) (c .before .before .args .signed) (c .start-of .result) (c .before .before .pre .0) (c .before .before .pre .1) (c .start-of .ensures))
+sub-all-digits : tie.Need-sub-all-digits
+sub-all-digits c = omega (arith, start-fits (now (c .before .before .args .word)) (c .before .before .args .p) (c .before .before .args .signed) (c .start-of .result) (c .before .before .pre .0) (c .before .before .pre .1) (c .start-of .ensures))
 
-part-digits-start : tie.Need-part-digits-start
-part-digits-start c = omega (arith, start-fits (now (c .before .before .args .word)) (c .before .before .args .p) (c .before .before .args .signed) (c .start-of .result) (c .before .before .pre .0) (c .before .before .pre .1) (c .start-of .ensures))
+part-all-digits-start : tie.Need-part-all-digits-start
+part-all-digits-start c = omega (arith, start-fits (now (c .before .before .args .word)) (c .before .before .args .p) (c .before .before .args .signed) (c .start-of .result) (c .before .before .pre .0) (c .before .before .pre .1) (c .start-of .ensures))
 
-part-digits-end : tie.Need-part-digits-end
-part-digits-end c = omega (arith, start-fits (now (c .before .before .args .word)) (c .before .before .args .p) (c .before .before .args .signed) (c .start-of .result) (c .before .before .pre .0) (c .before .before .pre .1) (c .start-of .ensures))
+part-all-digits-end : tie.Need-part-all-digits-end
+part-all-digits-end c = omega (arith, start-fits (now (c .before .before .args .word)) (c .before .before .args .p) (c .before .before .args .signed) (c .start-of .result) (c .before .before .pre .0) (c .before .before .pre .1) (c .start-of .ensures))
 
-digits-requires : tie.Need-digits-requires
-digits-requires c κs = search needs
+all-digits-requires : tie.Need-all-digits-requires
+all-digits-requires c κs = search needs
 
 digits-after-requires : tie.Need-digits-after-requires
 digits-after-requires c κs = omega (arith, start-fits (now (c .before .before .before .before .args .word)) (c .before .before .before .before .args .p) (c .before .before .before .before .args .signed) (c .before .before .start-of .result) (c .before .before .before .before .pre .0) (c .before .before .before .before .pre .1) (c .before .before .start-of .ensures))
 
 returns : tie.Need-returns
 returns c digits =
-    ap₂ _&&_ (c .before .digits .ensures) (c .digits-after .ensures)
+    ap₂ _&&_ (c .before .all-digits .ensures) (c .digits-after .ensures)
     ∙ content-here (now (c .before .before .before .before .before .args .word)) (c .before .before .before .before .before .args .p) (c .before .before .before .before .before .args .signed) (c .before .before .before .start-of .result) (c .before .before .before .before .before .pre .0) (c .before .before .before .before .before .pre .1) (c .before .before .before .start-of .ensures) digits
 
 pub number-content-spec : {M : Type 1} → statement M
 number-content-spec =
     tie.close
-    (tie.spec start-of-requires sub-digits part-digits-start part-digits-end digits-requires digits-after-requires returns)
+    (tie.spec start-of-requires sub-all-digits part-all-digits-start part-all-digits-end all-digits-requires digits-after-requires returns)

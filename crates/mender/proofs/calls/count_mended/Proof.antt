@@ -4,7 +4,7 @@ use mathlib.Core.Path.{_≡_, refl, sym, ap, ap₂, _∙_}
 use mathlib.Core.List.{List}
 use lib.ListN.{length, length-append}
 use denote.Ref.{now}
-use Rattle.tables.specs.declared.Row.{Row}
+use Rattle.content.specs.declared.Row.{Row}
 use Rattle.tables.specs.Rows.{rowAt, rowCount, part}
 use Rattle.items.specs.Items.{partAt}
 use Rattle.mending.specs.Mend.{changesFrom, mendedItem, mendedAt, mendedRecord}

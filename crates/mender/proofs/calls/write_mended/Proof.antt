@@ -5,7 +5,7 @@ use mathlib.Core.Path.{_≡_, refl, sym, ap, ap₂, _∙_}
 use mathlib.Core.List.{List, [], _++_}
 use lib.ListN.{length, drop, take, length-append, length-drop}
 use denote.Ref.{now}
-use Rattle.tables.specs.declared.Row.{Row}
+use Rattle.content.specs.declared.Row.{Row}
 use Rattle.tables.specs.Rows.{rowAt, rowCount, part}
 use Rattle.items.specs.Items.{partAt}
 use Rattle.mending.specs.Mend.{changesFrom, changes, mendedItem, mendedAt, mendedRecord}

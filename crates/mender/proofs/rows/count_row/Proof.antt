@@ -6,7 +6,7 @@ use mathlib.Core.List.{List}
 use lib.ListN.{length, take}
 use lib.Seq.{length-take-le, take-at}
 use denote.Ref.{now}
-use Rattle.tables.specs.declared.Row.{Row}
+use Rattle.content.specs.declared.Row.{Row}
 use Rattle.tables.specs.Rows.{part}
 use Rattle.tables.proofs.Bytes.{part-length}
 use Rattle.tables.proofs.Lines.{passes, fails}
@@ -70,7 +70,7 @@ array-share-prefix-mended c =
     let a = c .before .before .before .before .before .before .before .args in
     let p = c .before .before .before .before .before .before .before .pre in
     let at-row-part = c .before .before .before .row-part in
-    prefix-fits (c .before .mended-into .last .1 .1 .1 .0) _ (length (now (at-row-part .result)))
+    prefix-fits (c .before .mended-into .last .1 .1 .0) _ (length (now (at-row-part .result)))
     (ap length (c .before .mended-into .ensures)
     ∙ mended-length (a .row .kind) (a .row .digits) (now (at-row-part .result))
     (omega (arith, (ap length (at-row-part .ensures) ∙ part-length (a .row) (now (a .«record»)) (p .lies)), p .some)))
@@ -85,7 +85,7 @@ slice-aggregate-count-changes c =
     let e1 = ap length (at-mended-into .ensures)
     ∙ mended-length (a .row .kind) (a .row .digits) (now (at-row-part .result))
     (omega (arith, (ap length (at-row-part .ensures) ∙ part-length (a .row) content (p .lies)), p .some)) in
-    sym (ap length (take-at (at-mended-into .last .1 .1 .1 .0) _ (length (now (at-row-part .result))) e1) ∙ e1)
+    sym (ap length (take-at (at-mended-into .last .1 .1 .0) _ (length (now (at-row-part .result))) e1) ∙ e1)
 
 long-requires : tie.Need-long-requires
 long-requires c κs = search needs
@@ -102,7 +102,7 @@ count-changes-requires c κs =
     let e1 = ap length (at-mended-into .ensures)
     ∙ mended-length (a .row .kind) (a .row .digits) (now (at-row-part .result))
     (omega (arith, (ap length (at-row-part .ensures) ∙ part-length (a .row) content (p .lies)), p .some)) in (
-      ap length (take-at (at-mended-into .last .1 .1 .1 .0) _ (length (now (at-row-part .result))) e1) ∙ e1,
+      ap length (take-at (at-mended-into .last .1 .1 .0) _ (length (now (at-row-part .result))) e1) ∙ e1,
       omega (arith, (ap length (at-row-part .ensures) ∙ part-length (a .row) content (p .lies)), (p .few (passes (at-is-zoned .ensures) (at-if1 .left)))),
     )
 
@@ -113,7 +113,7 @@ returns-2 c =
     let at-row-part = c .before .before .before .before .before .before .row-part in
     let at-mended-into = c .before .before .before .before .mended-into in
     c .count-changes .ensures ∙ count-from (c .before .long .ensures) (at-row-part .ensures)
-    ((take-at (at-mended-into .last .1 .1 .1 .0) _ (length (now (at-row-part .result)))
+    ((take-at (at-mended-into .last .1 .1 .0) _ (length (now (at-row-part .result)))
     (ap length (at-mended-into .ensures)
     ∙ mended-length (a .row .kind) (a .row .digits) (now (at-row-part .result))
     (omega (arith, (ap length (at-row-part .ensures) ∙ part-length (a .row) (now (a .«record»)) (p .lies)), p .some)))) ∙ at-mended-into .ensures

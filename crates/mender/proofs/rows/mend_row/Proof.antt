@@ -5,7 +5,7 @@ use mathlib.Core.List.{List, _++_}
 use lib.ListN.{length, take, drop}
 use lib.Seq.{length-take-le, take-at}
 use denote.Ref.{now}
-use Rattle.tables.specs.declared.Row.{Row}
+use Rattle.content.specs.declared.Row.{Row}
 use Rattle.tables.specs.Rows.{part}
 use Rattle.tables.proofs.Bytes.{part-length}
 use Rattle.tables.proofs.Lines.{passes, fails}
@@ -76,7 +76,7 @@ array-share-prefix-mended c =
     let at-row-part = c .before .before .before .before .before .row-part in
     let at-mended-into = c .before .before .before .mended-into in
     let e1 = ap length (at-row-part .ensures) ∙ part-length (a .row) content (p .0 .lies) in
-    prefix-fits (at-mended-into .last .1 .1 .1 .0) _ (at-long .result)
+    prefix-fits (at-mended-into .last .1 .1 .0) _ (at-long .result)
     (ap length (at-mended-into .ensures) ∙ mended-length (a .row .kind) (a .row .digits) (now (at-row-part .result)) (omega (arith, e1, p .0 .some)) ∙ e1 ∙ sym (at-long .ensures))
 
 slice-aggregate-list-changes : tie.Need-slice-aggregate-list-changes
@@ -91,7 +91,7 @@ slice-aggregate-list-changes c =
     ∙ mended-length (a .row .kind) (a .row .digits) (now (at-row-part .result))
     (omega (arith, (ap length (at-row-part .ensures) ∙ part-length (a .row) content (p .0 .lies)), p .0 .some))
     ∙ (ap length (at-row-part .ensures) ∙ part-length (a .row) content (p .0 .lies)) ∙ sym (at-long .ensures) in
-    sym (ap length (take-at (at-mended-into .last .1 .1 .1 .0) _ (at-long .result) e1) ∙ e1)
+    sym (ap length (take-at (at-mended-into .last .1 .1 .0) _ (at-long .result) e1) ∙ e1)
 
 list-changes-requires : tie.Need-list-changes-requires
 list-changes-requires c κs =
@@ -106,7 +106,7 @@ list-changes-requires c κs =
     let at-row-part2 = c .before .before .row-part2 in
     let e3 = ap length (at-row-part .ensures) ∙ part-length (a .row) content (p .0 .lies) in
     let e2 = ap length (at-row-part2 .ensures) ∙ part-length (a .row) content (p .0 .lies) in
-    let e1 = take-at (at-mended-into .last .1 .1 .1 .0) _ (at-long .result)
+    let e1 = take-at (at-mended-into .last .1 .1 .0) _ (at-long .result)
     (ap length (at-mended-into .ensures) ∙ mended-length (a .row .kind) (a .row .digits) (now (at-row-part .result)) (omega (arith, e3, p .0 .some)) ∙ e3
     ∙ sym (at-long .ensures)) in (
       ap length e1 ∙ (ap length (at-mended-into .ensures) ∙ mended-length (a .row .kind) (a .row .digits) (now (at-row-part .result)) (omega (arith, e3, p .0 .some)) ∙ e3
@@ -125,7 +125,7 @@ array-share-prefix-mended-2 c =
     let at-row-part = c .before .before .before .before .before .before .before .before .before .before .row-part in
     let at-mended-into = c .before .before .before .before .before .before .before .before .mended-into in
     let e1 = ap length (at-row-part .ensures) ∙ part-length (a .row) content (p .0 .lies) in
-    prefix-fits (at-mended-into .last .1 .1 .1 .0) _ (at-long .result)
+    prefix-fits (at-mended-into .last .1 .1 .0) _ (at-long .result)
     (ap length (at-mended-into .ensures) ∙ mended-length (a .row .kind) (a .row .digits) (now (at-row-part .result)) (omega (arith, e1, p .0 .some)) ∙ e1 ∙ sym (at-long .ensures))
 
 slice-aggregate-put-part : tie.Need-slice-aggregate-put-part
@@ -140,7 +140,7 @@ slice-aggregate-put-part c =
     ∙ mended-length (a .row .kind) (a .row .digits) (now (at-row-part .result))
     (omega (arith, (ap length (at-row-part .ensures) ∙ part-length (a .row) content (p .0 .lies)), p .0 .some))
     ∙ (ap length (at-row-part .ensures) ∙ part-length (a .row) content (p .0 .lies)) ∙ sym (at-long .ensures) in
-    sym (ap length (take-at (at-mended-into .last .1 .1 .1 .0) _ (at-long .result) e1) ∙ e1)
+    sym (ap length (take-at (at-mended-into .last .1 .1 .0) _ (at-long .result) e1) ∙ e1)
 
 put-part-requires : tie.Need-put-part-requires
 put-part-requires c κs =
@@ -154,7 +154,7 @@ put-part-requires c κs =
     ∙ mended-length (a .row .kind) (a .row .digits) (now (at-row-part .result))
     (omega (arith, (ap length (at-row-part .ensures) ∙ part-length (a .row) content (p .0 .lies)), p .0 .some))
     ∙ (ap length (at-row-part .ensures) ∙ part-length (a .row) content (p .0 .lies)) ∙ sym (at-long .ensures) in
-    (ap length (take-at (at-mended-into .last .1 .1 .1 .0) _ (at-long .result) e1) ∙ e1 ∙ at-long .ensures, p .0 .lies)
+    (ap length (take-at (at-mended-into .last .1 .1 .0) _ (at-long .result) e1) ∙ e1 ∙ at-long .ensures, p .0 .lies)
 
 same-length : tie.Need-same-length
 same-length c = search needs
@@ -175,7 +175,7 @@ returns-2 c =
     let listed = c .before .before .before .before .before .before .before .list-changes in
     let long = ap length (item .ensures) ∙ part-length (a .row) content (p .0 .lies) in
     let as-long = mended-length (a .row .kind) (a .row .digits) (now (item .result)) (omega (arith, long, p .0 .some)) in
-    let whole = take-at (mended .last .1 .1 .1 .0) _ (size .result) (ap length (mended .ensures) ∙ as-long ∙ long ∙ sym (size .ensures)) in
+    let whole = take-at (mended .last .1 .1 .0) _ (size .result) (ap length (mended .ensures) ∙ as-long ∙ long ∙ sym (size .ensures)) in
     let new = whole ∙ mended .ensures ∙ ap (mendedItem (a .row .kind) (a .row .digits)) (item .ensures) in
     let m = changes-of refl (again .ensures) new in (
       listed .ensures .0 ∙ ap length m,

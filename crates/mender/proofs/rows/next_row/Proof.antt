@@ -5,7 +5,7 @@ use mathlib.Core.Bool.{Bool, _&&_}
 use mathlib.Core.Logic.{⊎-elim}
 use lib.Dec.{leb, ltb}
 use denote.Ref.{now}
-use Rattle.tables.specs.declared.Row.{Row}
+use Rattle.content.specs.declared.Row.{Row}
 use Rattle.items.specs.Items.{isElementary}
 use Rattle.mender.proofs.Nearing.{Nearest, nearest-start, nearest-hit, nearest-miss, nearest-end}
 use Rattle.mender.proofs.rows.next_row.Statement.{statement}

@@ -22,7 +22,7 @@ same-length c = search needs
 returns : tie.Need-returns
 returns c =
     let a = c .before .before .before .before .before .before .before .before .args in
-    c .before .before .before .before .copy-bytes .ensures ∙ mended-skip (a .kind) (a .digits) (now (a .bytes)) (fails (c .before .is-zoned .ensures) (c .if1 .taken))
+    c .before .before .before .before .copy-bytes .ensures ∙ mended-skip (a .row .kind) (a .row .digits) (now (a .bytes)) (fails (c .before .is-zoned .ensures) (c .if1 .taken))
 
 mend-digits-requires : tie.Need-mend-digits-requires
 mend-digits-requires c κs = search needs
@@ -44,9 +44,9 @@ returns-2 c =
     let at-if1 = c .before .before .before .before .before .before .before .before .before .before .before .if1 in
     let at-mend-digits = c .before .before .before .before .before .before .before .before .before .mend-digits in
     c .before .before .copy-bytes2 .ensures
-    ∙ mended-kept (a .kind) (a .digits) (now (a .bytes)) (passes (at-is-zoned .ensures) (at-if1 .left))
+    ∙ mended-kept (a .row .kind) (a .row .digits) (now (a .bytes)) (passes (at-is-zoned .ensures) (at-if1 .left))
     (fails (c .before .before .before .before .before .valid-content .ensures
-    ∙ ap (validContent (a .kind) (a .digits)) (at-mend-digits .ensures ∙ ap (attempt (a .kind)) (at-copy-bytes .ensures))) (c .before .before .before .before .if2 .taken))
+    ∙ ap (validContent (a .row .kind) (a .row .digits)) (at-mend-digits .ensures ∙ ap (attempt (a .row .kind)) (at-copy-bytes .ensures))) (c .before .before .before .before .if2 .taken))
 
 same-length-3 : tie.Need-same-length-3
 same-length-3 c = search needs
@@ -57,9 +57,9 @@ returns-3 c =
     let at-copy-bytes = c .before .before .before .before .before .before .before .before .before .before .before .copy-bytes in
     let at-is-zoned = c .before .before .before .before .before .before .before .before .is-zoned in
     let at-if1 = c .before .before .before .before .before .before .before .if1 in
-    let e = c .before .before .before .before .before .mend-digits .ensures ∙ ap (attempt (a .kind)) (at-copy-bytes .ensures) in e
-    ∙ mended-done (a .kind) (a .digits) (now (a .bytes)) (passes (at-is-zoned .ensures) (at-if1 .left))
-    (passes (c .before .valid-content .ensures ∙ ap (validContent (a .kind) (a .digits)) e) (c .if2 .left))
+    let e = c .before .before .before .before .before .mend-digits .ensures ∙ ap (attempt (a .row .kind)) (at-copy-bytes .ensures) in e
+    ∙ mended-done (a .row .kind) (a .row .digits) (now (a .bytes)) (passes (at-is-zoned .ensures) (at-if1 .left))
+    (passes (c .before .valid-content .ensures ∙ ap (validContent (a .row .kind) (a .row .digits)) e) (c .if2 .left))
 
 pub mended-into-spec : {M : Type 1} → statement M
 mended-into-spec =

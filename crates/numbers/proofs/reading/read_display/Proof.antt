@@ -76,7 +76,7 @@ slice-aggregate-read-digits c = sym (but-last-length (now (c .before .before .be
 read-digits-requires-3 : tie.Need-read-digits-requires-3
 read-digits-requires-3 c κs =
     let start = c .before .before .before .before in
-    rest-fits (start .args .kind) (now (start .args .bytes)) (c .before .if2 .left) (start .pre .1 .1)
+    rest-fits (start .args .row .kind) (now (start .args .bytes)) (c .before .if2 .left) (start .pre .1 .1)
 
 shared-slice-read-b : tie.Need-shared-slice-read-b
 shared-slice-read-b c = search needs
@@ -87,8 +87,8 @@ is-signed-digit-requires c κs = search needs
 is-minus-requires-2 : tie.Need-is-minus-requires-2
 is-minus-requires-2 c κs = search needs
 
-mul-t25 : tie.Need-mul-t25
-mul-t25 c =
+mul-t26 : tie.Need-mul-t26
+mul-t26 c =
     let digits = c .before .before .before .before .before .before in
     let start = digits .before .before .before .before .before in
     let bytes = now (start .args .bytes) in
@@ -98,8 +98,8 @@ mul-t25 c =
 wide-requires : tie.Need-wide-requires
 wide-requires c κs = search needs
 
-add-t28 : tie.Need-add-t28
-add-t28 c =
+add-t29 : tie.Need-add-t29
+add-t29 c =
     let digits = c .before .before .before .before .before .before .before in
     let start = digits .before .before .before .before .before in
     let bytes = now (start .args .bytes) in
@@ -131,7 +131,7 @@ returns-4 : tie.Need-returns-4
 returns-4 c count =
     let digits = c .before .before .before .before .before in
     let start = digits .before .before .before .before .before in
-    let six : start .args .kind ≡ 6 = omega arith in
+    let six : start .args .row .kind ≡ 6 = omega arith in
     rw (c .is-minus3 .ensures, c .before .before .is-sign2 .ensures, digits .read-digits3 .ensures, six, valid-digits, valid-trailing count (now (start .args .bytes)) (start .pre .1 .0))
 
 pub read-display-spec : {M : Type 1} → statement M
@@ -154,9 +154,9 @@ read-display-spec =
     shared-slice-read-b
     is-signed-digit-requires
     is-minus-requires-2
-    mul-t25
+    mul-t26
     wide-requires
-    add-t28
+    add-t29
     returns-3
     is-sign-requires-2
     is-minus-requires-3

@@ -23,7 +23,7 @@ read-display-requires c κs =
     (kinds, (field .some, field .digits))
 
 returns-2 : tie.Need-returns-2
-returns-2 c = c .read-display .ensures (c .before .before .before .before .args .digits)
+returns-2 c = c .read-display .ensures (c .before .before .before .before .args .row .digits)
 
 pub read-number-spec : {M : Type 1} → statement M
 read-number-spec =

@@ -36,8 +36,8 @@ may-lead-requires c κs = search needs
 is-minus-requires : tie.Need-is-minus-requires
 is-minus-requires c κs = search needs
 
-mul-t18 : tie.Need-mul-t18
-mul-t18 c =
+mul-t17 : tie.Need-mul-t17
+mul-t17 c =
     let pairs = c .before .before .before .before .before .before .before in
     let bytes = now (pairs .before .before .before .args .bytes) in
     omega (arith, ap (λ (r : Number). r .digits) (pairs .read-pairs .ensures), packed-room bytes (length bytes - 1) 9 (omega arith) (omega arith))
@@ -48,8 +48,8 @@ left-half-requires c κs = search needs
 wide-requires : tie.Need-wide-requires
 wide-requires c κs = search needs
 
-add-t21 : tie.Need-add-t21
-add-t21 c =
+add-t20 : tie.Need-add-t20
+add-t20 c =
     let pairs = c .before .before .before .before .before .before .before .before .before in
     let bytes = now (pairs .before .before .before .args .bytes) in
     omega (
@@ -72,7 +72,7 @@ returns c =
       c .before .before .before .before .before .before .before .digit-and-sign .ensures,
       pairs .read-pairs .ensures,
       start .pre .0,
-      valid-packed (start .args .kind) (start .args .digits) (now (start .args .bytes)) (start .pre .1 .0) (start .pre .0),
+      valid-packed (start .args .row .kind) (start .args .row .digits) (now (start .args .bytes)) (start .pre .1 .0) (start .pre .0),
     )
 
 pub read-packed-spec : {M : Type 1} → statement M
@@ -87,8 +87,8 @@ read-packed-spec =
     shared-slice-read-may-lead
     may-lead-requires
     is-minus-requires
-    mul-t18
+    mul-t17
     left-half-requires
     wide-requires
-    add-t21
+    add-t20
     returns)

@@ -1,20 +1,37 @@
--- Rests on what `switch_exists` and `name_there` return.
-use mathlib.Core.Path.{sym, _∙_}
+-- Of a switch and of a condition-name it is not asked how many items and literals there are.
+use Prim.Native.Nat.{ℕ, _/_}
+use native.Mathlib.Decide.{ℕ-discrete}
+use mathlib.Core.Path.{_≡_}
+use mathlib.Core.Bool.{Bool, _&&_, _||_, or-false}
 use borrow.Author.Needs.{needs}
+use borrow.Author.Tests.{ne-eqb}
+use Rattle.tables.specs.Rows.{nameCount}
+use Rattle.tables.specs.Tokens.{isSwitch, isName, exists, nameThere, tokenThere}
 use Rattle.typing.proofs.shape.alone_exists.Statement.{statement}
 use Rattle.typing.proofs.shape.alone_exists.Tie as tie
 
-switch-exists-requires : tie.Need-switch-exists-requires
-switch-exists-requires c κs = search needs
+no-operand : (off : Bool) (items literals names token : ℕ)
+    → (isSwitch token || isName token) && tokenThere off 0 0 names token ≡ isSwitch token && exists off items literals token || nameThere names token
+no-operand off items literals names token =
+    by (ℕ-discrete (token / 65536) 2) (ℕ-discrete (token / 65536) 3) (ℕ-discrete (token / 65536) 5)
+  where
+    by : Dec (token / 65536 ≡ 2) → Dec (token / 65536 ≡ 3) → Dec (token / 65536 ≡ 5)
+        → (isSwitch token || isName token) && tokenThere off 0 0 names token ≡ isSwitch token && exists off items literals token || nameThere names token
+    by (yes on) d e = simp (on, or-false)
+    by (no not-on) (yes is-off) e = simp (is-off, or-false)
+    by (no not-on) (no not-off) (yes is-name) = simp (is-name, or-false)
+    by (no not-on) (no not-off) (no not-name) = rw (ne-eqb _ _ not-on, ne-eqb _ _ not-off, ne-eqb _ _ not-name)
+
+is-alone-requires : tie.Need-is-alone-requires
+is-alone-requires c κs = search needs
+
+token-there-requires : tie.Need-token-there-requires
+token-there-requires c κs = search needs
 
 returns : tie.Need-returns
-returns c = rw (sym (c .before .switch-exists .ensures) ∙ c .if1 .taken)
-
-name-there-requires : tie.Need-name-there-requires
-name-there-requires c κs = search needs
-
-returns-2 : tie.Need-returns-2
-returns-2 c = rw (sym (c .before .before .switch-exists .ensures) ∙ c .before .if1 .left) (c .name-there .ensures)
+returns c items literals =
+    let a = c .before .before .before .args in
+    rw (c .before .is-alone .ensures, c .token-there .ensures) (no-operand (a .off) items literals (nameCount (a .names .now)) (a .token))
 
 pub alone-exists-spec : {M : Type 1} → statement M
-alone-exists-spec = tie.close (tie.spec switch-exists-requires returns name-there-requires returns-2)
+alone-exists-spec = tie.close (tie.spec is-alone-requires token-there-requires returns)

@@ -1,21 +1,32 @@
--- The kind picks the definition's line: of a known kind the other lines compute to false.
-use mathlib.Core.Bool.{or-false}
+-- Of an operand it is not asked how many names there are.
+use Prim.Native.Nat.{ℕ, _/_}
+use native.Mathlib.Decide.{ℕ-discrete}
+use mathlib.Core.Path.{_≡_}
+use mathlib.Core.Bool.{Bool, _&&_, or-false}
 use borrow.Author.Needs.{needs}
 use borrow.Author.Tests.{ne-eqb}
+use Rattle.tables.specs.Tokens.{isOperand, exists, tokenThere}
 use Rattle.typing.proofs.shape.operand_exists.Statement.{statement}
 use Rattle.typing.proofs.shape.operand_exists.Tie as tie
 
-cast-v : tie.Need-cast-v
-cast-v c = search needs
+no-name : (off : Bool) (items literals names token : ℕ)
+    → isOperand token && tokenThere off items literals names token ≡ isOperand token && exists off items literals token
+no-name off items literals names token = by (ℕ-discrete (token / 65536) 0) (ℕ-discrete (token / 65536) 1)
+  where
+    by : Dec (token / 65536 ≡ 0) → Dec (token / 65536 ≡ 1)
+        → isOperand token && tokenThere off items literals names token ≡ isOperand token && exists off items literals token
+    by (yes item) d = simp (item, or-false)
+    by (no not-item) (yes literal) = simp (literal, or-false)
+    by (no not-item) (no not-literal) = rw (ne-eqb _ _ not-item, ne-eqb _ _ not-literal)
+
+is-operand-requires : tie.Need-is-operand-requires
+is-operand-requires c κs = search needs
+
+token-there-requires : tie.Need-token-there-requires
+token-there-requires c κs = search needs
 
 returns : tie.Need-returns
-returns c = simp (c .match .keys1, or-false)
-
-returns-2 : tie.Need-returns-2
-returns-2 c = simp (c .match .keys2, or-false)
-
-returns-3 : tie.Need-returns-3
-returns-3 c = rw (ne-eqb _ _ (c .match .rest .0 .1), ne-eqb _ _ (c .match .rest .1))
+returns c = rw (c .before .is-operand .ensures, c .token-there .ensures, no-name)
 
 pub operand-exists-spec : {M : Type 1} → statement M
-operand-exists-spec = tie.close (tie.spec cast-v returns returns-2 returns-3)
+operand-exists-spec = tie.close (tie.spec is-operand-requires token-there-requires returns)

@@ -2,7 +2,7 @@
 use mathlib.Core.Path.{sym, ap₂, _∙_}
 use mathlib.Core.Bool.{_&&_}
 use borrow.Author.Needs.{needs}
-use Rattle.tables.specs.declared.Row.{Row}
+use Rattle.content.specs.declared.Row.{Row}
 use Rattle.typing.specs.Typing.{sideFits}
 use Rattle.typing.proofs.shape.relation_typed.Statement.{statement}
 use Rattle.typing.proofs.shape.relation_typed.Tie as tie

@@ -1,28 +1,11 @@
 -- The variant picks the definition's case; the callees ensure the parts of its conjunction.
-use Prim.Native.Nat.{ℕ, _/_}
-use native.Mathlib.Decide.{ℕ-discrete}
-use mathlib.Core.Path.{_≡_}
-use mathlib.Core.Bool.{Bool, _&&_, _||_, or-false}
 use mathlib.Core.List.{[]}
-use lib.Dec.{leb}
 use borrow.Author.Needs.{needs}
-use borrow.Author.Tests.{ne-eqb}
-use Rattle.tables.specs.Tokens.{isOn, isOff, isSwitch, indexOf, exists}
 use Rattle.tables.specs.Operands.{lendNames}
+use Rattle.tables.specs.Rows.{rowCount}
 use Rattle.typing.proofs.Lending.{operand-rules}
 use Rattle.typing.proofs.shape.shape_sound.Statement.{statement}
 use Rattle.typing.proofs.shape.shape_sound.Tie as tie
-
--- whether a switch exists is not asked of the tables
-switch-there : (off : Bool) (items literals token : ℕ)
-    → (isOn token || isOff token && off) && leb (indexOf token) 7 ≡ isSwitch token && exists off items literals token
-switch-there off items literals token = by (ℕ-discrete (token / 65536) 2) (ℕ-discrete (token / 65536) 3)
-  where
-    by : Dec (token / 65536 ≡ 2) → Dec (token / 65536 ≡ 3)
-        → (isOn token || isOff token && off) && leb (indexOf token) 7 ≡ isSwitch token && exists off items literals token
-    by (yes on) d = simp (on, or-false)
-    by (no not-on) (yes is-off) = simp (is-off, or-false)
-    by (no not-on) (no not-off) = rw (ne-eqb _ _ not-on, ne-eqb _ _ not-off)
 
 enum-told : tie.Need-enum-told
 enum-told c = search needs
@@ -52,7 +35,9 @@ enum-told-5 : tie.Need-enum-told-5
 enum-told-5 c = search needs
 
 returns : tie.Need-returns
-returns c = rw (c .before .enum-told .given .1, c .alone-exists .ensures, ← switch-there)
+returns c =
+    let a = c .before .before .before .before .before .before .args in
+    rw (c .before .enum-told .given .1, c .alone-exists .ensures (rowCount (a .items .now)) (rowCount (a .literals .now)))
 
 returns-2 : tie.Need-returns-2
 returns-2 c =

@@ -2,7 +2,7 @@
 use mathlib.Core.Path.{_≡_, refl, sym, _∙_}
 use mathlib.Core.Bool.{Bool, true, false, not, cond, Bool·beq, _&&_, _||_, and-true}
 use borrow.Author.Needs.{needs}
-use Rattle.tables.specs.declared.Row.{Row}
+use Rattle.content.specs.declared.Row.{Row}
 use Rattle.tables.specs.Rows.{isNumeric}
 use Rattle.typing.specs.Typing.{fitsBeside, sideFits}
 use Rattle.typing.proofs.shape.sides_fit.Statement.{statement}
