@@ -173,7 +173,7 @@ fn put_single(single: Single, row: usize, rows: &mut [u32]) -> Answer
 // The plan's rows of a whole sequence, from the start of the buffer, or refusal 7's place.
 pub fn parse(tokens: &[u32], rows: &mut [u32]) -> Parse
     requires { ⌜ (length (now tokens) ≤ 256) × (640 ≤ length (now rows)) ⌝ }
-    ensures { λ r. ⌜ Parses (now (tokens .entry)) r (now (rows .exit)) ⌝ }
+    ensures { λ r. ⌜ Parses (now (tokens .entry)) r (now (rows .entry)) (now (rows .exit)) ⌝ }
 {
     let nothing = Carried {
         subject: 0,

@@ -6,9 +6,11 @@ use native.Mathlib.Omega.{arith}
 use native.Mathlib.Nat.{zero-add, suc-add}
 use native.Mathlib.Numerals.{add-one, add-two, add-three, add-four}
 use lib.ListN.{length, getD, take, drop, set, length-append, length-drop, length-map, take-append-drop}
-use lib.Seq.{getD-append-add, sets, sets-eq, take-at, drop-at, length-take-le}
+use lib.Seq.{getD-append-add, sets, sets-eq, take-at, drop-at, take-take, drop-drop, length-take-le}
 use Rattle.grammar.specs.declared.PlanRow.{PlanRow}
+use Rattle.grammar.specs.Grammar.{simple}
 use Rattle.grammar.specs.Plan.{onTrue, onFalse, rowsOf, flat}
+use Rattle.grammar.proofs.Segment.{flat-length}
 use Rattle.plans.specs.Rows.{aim, retargeted, turn, Turned, Added}
 
 pub flat-append : (l m : List PlanRow) → flat (l ++ m) ≡ flat l ++ flat m
@@ -17,10 +19,16 @@ flat-append [] m = refl
 flat-append (r ∷ l) m =
     ap (λ (w : List ℕ). r .subject ∷ r .relation ∷ r .object ∷ r .holds ∷ r .fails ∷ w) (flat-append l m)
 
-pub flat-length : (rows : List PlanRow) → length (flat rows) ≡ length rows * 5
-unfolding flat
-flat-length [] = refl
-flat-length (r ∷ rows) = omega (arith, flat-length rows)
+-- what is alike up to a number is so up to an earlier one, and what is alike from a number on is so from a later one on
+module _ (l m : List ℕ) (a b : ℕ) (le : a ≤ b) where
+  pub earlier-front : take b l ≡ take b m → take a l ≡ take a m
+  earlier-front h = sym (take-take a b l le) ∙ ap (take a) h ∙ take-take a b m le
+
+  pub later-rest : drop a l ≡ drop a m → drop b l ≡ drop b m
+  later-rest h =
+      let k = b - a in
+      let e : a + k ≡ b = omega arith in
+      ap (λ n. drop n l) (sym e) ∙ sym (drop-drop k a l) ∙ ap (drop k) h ∙ drop-drop k a m ∙ ap (λ n. drop n m) e
 
 -- the numbers of row number `row`, each stored in its place
 pub added : (row : ℕ) (before : List ℕ) (a n b : ℕ) → row < 128 → 640 ≤ length before →
@@ -33,6 +41,18 @@ added row before a n b small wide =
     rw (add-one i, add-two i, add-three i, add-four i) in
     let end : i + 5 ≡ (row + 1) * 5 = omega arith in
     same ∙ sets-eq vs before i (omega arith) ∙ ap (λ (m : ℕ). take i before ++ vs ++ drop m before) end
+
+-- the rows up to the new one, and what follows it
+pub added-parts : (row : ℕ) (before : List ℕ) (a n b : ℕ) {after : List ℕ} → row * 5 ≤ length before → Added row before a n b after →
+    (take ((row + 1) * 5) after ≡ take (row * 5) before ++ flat (rowsOf row onTrue onFalse (simple a n b)))
+    × (drop ((row + 1) * 5) after ≡ drop ((row + 1) * 5) before)
+unfolding flat rowsOf
+added-parts row before a n b l e =
+    let front = take (row * 5) before in
+    let vs : List ℕ = a ∷ n ∷ b ∷ onTrue ∷ onFalse ∷ [] in
+    let rest = drop ((row + 1) * 5) before in
+    let long : length (front ++ vs) ≡ (row + 1) * 5 = omega (arith, length-append front vs, length-take-le (row * 5) before l) in
+    (rw e (take-at (front ++ vs) rest ((row + 1) * 5) long), rw e (drop-at (front ++ vs) rest ((row + 1) * 5) long))
 
 set-append-add : (xs ys : List ℕ) (n v : ℕ) → set (xs ++ ys) (length xs + n) v ≡ xs ++ set ys n v
 set-append-add [] ys n v = rw zero-add
@@ -98,21 +118,19 @@ module _ (y f : ℕ) where
       ap (λ (w : List ℕ). r .subject ∷ r .relation ∷ r .object ∷ aim y f (r .holds) ∷ aim y f (r .fails) ∷ w) (turn-rows rows rest)
 
   pub turned-rows : (from end : ℕ) (before : List ℕ) {after : List ℕ} (front : List ℕ) (rows : List PlanRow) → Turned y f end after before from →
-      take (end * 5) before ≡ front ++ flat rows → length front ≡ from * 5 → end * 5 ≤ length before →
+      take (end * 5) before ≡ front ++ flat rows → length front ≡ from * 5 → end ≡ from + length rows →
       (take (end * 5) after ≡ front ++ flat (map (retargeted y f) rows)) × (drop (end * 5) after ≡ drop (end * 5) before)
-  turned-rows from end before {after} front rows turned stands first fits =
+  turned-rows from end before {after} front rows turned stands first size =
       let rest = drop (end * 5) before in
       let new = flat (map (retargeted y f) rows) in
       let whole : before ≡ front ++ (flat rows ++ rest) =
       sym (take-append-drop (end * 5) before) ∙ ap (λ (w : List ℕ). w ++ rest) stands ∙ append-assoc front (flat rows) rest in
-      let sizes : length front + length (flat rows) ≡ end * 5 =
-      sym (length-append front (flat rows)) ∙ ap length (sym stands) ∙ length-take-le (end * 5) before fits in
-      let count : end - from ≡ length rows = omega (arith, flat-length rows) in
+      let count : end - from ≡ length rows = omega arith in
       let after-is : after ≡ (front ++ new) ++ rest =
       turned
       ∙ ap (λ (w : List ℕ). take (from * 5) w ++ turn y f (end - from) (drop (from * 5) w)) whole
       ∙ rw (take-at front (flat rows ++ rest) (from * 5) first, drop-at front (flat rows ++ rest) (from * 5) first, count)
       (ap (λ (w : List ℕ). front ++ w) (turn-rows rows rest) ∙ sym (append-assoc front new rest)) in
       let long : length (front ++ new) ≡ end * 5 =
-      omega (arith, length-append front new, flat-length (map (retargeted y f) rows), length-map rows (retargeted y f), flat-length rows) in
+      omega (arith, length-append front new, flat-length (map (retargeted y f) rows), length-map rows (retargeted y f)) in
       (rw after-is (take-at (front ++ new) rest (end * 5) long), rw after-is (drop-at (front ++ new) rest (end * 5) long))
