@@ -34,6 +34,7 @@ use Rattle.rules.proofs.Answers.{leaves-as, writes-over, lacks-room, judges-as,
 use Rattle.preparer.specs.declared.Prepared.{Prepared}
 use Rattle.preparer.specs.declared.Prepared.the-variants.{Rows, Refused as Unprepared}
 use Rattle.preparer.specs.Prepared.{Stands, Prepares}
+use Rattle.preparer.proofs.Preparing.{stands-rows}
 use Rattle.runner.specs.Runs.{Runnable}
 
 -- nothing was judged
@@ -75,9 +76,9 @@ module _ (items literals bytes names plan content : List ℕ) (t : firstOf (lent
   plan-runnable e h = record { tables = t; sound = plan-line e; holds = h }
 
 -- what is prepared is a refusal
-module _ {lent : Lent} {tokens : List ℕ} {r : Prepared} {after : List ℕ} (p : Prepares lent tokens r after) {refusal : Refusal} (e : r ≡ Unprepared refusal) where
+module _ {lent : Lent} {tokens : List ℕ} {r : Prepared} {before after : List ℕ} (p : Prepares lent tokens r before after) {refusal : Refusal} (e : r ≡ Unprepared refusal) where
   pub unready : Refuses lent tokens refusal
-  unready = refuses lent tokens (rw e at (p .readied))
+  unready = refuses lent tokens ((rw e at (p .readied)) .0)
 
   pub expand-refused : (output : List ℕ) → Leaves (expandGives lent tokens output) (Unwritten refusal) output
   expand-refused output = leaves-as (unready .expand output)
@@ -96,13 +97,13 @@ pub record Ready (lent : Lent) (tokens : List ℕ) (count : ℕ) (after : List �
   pub rows : take (count * 5) after ≡ planned tree
 
 -- what is prepared is rows
-module _ {lent : Lent} {tokens : List ℕ} {r : Prepared} {after : List ℕ} (p : Prepares lent tokens r after) {count : ℕ} (e : r ≡ Rows count) where
+module _ {lent : Lent} {tokens : List ℕ} {r : Prepared} {before after : List ℕ} (p : Prepares lent tokens r before after) {count : ℕ} (e : r ≡ Rows count) where
   pub ready : Ready lent tokens count after
   ready =
-      let h : (firstOf (conditionLines lent tokens) ≡ Sound) × Stands (read tokens) count after = rw e at (p .readied) in
+      let h : (firstOf (conditionLines lent tokens) ≡ Sound) × Stands (read tokens) count before after = rw e at (p .readied) in
       let (t, q) = passed lent tokens (h .0) in
       let z : h .1 .tree ≡ t = cc (h .1 .read-as, read-as q) in
-      record { tree = t; passes = q; counted = h .1 .counted ∙ ap leaves z; rows = h .1 .rows ∙ ap planned z }
+      record { tree = t; passes = q; counted = h .1 .counted ∙ ap leaves z; rows = stands-rows (h .1) ∙ ap planned z }
 
   pub few-prepared : count ≤ 128
   few-prepared = let y = ready in rw (y .counted) (few-leaves (y .passes))
