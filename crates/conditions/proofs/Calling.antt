@@ -9,6 +9,7 @@ use Rattle.tables.specs.declared.Refusal.{Refusal}
 use Rattle.tables.specs.declared.Refusal.the-variants.{Room}
 use Rattle.tables.specs.declared.Check.{Check}
 use Rattle.tables.specs.declared.Check.the-variants.{Sound, Refused}
+use Rattle.tables.specs.declared.Written.{Written}
 use Rattle.tables.specs.declared.Written.the-variants.{Count, Refused as Unwritten}
 use Rattle.tables.specs.declared.Judged.{Judged}
 use Rattle.tables.specs.declared.Verdict.the-variants.{Refused as Unjudged}
@@ -27,7 +28,8 @@ use Rattle.grammar.proofs.Lent.{plan-lent}
 use Rattle.grammar.proofs.Segment.{planned-length}
 use Rattle.expander.specs.Spelled.{spelled}
 use Rattle.expander.proofs.Spelled.{spelled-expanded}
-use Rattle.rules.specs.Calls.{conditionLines, Leaves, writing, expandGives, planGives, told, judgeGives, runGives}
+use Rattle.rules.specs.Numbers.{ofWritten, ofVerdict}
+use Rattle.rules.specs.Calls.{Gives, conditionLines, Leaves, writing, expandGives, planGives, told, judgeGives, runGives}
 use Rattle.rules.specs.Demands.{Refuses}
 use Rattle.rules.proofs.Passing.{Passes, passed, read-as, tables-pass}
 use Rattle.rules.proofs.Answers.{leaves-as, writes-over, lacks-room, judges-as, few-leaves, plan-passes, run-judges, refuses, after-tables, after-plan}
@@ -74,6 +76,14 @@ module _ (items literals bytes names plan content : List ℕ) (t : firstOf (lent
   pub plan-runnable : planCheck (lendNames items literals [] names) plan ≡ Sound → recordCheck (lendNames items literals bytes names) content ≡ Sound →
       Runnable (lendNames items literals bytes names) plan content
   plan-runnable e h = record { tables = t; sound = plan-line e; holds = h }
+
+-- the same answer in this paper's numbers
+pub in-numbers : {gives : Gives} {answer : Written} {output : List ℕ} → Leaves gives answer output →
+    Leaves gives answer output × (ofWritten answer ≡ ofWritten (gives .answer))
+in-numbers l = (l, ap ofWritten (l .answered))
+
+pub judged-in-numbers : {r j : Judged} → r ≡ j → (r ≡ j) × (ofVerdict (r .verdict) ≡ ofVerdict (j .verdict))
+judged-in-numbers e = (e, ap (λ (j : Judged). ofVerdict (j .verdict)) e)
 
 -- what is prepared is a refusal
 module _ {lent : Lent} {tokens : List ℕ} {r : Prepared} {before after : List ℕ} (p : Prepares lent tokens r before after) {refusal : Refusal} (e : r ≡ Unprepared refusal) where

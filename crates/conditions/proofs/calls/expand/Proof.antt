@@ -1,7 +1,7 @@
 -- Rests on what `prepare` ensures: the refusal of a line, or a condition that passes, whose spelling is its tree's expanded form.
 use native.Mathlib.Omega.{arith}
 use borrow.Author.Needs.{needs}
-use Rattle.conditions.proofs.Calling.{expand-refused, expand-no-room, expand-written}
+use Rattle.conditions.proofs.Calling.{in-numbers, expand-refused, expand-no-room, expand-written}
 use Rattle.conditions.proofs.calls.expand.Statement.{statement}
 use Rattle.conditions.proofs.calls.expand.Tie as tie
 
@@ -22,21 +22,21 @@ expanded-length-requires c κs = search needs
 
 returns : tie.Need-returns
 returns c =
-    expand-no-room (c .before .before .before .before .before .prepare .ensures) (c .before .before .enum-told .given .1) (c .before .expanded-length .ensures) _ (c .if1 .taken)
+    in-numbers (expand-no-room (c .before .before .before .before .before .prepare .ensures) (c .before .before .enum-told .given .1) (c .before .expanded-length .ensures) _ (c .if1 .taken))
 
 write-expanded-requires : tie.Need-write-expanded-requires
 write-expanded-requires c κs = search needs
 
 returns-2 : tie.Need-returns-2
-returns-2 c = expand-refused (c .before .before .before .before .prepare .ensures) (c .before .prepared .given .1) _
+returns-2 c = in-numbers (expand-refused (c .before .before .before .before .prepare .ensures) (c .before .prepared .given .1) _)
 
 same-length : tie.Need-same-length
 same-length c = search needs
 
 returns-3 : tie.Need-returns-3
 returns-3 c =
-    expand-written (c .before .before .before .before .before .before .before .before .before .prepare .ensures) (c .before .before .before .before .before .before .enum-told .given .1)
-    (c .before .before .write-expanded .ensures .0) _ (omega arith) (c .before .before .write-expanded .ensures .1)
+    in-numbers (expand-written (c .before .before .before .before .before .before .before .before .before .prepare .ensures) (c .before .before .before .before .before .before .enum-told .given .1)
+    (c .before .before .write-expanded .ensures .0) _ (omega arith) (c .before .before .write-expanded .ensures .1))
 
 pub expand-spec : {M : Type 1} → statement M
 expand-spec =
