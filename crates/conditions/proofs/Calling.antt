@@ -5,6 +5,7 @@ use mathlib.Core.List.{List, [], _++_}
 use Prim.Native.Nat.{ℕ, _*_, _≤_, _<_}
 use native.Mathlib.Omega.{arith}
 use lib.ListN.{length, take, drop}
+use lib.Seq.{take-at}
 use Rattle.tables.specs.declared.Refusal.{Refusal}
 use Rattle.tables.specs.declared.Refusal.the-variants.{Room}
 use Rattle.tables.specs.declared.Check.{Check}
@@ -26,12 +27,13 @@ use Rattle.grammar.specs.Judging.{leaves}
 use Rattle.grammar.specs.Plan.{planned, planCheck, running}
 use Rattle.grammar.proofs.Lent.{plan-lent}
 use Rattle.grammar.proofs.Segment.{planned-length}
+use Rattle.grammar.proofs.Size.{expanded-bound}
 use Rattle.expander.specs.Spelled.{spelled}
 use Rattle.expander.proofs.Spelled.{spelled-expanded}
 use Rattle.rules.specs.Numbers.{ofWritten, ofVerdict}
 use Rattle.rules.specs.Calls.{Gives, conditionLines, Leaves, writing, expandGives, planGives, told, judgeGives, runGives}
 use Rattle.rules.specs.Demands.{Refuses}
-use Rattle.rules.proofs.Passing.{Passes, passed, read-as, tables-pass}
+use Rattle.rules.proofs.Passing.{Passes, passed, read-as, tables-pass, few-tokens}
 use Rattle.rules.proofs.Answers.{leaves-as, writes-over, lacks-room, judges-as, few-leaves, plan-passes, run-judges, refuses, after-tables, after-plan}
 use Rattle.preparer.specs.declared.Prepared.{Prepared}
 use Rattle.preparer.specs.declared.Prepared.the-variants.{Rows, Refused as Unprepared}
@@ -121,18 +123,27 @@ module _ {lent : Lent} {tokens : List ℕ} {r : Prepared} {before after : List �
   pub row-numbers : count * 5 ≡ length (take (count * 5) after)
   row-numbers = let y = ready in rw (y .rows, planned-length (y .tree)) (ap (λ n. n * 5) (y .counted))
 
+  spelled-as : spelled tokens ≡ expanded (ready .tree)
+  spelled-as = spelled-expanded tokens (ready .tree) (read-as (ready .passes))
+
+  -- "256 tokens expand to at most 634"
+  pub few-spelled : length (spelled tokens) ≤ 634
+  few-spelled = let y = ready in rw spelled-as (expanded-bound (y .passes .accepts .derives) (few-tokens (y .passes)))
+
   -- n numbers are counted in the spelling
   module _ {n : ℕ} (s : n ≡ length (spelled tokens)) (output : List ℕ) where
-    spelled-as : spelled tokens ≡ expanded (ready .tree)
-    spelled-as = spelled-expanded tokens (ready .tree) (read-as (ready .passes))
 
     pub expand-no-room : length output < n → Leaves (expandGives lent tokens output) (Unwritten (Room n)) output
     unfolding expandGives
     expand-no-room = no-room (ready .passes) expanded spelled-as s output
 
-    pub expand-written : {last : List ℕ} → n ≤ length output → last ≡ spelled tokens ++ drop n output → Leaves (expandGives lent tokens output) (Count n) last
+    -- the numbers stand at the start of a scratch, and are copied from there
+    pub expand-written : (scratch rest : List ℕ) {last : List ℕ} → scratch ≡ spelled tokens ++ rest → n ≤ length output →
+        last ≡ take n scratch ++ drop (length (take n scratch)) output → Leaves (expandGives lent tokens output) (Count n) last
     unfolding expandGives
-    expand-written = written (ready .passes) expanded spelled-as s output
+    expand-written scratch rest stands l w =
+        let form : take n scratch ≡ spelled tokens = rw stands (take-at (spelled tokens) rest n (sym s)) in
+        written (ready .passes) expanded spelled-as s output l (rw (form, ← s) at w)
 
   pub plan-no-room : (output : List ℕ) → length output < count * 5 → Leaves (planGives lent tokens output) (Unwritten (Room (count * 5))) output
   unfolding planGives

@@ -10,7 +10,6 @@ ghost use Rattle.rules.specs.Calls.{expandGives, planGives, told, judgeGives, r
 ghost use Rattle.rules.specs.Numbers.{ofWritten, ofVerdict};
 use checks::lent::check_record;
 use checks::lent::check_tables;
-use expander::expand::expanded_length;
 use expander::expand::write_expanded;
 use name_tables::check_names;
 use plan_checks::check_plan;
@@ -40,11 +39,13 @@ pub fn expand(
     match prepared {
         Prepared::Refused(refusal) => Written::Refused(refusal),
         Prepared::Rows(_) => {
-            let length = expanded_length(tokens);
+            let mut form = [0u32; 640];
+            let length = write_expanded(tokens, &mut form);
             if output.len() < length {
                 return Written::Refused(Refusal::Room(length));
             }
-            Written::Count(write_expanded(tokens, output))
+            copy(&form[..length], output);
+            Written::Count(length)
         }
     }
 }
