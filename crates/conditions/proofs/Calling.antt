@@ -132,7 +132,6 @@ module _ {lent : Lent} {tokens : List ℕ} {r : Prepared} {before after : List �
 
   -- n numbers are counted in the spelling
   module _ {n : ℕ} (s : n ≡ length (spelled tokens)) (output : List ℕ) where
-
     pub expand-no-room : length output < n → Leaves (expandGives lent tokens output) (Unwritten (Room n)) output
     unfolding expandGives
     expand-no-room = no-room (ready .passes) expanded spelled-as s output

@@ -1,7 +1,6 @@
 // Condition, chain, term and body call each other over the tokens. Each writes the rows of what it reads as if it were the whole
 // condition; whoever called it turns their verdicts into the targets that they lead to. A condition loops over its chains and a
 // chain over its terms, so that only a bracket takes more of the stack.
-ghost use mathlib.Core.Path.{_≡_};
 ghost use Prim.Native.Nat.{_≤_};
 ghost use lib.ListN.{length};
 ghost use Rattle.grammar.specs.Parser.{parse-condition, parse-chain, parse-term, parse-body};

@@ -1,7 +1,7 @@
 -- What the lines 1 to 9 and 18 come to, one law for each answer of the functions that try them.
 use mathlib.Core.Path.{_≡_, refl, sym, ap, _∙_}
 use mathlib.Core.Bool.{Bool, true, false, cond}
-use mathlib.Core.List.{List, [], _∷_, _++_}
+use mathlib.Core.List.{List, []}
 use Prim.Native.Nat.{ℕ, _*_, _≤_, _<_}
 use native.Mathlib.Omega.{arith}
 use lib.ListN.{length, take, drop}
@@ -19,11 +19,9 @@ use Rattle.values.specs.Names.{lentLines}
 use Rattle.tables.proofs.Lines.{test-sound, line-sound, line-refused, line-last, lines-before, lines-sound}
 use Rattle.tables.proofs.Tests.{both}
 use Rattle.parser.specs.declared.Parse.{Parse}
-use Rattle.parser.specs.declared.Parse.the-variants.{Accepted, Refused as Unparsed}
-use Rattle.grammar.specs.Grammar.{Tree}
+use Rattle.parser.specs.declared.Parse.the-variants.{Accepted}
 use Rattle.grammar.specs.Parser.{Reading, accepted, refused, read}
 use Rattle.grammar.specs.Depth.{depthCheck}
-use Rattle.grammar.specs.Typed.{typingFrom}
 use Rattle.grammar.specs.Judging.{leaves}
 use Rattle.grammar.specs.Plan.{planned}
 use Rattle.grammar.specs.Typed.{Shaped, typedRows}

@@ -8,7 +8,7 @@ use borrow.Author.Tests.{leb-true, leb-false, le-leb, eqb-true, eq-eqb, ne-eqb}
 use lib.Dec.{eqb}
 use Rattle.typing.specs.Tests.{within}
 use Rattle.grammar.specs.Grammar.{Class, Class-discrete, class, Is, operand, switch, order, bound, test, name}
-use Rattle.grammar.proofs.Spelling.{spelled, operand-token, switch-token, order-token, bound-token, test-token, name-token}
+use Rattle.grammar.proofs.Spelling.{spelled, operand-token, switch-token, order-token, bound-token, test-token}
 use Rattle.grammar.proofs.Spelling.{is-operand, is-switch, is-order, is-bound, is-test, is-name}
 use Rattle.reader.specs.Reads.{isA}
 

@@ -56,9 +56,10 @@ same-length-3 c = search needs
 
 returns-2 : tie.Need-returns-2
 returns-2 c =
+    let r = c .before .before .before .before .before .before .before in
     shown _ _ _ _ _ _ _
-    (rw (c .before .before .before .before .before .before .before .before .before .before .planned2 .given .1) at (c .before .before .before .before .before .before .before .before .before .before .before .before .before .before .plan .ensures .0))
-    (c .before .before .before .before .before .before .before .run .ensures .0)
+    (rw (r .before .before .before .planned2 .given .1) at (r .before .before .before .before .before .before .before .plan .ensures .0))
+    (r .run .ensures .0)
     (rw (c .before .expanded .given .1) at (c .before .before .before .before .before .expand .ensures .0))
     (refl, refl)
 
@@ -73,9 +74,10 @@ same-length-6 c = search needs
 
 returns-3 : tie.Need-returns-3
 returns-3 c =
+    let r = c .before .before .before .before .before .before .before .before .before .before .before .before in
     shown _ _ _ _ _ _ _
-    (rw (c .before .before .before .before .before .before .before .before .before .before .before .before .before .before .before .planned2 .given .1) at (c .before .before .before .before .before .before .before .before .before .before .before .before .before .before .before .before .before .before .before .plan .ensures .0))
-    (c .before .before .before .before .before .before .before .before .before .before .before .before .run .ensures .0)
+    (rw (r .before .before .before .planned2 .given .1) at (r .before .before .before .before .before .before .before .plan .ensures .0))
+    (r .run .ensures .0)
     (rw (c .before .before .before .before .before .before .expanded2 .given .1) at (c .before .before .before .before .before .before .before .before .before .before .expand .ensures .0))
     (c .before .before .plan2 .ensures .0)
 

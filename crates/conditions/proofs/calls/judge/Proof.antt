@@ -32,7 +32,8 @@ unjudged-requires-2 c κs = search needs
 
 returns : tie.Need-returns
 returns c =
-    judged-in-numbers (c .unjudged2 .ensures ∙ judge-record-refuses (c .before .before .before .before .before .before .before .before .before .prepare .ensures) (c .before .before .before .before .before .before .prepared2 .given .1) _ _
+    let p = c .before .before .before .before .before .before in
+    judged-in-numbers (c .unjudged2 .ensures ∙ judge-record-refuses (p .before .before .before .prepare .ensures) (p .prepared2 .given .1) _ _
     (sym (c .before .before .before .before .check-record .ensures) ∙ c .before .before .held .given .1))
 
 enum-told : tie.Need-enum-told
@@ -57,7 +58,8 @@ returns-2 c = judged-in-numbers (c .unjudged .ensures ∙ judge-refused (c .befo
 
 returns-3 : tie.Need-returns-3
 returns-3 c =
-    judged-in-numbers (judge-answers (c .before .before .before .before .before .before .before .before .before .prepare .ensures) (c .before .before .before .before .before .before .prepared2 .given .1) _ _
+    let p = c .before .before .before .before .before .before in
+    judged-in-numbers (judge-answers (p .before .before .before .prepare .ensures) (p .prepared2 .given .1) _ _
     (sym (c .before .before .before .before .check-record .ensures) ∙ c .before .before .enum-told .given .1)
     (c .run-rows .ensures))
 

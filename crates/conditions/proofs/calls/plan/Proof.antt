@@ -40,7 +40,8 @@ same-length c = search needs
 
 returns-3 : tie.Need-returns-3
 returns-3 c =
-    in-numbers (plan-written (c .before .before .before .before .before .before .before .before .before .before .prepare .ensures) (c .before .before .before .before .before .before .before .prepared2 .given .1) _
+    let p = c .before .before .before .before .before .before .before in
+    in-numbers (plan-written (p .before .before .before .prepare .ensures) (p .prepared2 .given .1) _
     (c .before .before .before .before .before .if1 .left) (c .before .before .copy .ensures))
 
 pub plan-spec : {M : Type 1} → statement M

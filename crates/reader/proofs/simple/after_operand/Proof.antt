@@ -46,10 +46,12 @@ read-object-requires c κs = omega (arith, relation c)
 returns : tie.Need-returns
 returns c =
     let a = c .before .before .before .before .before .before .args in
-    let (l, h, i) = relation (c .before) in
-    (reads-on _ 0 _ _ _ 1 _ (c .read-object .result)
-    (at-relation _ _ (c .before .before .before .before .peek .ensures) (carryOf (a .carry)) _ l h)
-    (omega arith) (omega arith) (c .read-object .ensures .0), c .read-object .ensures .1)
+    let (l, h, i) = relation (c .before) in (
+      reads-on _ 0 _ _ _ 1 _ (c .read-object .result)
+          (at-relation _ _ (c .before .before .before .before .peek .ensures) (carryOf (a .carry)) _ l h)
+          (omega arith) (omega arith) (c .read-object .ensures .0),
+      c .read-object .ensures .1,
+    )
 
 sub-tested : tie.Need-sub-tested
 sub-tested c = omega (arith, tested c)
@@ -58,10 +60,12 @@ returns-2 : tie.Need-returns-2
 returns-2 c =
     let a = c .before .before .before .before .before .before .before .before .args in
     let (l, h, i) = tested (c .before) in
-    rw (c .tested .ensures)
-    ((reads-row _ 0 _ _ _
-    (at-test _ _ (c .before .before .before .before .before .before .peek .ensures) (carryOf (a .carry)) _ l h)
-    (carries-none _ refl) (omega arith) (omega arith)), λ _. refl)
+    rw (c .tested .ensures) (
+      (reads-row _ 0 _ _ _
+          (at-test _ _ (c .before .before .before .before .before .before .peek .ensures) (carryOf (a .carry)) _ l h)
+          (carries-none _ refl) (omega arith) (omega arith)),
+      λ _. refl,
+    )
 
 sub-read-object-2 : tie.Need-sub-read-object-2
 sub-read-object-2 c = omega (arith, not-relation c)
@@ -74,10 +78,12 @@ returns-3 c =
     let b = c .before .before .before .before in
     let e = b .before .before .before .before .before .before .peek .ensures in
     let a = b .before .before .before .before .before .before .before .before .args in
-    let (l, h, i) = not-relation (c .before) in
-    (reads-on _ 0 _ _ _ 1 _ (c .read-object2 .result)
-    (at-not-order _ _ e (c .before .before .before .peek2 .ensures) (carryOf (a .carry)) _ (b .if3 .taken) l h)
-    (omega arith) (omega arith) (c .read-object2 .ensures .0), c .read-object2 .ensures .1)
+    let (l, h, i) = not-relation (c .before) in (
+      reads-on _ 0 _ _ _ 1 _ (c .read-object2 .result)
+          (at-not-order _ _ e (c .before .before .before .peek2 .ensures) (carryOf (a .carry)) _ (b .if3 .taken) l h)
+          (omega arith) (omega arith) (c .read-object2 .ensures .0),
+      c .read-object2 .ensures .1,
+    )
 
 sub-tested-2 : tie.Need-sub-tested-2
 sub-tested-2 c = omega (arith, not-tested c)
@@ -88,33 +94,41 @@ returns-4 c =
     let e = b .before .before .before .before .before .before .peek .ensures in
     let a = b .before .before .before .before .before .before .before .before .args in
     let (l, h, i) = not-tested (c .before) in
-    rw (c .tested2 .ensures)
-    ((reads-row _ 0 _ _ _
-    (at-not-test _ _ e (c .before .before .before .before .before .peek2 .ensures) (carryOf (a .carry)) _ (b .if3 .taken) l h)
-    (carries-none _ refl) (omega arith) (omega arith)), λ _. refl)
+    rw (c .tested2 .ensures) (
+      (reads-row _ 0 _ _ _
+          (at-not-test _ _ e (c .before .before .before .before .before .peek2 .ensures) (carryOf (a .carry)) _ (b .if3 .taken) l h)
+          (carries-none _ refl) (omega arith) (omega arith)),
+      λ _. refl,
+    )
 
 returns-5 : tie.Need-returns-5
 returns-5 c =
     let b = c .before .before .before .before .before in
     let e = b .before .before .before .before .before .before .peek .ensures in
-    let a = b .before .before .before .before .before .before .before .before .args in
-    (reads-stuck _ 0 _ _
-    (at-not-stuck _ _ e (c .before .before .before .before .peek2 .ensures) (carryOf (a .carry)) _ (b .if3 .taken)
-    (within-false _ _ _ (sym (c .before .before .before .is-order2 .ensures ∙ order-within _) ∙ c .before .before .if4 .left))
-    (within-false _ _ _ (sym (c .before .is-test2 .ensures ∙ test-within _) ∙ c .if5 .left)))
-    (omega arith) (omega (arith, inside _ _ e (omega arith))), tt)
+    let a = b .before .before .before .before .before .before .before .before .args in (
+      reads-stuck _ 0 _ _
+          (at-not-stuck _ _ e (c .before .before .before .before .peek2 .ensures) (carryOf (a .carry)) _ (b .if3 .taken)
+          (within-false _ _ _ (sym (c .before .before .before .is-order2 .ensures ∙ order-within _) ∙ c .before .before .if4 .left))
+          (within-false _ _ _ (sym (c .before .is-test2 .ensures ∙ test-within _) ∙ c .if5 .left)))
+          (omega arith) (omega (arith, inside _ _ e (omega arith))),
+      tt,
+    )
 
 returns-6 : tie.Need-returns-6
-returns-6 c =
-    (reads-stuck _ 0 _ _
-    (at-no-carry _ _ (c .before .before .before .before .before .before .before .peek .ensures) _ _ (neither (c .before)) (c .before .if3 .left) (c .if6 .taken))
-    (omega arith) (omega arith), tt)
+returns-6 c = (
+  reads-stuck _ 0 _ _
+      (at-no-carry _ _ (c .before .before .before .before .before .before .before .peek .ensures) _ _ (neither (c .before)) (c .before .if3 .left) (c .if6 .taken))
+      (omega arith) (omega arith),
+  tt,
+)
 
 returns-7 : tie.Need-returns-7
-returns-7 c =
-    (reads-row _ 0 _ _ _
-    (at-bare _ _ (c .before .before .before .before .before .before .before .peek .ensures) _ _ (neither (c .before)) (c .before .if3 .left) (c .if6 .left))
-    refl (omega arith) (omega arith), λ n. absurd (c .if6 .left n))
+returns-7 c = (
+  reads-row _ 0 _ _ _
+      (at-bare _ _ (c .before .before .before .before .before .before .before .peek .ensures) _ _ (neither (c .before)) (c .before .if3 .left) (c .if6 .left))
+      refl (omega arith) (omega arith),
+  λ n. absurd (c .if6 .left n),
+)
 
 pub after-operand-spec : {M : Type 1} → statement M
 after-operand-spec =
