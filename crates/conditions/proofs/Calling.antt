@@ -5,10 +5,12 @@ use mathlib.Core.List.{List, [], _++_}
 use Prim.Native.Nat.{ℕ, _*_, _≤_, _<_}
 use native.Mathlib.Omega.{arith}
 use lib.ListN.{length, take, drop}
+use lib.Seq.{take-at}
 use Rattle.tables.specs.declared.Refusal.{Refusal}
 use Rattle.tables.specs.declared.Refusal.the-variants.{Room}
 use Rattle.tables.specs.declared.Check.{Check}
 use Rattle.tables.specs.declared.Check.the-variants.{Sound, Refused}
+use Rattle.tables.specs.declared.Written.{Written}
 use Rattle.tables.specs.declared.Written.the-variants.{Count, Refused as Unwritten}
 use Rattle.tables.specs.declared.Judged.{Judged}
 use Rattle.tables.specs.declared.Verdict.the-variants.{Refused as Unjudged}
@@ -25,15 +27,18 @@ use Rattle.grammar.specs.Judging.{leaves}
 use Rattle.grammar.specs.Plan.{planned, planCheck, running}
 use Rattle.grammar.proofs.Lent.{plan-lent}
 use Rattle.grammar.proofs.Segment.{planned-length}
+use Rattle.grammar.proofs.Size.{expanded-bound}
 use Rattle.expander.specs.Spelled.{spelled}
 use Rattle.expander.proofs.Spelled.{spelled-expanded}
-use Rattle.rules.specs.Calls.{conditionLines, Leaves, writing, expandGives, planGives, told, judgeGives, runGives}
+use Rattle.rules.specs.Numbers.{ofWritten, ofVerdict}
+use Rattle.rules.specs.Calls.{Gives, conditionLines, Leaves, writing, expandGives, planGives, told, judgeGives, runGives}
 use Rattle.rules.specs.Demands.{Refuses}
-use Rattle.rules.proofs.Passing.{Passes, passed, read-as, tables-pass}
+use Rattle.rules.proofs.Passing.{Passes, passed, read-as, tables-pass, few-tokens}
 use Rattle.rules.proofs.Answers.{leaves-as, writes-over, lacks-room, judges-as, few-leaves, plan-passes, run-judges, refuses, after-tables, after-plan}
 use Rattle.preparer.specs.declared.Prepared.{Prepared}
 use Rattle.preparer.specs.declared.Prepared.the-variants.{Rows, Refused as Unprepared}
 use Rattle.preparer.specs.Prepared.{Stands, Prepares}
+use Rattle.preparer.proofs.Preparing.{stands-rows}
 use Rattle.runner.specs.Runs.{Runnable}
 
 -- nothing was judged
@@ -74,10 +79,18 @@ module _ (items literals bytes names plan content : List ℕ) (t : firstOf (lent
       Runnable (lendNames items literals bytes names) plan content
   plan-runnable e h = record { tables = t; sound = plan-line e; holds = h }
 
+-- the same answer in this paper's numbers
+pub in-numbers : {gives : Gives} {answer : Written} {output : List ℕ} → Leaves gives answer output →
+    Leaves gives answer output × (ofWritten answer ≡ ofWritten (gives .answer))
+in-numbers l = (l, ap ofWritten (l .answered))
+
+pub judged-in-numbers : {r j : Judged} → r ≡ j → (r ≡ j) × (ofVerdict (r .verdict) ≡ ofVerdict (j .verdict))
+judged-in-numbers e = (e, ap (λ (j : Judged). ofVerdict (j .verdict)) e)
+
 -- what is prepared is a refusal
-module _ {lent : Lent} {tokens : List ℕ} {r : Prepared} {after : List ℕ} (p : Prepares lent tokens r after) {refusal : Refusal} (e : r ≡ Unprepared refusal) where
+module _ {lent : Lent} {tokens : List ℕ} {r : Prepared} {before after : List ℕ} (p : Prepares lent tokens r before after) {refusal : Refusal} (e : r ≡ Unprepared refusal) where
   pub unready : Refuses lent tokens refusal
-  unready = refuses lent tokens (rw e at (p .readied))
+  unready = refuses lent tokens ((rw e at (p .readied)) .0)
 
   pub expand-refused : (output : List ℕ) → Leaves (expandGives lent tokens output) (Unwritten refusal) output
   expand-refused output = leaves-as (unready .expand output)
@@ -96,13 +109,13 @@ pub record Ready (lent : Lent) (tokens : List ℕ) (count : ℕ) (after : List �
   pub rows : take (count * 5) after ≡ planned tree
 
 -- what is prepared is rows
-module _ {lent : Lent} {tokens : List ℕ} {r : Prepared} {after : List ℕ} (p : Prepares lent tokens r after) {count : ℕ} (e : r ≡ Rows count) where
+module _ {lent : Lent} {tokens : List ℕ} {r : Prepared} {before after : List ℕ} (p : Prepares lent tokens r before after) {count : ℕ} (e : r ≡ Rows count) where
   pub ready : Ready lent tokens count after
   ready =
-      let h : (firstOf (conditionLines lent tokens) ≡ Sound) × Stands (read tokens) count after = rw e at (p .readied) in
+      let h : (firstOf (conditionLines lent tokens) ≡ Sound) × Stands (read tokens) count before after = rw e at (p .readied) in
       let (t, q) = passed lent tokens (h .0) in
       let z : h .1 .tree ≡ t = cc (h .1 .read-as, read-as q) in
-      record { tree = t; passes = q; counted = h .1 .counted ∙ ap leaves z; rows = h .1 .rows ∙ ap planned z }
+      record { tree = t; passes = q; counted = h .1 .counted ∙ ap leaves z; rows = stands-rows (h .1) ∙ ap planned z }
 
   pub few-prepared : count ≤ 128
   few-prepared = let y = ready in rw (y .counted) (few-leaves (y .passes))
@@ -110,18 +123,26 @@ module _ {lent : Lent} {tokens : List ℕ} {r : Prepared} {after : List ℕ} (p 
   pub row-numbers : count * 5 ≡ length (take (count * 5) after)
   row-numbers = let y = ready in rw (y .rows, planned-length (y .tree)) (ap (λ n. n * 5) (y .counted))
 
+  spelled-as : spelled tokens ≡ expanded (ready .tree)
+  spelled-as = spelled-expanded tokens (ready .tree) (read-as (ready .passes))
+
+  -- "256 tokens expand to at most 634"
+  pub few-spelled : length (spelled tokens) ≤ 634
+  few-spelled = let y = ready in rw spelled-as (expanded-bound (y .passes .accepts .derives) (few-tokens (y .passes)))
+
   -- n numbers are counted in the spelling
   module _ {n : ℕ} (s : n ≡ length (spelled tokens)) (output : List ℕ) where
-    spelled-as : spelled tokens ≡ expanded (ready .tree)
-    spelled-as = spelled-expanded tokens (ready .tree) (read-as (ready .passes))
-
     pub expand-no-room : length output < n → Leaves (expandGives lent tokens output) (Unwritten (Room n)) output
     unfolding expandGives
     expand-no-room = no-room (ready .passes) expanded spelled-as s output
 
-    pub expand-written : {last : List ℕ} → n ≤ length output → last ≡ spelled tokens ++ drop n output → Leaves (expandGives lent tokens output) (Count n) last
+    -- the numbers stand at the start of a scratch, and are copied from there
+    pub expand-written : (scratch rest : List ℕ) {last : List ℕ} → scratch ≡ spelled tokens ++ rest → n ≤ length output →
+        last ≡ take n scratch ++ drop (length (take n scratch)) output → Leaves (expandGives lent tokens output) (Count n) last
     unfolding expandGives
-    expand-written = written (ready .passes) expanded spelled-as s output
+    expand-written scratch rest stands l w =
+        let form : take n scratch ≡ spelled tokens = rw stands (take-at (spelled tokens) rest n (sym s)) in
+        written (ready .passes) expanded spelled-as s output l (rw (form, ← s) at w)
 
   pub plan-no-room : (output : List ℕ) → length output < count * 5 → Leaves (planGives lent tokens output) (Unwritten (Room (count * 5))) output
   unfolding planGives

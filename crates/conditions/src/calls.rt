@@ -1,4 +1,4 @@
-// Expand, plan and judge a condition, and run a plan.
+// Expand, plan and judge a condition, and run a plan. Each promises its whole answer, and the answer in the document's numbers.
 ghost use mathlib.Core.Path.{_≡_};
 ghost use mathlib.Core.List.{[], _++_};
 ghost use Prim.Native.Nat.{_≤_};
@@ -7,9 +7,9 @@ ghost use Rattle.tables.specs.declared.Verdict.the-variants.{Refused as Unjudge
 ghost use Rattle.tables.specs.Operands.{lendNames};
 ghost use Rattle.grammar.specs.Judging.{walk};
 ghost use Rattle.rules.specs.Calls.{expandGives, planGives, told, judgeGives, runGives, Leaves};
+ghost use Rattle.rules.specs.Numbers.{ofWritten, ofVerdict};
 use checks::lent::check_record;
 use checks::lent::check_tables;
-use expander::expand::expanded_length;
 use expander::expand::write_expanded;
 use name_tables::check_names;
 use plan_checks::check_plan;
@@ -32,17 +32,20 @@ pub fn expand(
     output: &mut [u32],
 ) -> Written
     ensures { λ r. ⌜ Leaves (expandGives (lendNames (now (items .entry)) (now (literals .entry)) (now (bytes .entry)) (now (names .entry))) (now (tokens .entry)) (now (output .entry))) r (now (output .exit)) ⌝ }
+    ensures { λ r. ⌜ ofWritten r ≡ ofWritten (expandGives (lendNames (now (items .entry)) (now (literals .entry)) (now (bytes .entry)) (now (names .entry))) (now (tokens .entry)) (now (output .entry)) .answer) ⌝ }
 {
     let mut rows = [0u32; 640];
     let prepared = prepare(false, items, literals, bytes, names, tokens, &mut rows);
     match prepared {
         Prepared::Refused(refusal) => Written::Refused(refusal),
         Prepared::Rows(_) => {
-            let length = expanded_length(tokens);
+            let mut form = [0u32; 640];
+            let length = write_expanded(tokens, &mut form);
             if output.len() < length {
                 return Written::Refused(Refusal::Room(length));
             }
-            Written::Count(write_expanded(tokens, output))
+            copy(&form[..length], output);
+            Written::Count(length)
         }
     }
 }
@@ -69,6 +72,7 @@ pub fn plan(
     output: &mut [u32],
 ) -> Written
     ensures { λ r. ⌜ Leaves (planGives (lendNames (now (items .entry)) (now (literals .entry)) (now (bytes .entry)) (now (names .entry))) (now (tokens .entry)) (now (output .entry))) r (now (output .exit)) ⌝ }
+    ensures { λ r. ⌜ ofWritten r ≡ ofWritten (planGives (lendNames (now (items .entry)) (now (literals .entry)) (now (bytes .entry)) (now (names .entry))) (now (tokens .entry)) (now (output .entry)) .answer) ⌝ }
 {
     let mut rows = [0u32; 640];
     let prepared = prepare(false, items, literals, bytes, names, tokens, &mut rows);
@@ -106,6 +110,7 @@ pub fn judge<'a>(
     switches: u8,
 ) -> Judged
     ensures { λ r. ⌜ r ≡ judgeGives (lendNames (now (items .entry)) (now (literals .entry)) (now (bytes .entry)) (now (names .entry))) (now (tokens .entry)) (now («record» .entry)) switches ⌝ }
+    ensures { λ r. ⌜ ofVerdict (r .verdict) ≡ ofVerdict (judgeGives (lendNames (now (items .entry)) (now (literals .entry)) (now (bytes .entry)) (now (names .entry))) (now (tokens .entry)) (now («record» .entry)) switches .verdict) ⌝ }
 {
     let mut rows = [0u32; 640];
     let prepared = prepare(false, items, literals, bytes, names, tokens, &mut rows);
@@ -141,6 +146,7 @@ pub fn run<'a>(
     switches: u8,
 ) -> Judged
     ensures { λ r. ⌜ r ≡ runGives (lendNames (now (items .entry)) (now (literals .entry)) (now (bytes .entry)) (now (names .entry))) (now (plan .entry)) (now («record» .entry)) switches ⌝ }
+    ensures { λ r. ⌜ ofVerdict (r .verdict) ≡ ofVerdict (runGives (lendNames (now (items .entry)) (now (literals .entry)) (now (bytes .entry)) (now (names .entry))) (now (plan .entry)) (now («record» .entry)) switches .verdict) ⌝ }
 {
     let tables = check_tables(items, literals, bytes);
     if let Check::Refused(refusal) = tables {

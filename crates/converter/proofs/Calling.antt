@@ -29,7 +29,7 @@ use Rattle.preparer.specs.declared.Prepared.the-variants.{Rows, Refused as Unpr
 use Rattle.preparer.specs.Prepared.{Prepares}
 
 -- a condition
-module _ (lent : Lent) (tokens output : List ℕ) {r : Prepared} {after : List ℕ} (p : Prepares (under true lent) tokens r after) where
+module _ (lent : Lent) (tokens output : List ℕ) {r : Prepared} {before after : List ℕ} (p : Prepares (under true lent) tokens r before after) where
   abbrev numbers : List ℕ
   numbers = convertedTokens tokens
 
@@ -42,7 +42,7 @@ module _ (lent : Lent) (tokens output : List ℕ) {r : Prepared} {after : List �
   pub convert-refused : {refusal : Refusal} → r ≡ Unprepared refusal → Leaves (convertGives lent tokens output) (Unwritten refusal) output
   unfolding convertGives
   convert-refused {refusal} e =
-      let h : firstOf lines ≡ Refused refusal = rw e at (p .readied) in
+      let h : firstOf lines ≡ Refused refusal = (rw e at (p .readied)) .0 in
       leaves-as (rw (lines-before lines rest ∙ line-refused rest h))
 
   module _ {count : ℕ} (e : r ≡ Rows count) {n : ℕ} (s : n ≡ length numbers) where

@@ -1,7 +1,7 @@
 // The expanded form, part by part: a word that stays as it is, or a simple condition with its omitted tokens inserted.
 ghost use mathlib.Core.Path.{_≡_};
 ghost use mathlib.Core.List.{_++_};
-ghost use Prim.Native.Nat.{ℕ, _≤_, _<_};
+ghost use Prim.Native.Nat.{_≤_, _<_};
 ghost use lib.ListN.{length, drop};
 ghost use Rattle.grammar.specs.Expanded.{stated, full-form};
 ghost use Rattle.reader.specs.Reads.{carryOf, Reads};
@@ -51,25 +51,6 @@ fn write_simple(out: &mut [u32], subject: u32, relation: u32, object: u32) -> us
     end
 }
 
-// The length of a simple condition in full, whatever its operands.
-fn simple_width(relation: u32) -> usize
-    ensures { λ r. ⌜ ((a b : ℕ) → r ≡ length (full-form a relation b)) ⌝ }
-{
-    if relation == 0 {
-        return 1;
-    }
-    if relation % 32 < 10 {
-        if relation < 32 {
-            return 3;
-        }
-        return 4;
-    }
-    if relation < 32 {
-        return 2;
-    }
-    3
-}
-
 // A word that stays as it is: a token alone, with the carry that it leaves.
 fn copied(token: u32, next: usize, carry: Carried) -> Single
     ensures { λ r. ⌜ r ≡ Single.Row token 0 0 next carry ⌝ }
@@ -111,36 +92,6 @@ fn read_part(tokens: &[u32], at: usize, carry: Carried) -> Single
         return read_object(tokens, at + 1, carry.subject, here - 262144);
     }
     read_simple(tokens, at, carry)
-}
-
-// How many tokens the expanded form has.
-pub fn expanded_length(tokens: &[u32]) -> usize
-    ensures { λ r. ⌜ r ≡ length (spelled (now (tokens .entry))) ⌝ }
-{
-    let mut at = 0;
-    let mut count: usize = 0;
-    let mut carry = Carried {
-        subject: 0,
-        relation: 0,
-    };
-    while at < tokens.len() {
-        let single = read_part(tokens, at, carry);
-        match single {
-            Single::Stuck(_) => return count,
-            Single::Row {
-                subject: _,
-                relation,
-                object: _,
-                next,
-                carry: kept,
-            } => {
-                count += simple_width(relation);
-                at = next;
-                carry = kept;
-            }
-        }
-    }
-    count
 }
 
 // The expanded form, at the start of the output; and its length.

@@ -2,20 +2,35 @@
 use mathlib.Core.Path.{_≡_, refl, sym, ap, _∙_}
 use mathlib.Core.Logic.{⊎-elim}
 use mathlib.Core.List.{List, [], _∷_, _++_, append-nil, append-assoc, List·Memᴰ, List·Memᴰ·head, List·Memᴰ·append-cases, List·Memᴰ·eq-of-singleton, Memᴰ·cast, Memᴰ·append-left, Memᴰ·append-right}
-use Prim.Native.Nat.{ℕ, zero, suc}
+use mathlib.Core.Bool.{true, false, true≢false}
+use Prim.Native.Nat.{ℕ, zero, suc, _/_, _%_}
 use native.Mathlib.Omega.{arith}
+use native.Mathlib.Decide.{ℕ-discrete}
+use borrow.Author.Tests.{le-ltb}
+use lib.Dec.{ltb}
 use lib.Seq.{append-snoc}
 use Rattle.grammar.specs.Grammar.{Class, operand, switch, closing, not, order, test, Class-discrete, class, Is, Carry, nothing, carried}
-use Rattle.grammar.specs.Grammar.{Tree, simple, Stated, Relation, Simple, Logical, logical, Condition, Chain, Term, Body}
+use Rattle.grammar.specs.Grammar.{Tree, simple, Stated, Relation, Simple, Logical, logical, Condition, Chain, Term, Body, Tabled}
+use Rattle.tables.specs.Tokens.{exists}
 use Rattle.grammar.specs.Parser.{Result, parsed, stuck, Parser, done, fail, continue, _then_, on, object, alone, short-bounded}
 use Rattle.grammar.specs.Parser.{after-operand, parse-simple, parse-condition, parse-chain, parse-term, parse-body}
+use Rattle.grammar.proofs.Spelling.{spelled}
 
 abbrev pub Derived : Type 1
 Derived = List ℕ → Tree → Carry → Type 0
 
--- Every operand of the second list stands in the first.
+-- Every token of the second list that the tables decide of stands in the first.
 abbrev pub Held : List ℕ → List ℕ → Type 0
-Held seen vs = (x : ℕ) → List·Memᴰ x vs → Is operand x → List·Memᴰ x seen
+Held seen vs = (x : ℕ) → List·Memᴰ x vs → Tabled x → List·Memᴰ x seen
+
+-- operands are such tokens
+operand-tabled : (x : ℕ) → Is operand x → Tabled x
+operand-tabled x i =
+    let none : ltb (x % 65536) 0 ≡ false = le-ltb (x % 65536) 0 (omega arith) in
+    elim (ℕ-discrete (x / 65536) 0) [
+      | yes e ↦ rw (e, none)
+      | no n ↦ let e : x / 65536 ≡ 1 = omega (arith, spelled x i) in rw (e, none)
+    ]
 
 -- A carried subject is an operand that has been seen: it can serve as an object.
 pub data Known (seen : List ℕ) : Carry → Type 0 where
@@ -24,13 +39,13 @@ pub data Known (seen : List ℕ) : Carry → Type 0 where
 
 still : {seen us : List ℕ} {c : Carry} → Held us seen → Known seen c → Known us c
 still g none = none
-still g (some {a = a} i s) = some i (g a s i)
+still g (some {a = a} i s) = some i (g a s (operand-tabled a i))
 
 later : {seen : List ℕ} {c : Carry} (us : List ℕ) → Known seen c → Known (seen ++ us) c
 later us k = still (λ x m i. Memᴰ·append-left us m) k
 
 -- Of `D` and the tokens `ts`, before which those of `seen` stand, the result is right: what is read is derived, or begins what
--- is derived and is completed with no operand but what has been seen.
+-- is derived and is completed with no row of a table but what has been seen.
 pub data Outcome (seen : List ℕ) (D : Derived) (ts : List ℕ) : Result → Type 0 where
   derived : {t : Tree} {c : Carry} {rest : List ℕ} (us : List ℕ) →
       ts ≡ us ++ rest → D us t c → Known (seen ++ us) c → Outcome seen D ts (parsed t c rest)
@@ -44,7 +59,7 @@ good-done : {seen : List ℕ} {D : Derived} {t : Tree} {c : Carry} → Known see
 good-done k h ts = derived [] refl h (later _ k)
 
 good-fail : {seen : List ℕ} {D : Derived} (v : ℕ) (t : Tree) (c : Carry) →
-    (Is operand v → List·Memᴰ v seen) → Known seen c → D (v ∷ []) t c → Good seen D fail
+    (Tabled v → List·Memᴰ v seen) → Known seen c → D (v ∷ []) t c → Good seen D fail
 good-fail v t c g k h ts =
     begun [] (v ∷ []) refl h (later _ k) (λ x m i. let e : x ≡ v = List·Memᴰ·eq-of-singleton m in rw append-nil (Memᴰ·cast e (g (rw e at i))))
 
@@ -133,8 +148,8 @@ is-numeric : Is test 262154
 unfolding class
 is-numeric = record { is = refl }
 
-good-word : {seen : List ℕ} {D : Derived} {j : Class} {v : ℕ} (t : Tree) → Is j v → Differ j operand → D (v ∷ []) t nothing → Good seen D fail
-good-word {v} t i d h = good-fail v t nothing (λ e. absurd (apart i d e)) none h
+good-word : {seen : List ℕ} {D : Derived} (v : ℕ) (t : Tree) → exists false 0 0 v ≡ true → D (v ∷ []) t nothing → Good seen D fail
+good-word v t there h = good-fail v t nothing (λ e. absurd (true≢false (sym there ∙ e))) none h
 
 -- The token `x` has been read after the subject.
 good-object : {seen : List ℕ} {D : Derived} {a m : ℕ} (x n : ℕ) → Known seen (carried a m) →
@@ -143,7 +158,7 @@ good-object {a} x n (some i s) h =
     good-on (λ b j. good-done (later _ (later _ (some i s))) (h b j)) (good-fail a _ _ (λ _. Memᴰ·append-left _ s) (later _ (some i s)) (h a i))
 
 good-alone : {seen : List ℕ} (c : Carry) (a : ℕ) → Is operand a → Known seen c → Good seen (λ us. Simple c (a ∷ us)) (alone c a)
-good-alone nothing a i k = good-word _ is-numeric tt (Simple.tested i (Stated.plain is-numeric))
+good-alone nothing a i k = good-word 262154 _ refl (Simple.tested i (Stated.plain is-numeric))
 good-alone (carried b m) a i k = good-done k (Simple.bare i)
 
 good-after-operand : {seen : List ℕ} (c : Carry) (a : ℕ) → Is operand a → List·Memᴰ a seen → Known seen c →
@@ -155,7 +170,7 @@ good-after-operand c a i s k =
     (good-on (λ n h.
     good-on (λ x j. good-object {m = 0} x _ (later _ (some i s)) (λ b l. Simple.full i (Relation.ordered (Stated.with-not h j)) l))
     (good-on (λ x j. good-done none (Simple.tested i (Stated.with-not h j)))
-    (good-word _ is-numeric tt (Simple.tested i (Stated.with-not h is-numeric)))))
+    (good-word 262154 _ refl (Simple.tested i (Stated.with-not h is-numeric)))))
     (good-alone c a i k))))
 
 -- A simple condition, or a body, before which a NOT is logical.
@@ -166,10 +181,10 @@ abbrev Inner : Carry → Derived
 Inner c ts t d = Body c ts t d × Logical ts
 
 good-short-bounded : {seen : List ℕ} (c : Carry) → Known seen c → Good seen (Plain c) (short-bounded c)
-good-short-bounded nothing k = good-word _ is-switch tt (Simple.switched is-switch, is-logical is-switch tt tt)
+good-short-bounded nothing k = good-word 131072 _ refl (Simple.switched is-switch, is-logical is-switch tt tt)
 good-short-bounded (carried a m) k =
     good-on (λ x j. good-object x _ k (λ b l. (Simple.short (Relation.bounded j) l, is-logical j tt tt)))
-    (good-word _ is-switch tt (Simple.switched is-switch, is-logical is-switch tt tt))
+    (good-word 131072 _ refl (Simple.switched is-switch, is-logical is-switch tt tt))
 
 good-simple : {seen : List ℕ} (c : Carry) → Known seen c → Good seen (Plain c) (parse-simple c)
 good-simple {seen} c k =
@@ -184,21 +199,21 @@ mutual
   unfolding parse-condition
 
   pub good-condition : (f : ℕ) {seen : List ℕ} (c : Carry) → Known seen c → Good seen (Condition c) (parse-condition f c)
-  good-condition zero c k = good-word _ is-switch tt (Condition.chain (Chain.term (Term.body (a-body c))))
+  good-condition zero c k = good-word 131072 _ refl (Condition.chain (Chain.term (Term.body (a-body c))))
   good-condition (suc f) c k =
       good-then (good-chain f c k) (λ us t d h l.
       good-on (λ o i. good-then (good-condition f d (later _ l)) (λ vs u e g m. good-done m (rw append-nil (Condition.ors h i g))))
       (good-done l (rw append-nil (Condition.chain h))))
 
   pub good-chain : (f : ℕ) {seen : List ℕ} (c : Carry) → Known seen c → Good seen (Chain c) (parse-chain f c)
-  good-chain zero c k = good-word _ is-switch tt (Chain.term (Term.body (a-body c)))
+  good-chain zero c k = good-word 131072 _ refl (Chain.term (Term.body (a-body c)))
   good-chain (suc f) c k =
       good-then (good-term f c k) (λ us t d h l.
       good-on (λ o i. good-then (good-chain f d (later _ l)) (λ vs u e g m. good-done m (rw append-nil (Chain.ands h i g))))
       (good-done l (rw append-nil (Chain.term h))))
 
   pub good-term : (f : ℕ) {seen : List ℕ} (c : Carry) → Known seen c → Good seen (Term c) (parse-term f c)
-  good-term zero c k = good-word _ is-switch tt (Term.body (a-body c))
+  good-term zero c k = good-word 131072 _ refl (Term.body (a-body c))
   good-term (suc f) nothing k =
       good-on (λ n i. good-then (good-body f nothing none) (λ us t d h l. good-done l (rw append-nil (Term.negation i (h .1) (h .0)))))
       (good-as (λ us t d h. Term.body (h .0)) (good-body f nothing none))
@@ -210,9 +225,9 @@ mutual
       (good-as (λ us t d h. Term.body (h .0)) (good-body f (carried a m) k)))
 
   pub good-body : (f : ℕ) {seen : List ℕ} (c : Carry) → Known seen c → Good seen (Inner c) (parse-body f c)
-  good-body zero c k = good-word _ is-switch tt (a-body c, is-logical is-switch tt tt)
+  good-body zero c k = good-word 131072 _ refl (a-body c, is-logical is-switch tt tt)
   good-body (suc f) c k =
       good-on (λ l i. good-then (good-condition f nothing none) (λ us t d h m.
       good-on (λ r j. good-done none (Body.brackets i h j, is-logical i tt tt))
-      (good-word _ is-closing tt (Body.brackets i h is-closing, is-logical i tt tt))))
+      (good-word 262145 _ refl (Body.brackets i h is-closing, is-logical i tt tt))))
       (good-as (λ us t d h. (Body.one (h .0), h .1)) (good-simple c k))

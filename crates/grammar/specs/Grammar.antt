@@ -1,9 +1,10 @@
 -- Document 01, "The condition grammar": which token sequences derive which tree. One constructor for each sentence.
 use mathlib.Core.Path.{_≡_}
+use mathlib.Core.Bool.{false}
 use mathlib.Core.List.{List, [], _∷_, _++_, List·Memᴰ}
 use Prim.Native.Nat.{ℕ, _+_, _≤_}
 use lib.ListN.{length, take, getD}
-use Rattle.tables.specs.Tokens.{kindOf, indexOf}
+use Rattle.tables.specs.Tokens.{kindOf, indexOf, exists}
 
 -- What a token is to the grammar. `order` is > < =, each "with or without NOT before it"; `bound` is >= <=, "without"; `test`
 -- is a class word or a sign word; `name` is a condition-name (02, h).
@@ -108,10 +109,14 @@ pub record Begins (ts : List ℕ) : Type 0 where
   pub tree : Tree
   pub derives : Derives (ts ++ more) tree
 
--- The same, completed by words, switches and operands that the beginning itself holds: so the tables do not matter.
+-- a token that does not exist where the tables are empty: words and switches, "v 0 to 7", exist whatever the tables are
+abbrev pub Tabled : ℕ → Type 0
+Tabled token = exists false 0 0 token ≡ false
+
+-- The same, completed by words and switches that exist and by tokens that the beginning itself holds: so the tables do not matter.
 pub record Completes (ts : List ℕ) : Type 0 where
   pub begins : Begins ts
-  pub held : (x : ℕ) → List·Memᴰ x (begins .more) → Is operand x → List·Memᴰ x ts
+  pub held : (x : ℕ) → List·Memᴰ x (begins .more) → Tabled x → List·Memᴰ x ts
 
 -- Refusal 7's place: "length of the longest beginning that some derived sequence shares"
 pub record Place (ts : List ℕ) (n : ℕ) : Type 0 where

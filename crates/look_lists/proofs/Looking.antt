@@ -185,9 +185,9 @@ unfolding lookedPlanGives
 run-refused lent plan content switches output e = list-refused (runLines lent plan content) (lookedAtPlan lent plan content switches) output e
 
 -- a condition that is refused before it is judged
-module _ {lent : Lent} {tokens : List ℕ} {r : Prepared} {after : List ℕ} (p : Prepares lent tokens r after) {refusal : Refusal} (e : r ≡ Unprepared refusal) where
+module _ {lent : Lent} {tokens : List ℕ} {r : Prepared} {before after : List ℕ} (p : Prepares lent tokens r before after) {refusal : Refusal} (e : r ≡ Unprepared refusal) where
   lines-refuse : firstOf (conditionLines lent tokens) ≡ Refused refusal
-  lines-refuse = rw e at (p .readied)
+  lines-refuse = (rw e at (p .readied)) .0
 
   pub named-refused : (output : List ℕ) → Leaves (namedGives lent tokens output) (Unwritten refusal) output
   unfolding namedGives
@@ -200,7 +200,7 @@ module _ {lent : Lent} {tokens : List ℕ} {r : Prepared} {after : List ℕ} (p 
       (lines-before (conditionLines lent tokens) (recordCheck lent content ∷ []) ∙ line-refused _ lines-refuse)
 
 -- one that is not
-module _ {lent : Lent} {tokens : List ℕ} {r : Prepared} {after : List ℕ} (p : Prepares lent tokens r after) {count : ℕ} (e : r ≡ Rows count) where
+module _ {lent : Lent} {tokens : List ℕ} {r : Prepared} {before after : List ℕ} (p : Prepares lent tokens r before after) {count : ℕ} (e : r ≡ Rows count) where
   pub rows-markable : AllMarkable (lent .names) 64 (take (count * 5) after)
   rows-markable =
       let y = ready p e in

@@ -1,11 +1,11 @@
 -- What each `return` of the cycle shows, and each turn of its loops: its answer is the parser's, since the answers of the calls
 -- before it are.
-use mathlib.Core.Path.{_≡_, refl, ap, _∙_}
+use mathlib.Core.Path.{_≡_, refl, sym, ap, _∙_}
 use mathlib.Core.List.{List, _++_, map, append-assoc}
 use Prim.Native.Nat.{ℕ, zero, suc, _+_, _*_, _-_, _≤_, _<_}
 use native.Mathlib.Omega.{arith}
-use lib.ListN.{length, take, drop, length-drop, drop-of-length-le}
-use lib.Seq.{length-take-le}
+use lib.ListN.{length, take, drop, length-drop, drop-of-length-le, take-append-drop}
+use lib.Seq.{length-take-le, take-take, take-at}
 use Rattle.reader.specs.declared.Carried.{Carried}
 use Rattle.reader.specs.declared.Single.{Single}
 use Rattle.reader.specs.declared.Single.the-variants.{Row, Stuck as Lost}
@@ -18,18 +18,19 @@ use Rattle.grammar.specs.Judging.{leaves}
 use Rattle.grammar.specs.Plan.{onTrue, onFalse, rowsOf, flat, planned}
 use Rattle.reader.specs.Reads.{tok, carryOf, Reads}
 use Rattle.plans.specs.Rows.{retargeted, Turned}
-use Rattle.parser.specs.Parses.{Placeable, Placed, Told, placeOf, Fits, Room, Plans, Whole, Parses}
+use Rattle.parser.specs.Parses.{Placeable, Placed, Laid, Told, placeOf, Partly, Fits, Room, Plans, Whole, Parses}
 use Rattle.grammar.proofs.Sound.{Differ}
 use Rattle.grammar.proofs.Spelling.{is-or, is-and, is-not, is-opening, is-closing, or-token, and-token, not-token, opening-token, closing-token}
 use Rattle.plans.proofs.Retarget.{rows-bracketed, rows-negated, rows-both, rows-either}
-use Rattle.plans.proofs.Buffer.{flat-append}
+use Rattle.grammar.proofs.Segment.{rows-count}
+use Rattle.plans.proofs.Buffer.{flat-append, earlier-front, later-rest, added-parts, turned-rows}
 use Rattle.reader.proofs.Looking.{stands, from-here, take-on, pass-on}
 use Rattle.reader.proofs.Resolving.{at-short, at-no-short}
 
 -- each level takes one unit of fuel
 plans : {parser : ℕ → Carry → Parser} {level at row : ℕ} {tokens before after : List ℕ} {c : Carried} {r : Answer} →
     ((f : ℕ) → 4 * (length tokens - at) + level ≤ f → Told tokens row before after r (parser (suc f) (carryOf c) (drop at tokens))) →
-    at ≤ placeOf r → placeOf r ≤ length tokens → Fits row r → Plans parser level tokens at c row before r after
+    at ≤ placeOf r → placeOf r ≤ length tokens → Fits row before after r → Plans parser level tokens at c row before r after
 plans {parser} {level} {at} {row} {tokens} {before} {after} {c} {r} h from upto fits = record { told = told; from = from; upto = upto; fits = fits }
   where
     told : (f : ℕ) → 4 * (length tokens - at) + level < f → Told tokens row before after r (parser f (carryOf c) (drop at tokens))
@@ -57,16 +58,55 @@ pub chains : Joins and 262147 both (λ r. r) (λ _. onFalse) parse-term parse-ch
 unfolding parse-condition leaves
 chains = record { word = tt; is = is-and; token = and-token; step = λ f c ts. refl; rows = rows-both; size = λ t u. refl }
 
--- the rows of a part, retargeted
-turned-rows : {y n at row next : ℕ} {tokens before middle after : List ℕ} (t : Tree) → Room tokens at row before → Turned y n next after middle row →
-    take (next * 5) middle ≡ take (row * 5) before ++ flat (rowsOf row onTrue onFalse t) →
-    take (next * 5) after ≡ take (row * 5) before ++ flat (map (retargeted y n) (rowsOf row onTrue onFalse t))
-turned-rows {row} {before} t room h e = h .turned (take (row * 5) before) (rowsOf row onTrue onFalse t) e (length-take-le (row * 5) before (omega arith))
+row-room : {tokens before : List ℕ} {at row : ℕ} → Room tokens at row before → row * 5 ≤ length before
+row-room room = omega (arith, room .within, room .short, room .few, room .wide)
 
--- an answer for later rows serves for earlier ones
-fits-more : (row next : ℕ) (r : Answer) → row ≤ next → Fits next r → Fits row r
-fits-more row next (Parsed p c n) l h = omega arith
-fits-more row next (Stuck p) l h = tt
+-- rows that stand after those before `row` leave these alone
+rows-front : (row next : ℕ) (before after rows : List ℕ) → row ≤ next → row * 5 ≤ length before → take (next * 5) after ≡ take (row * 5) before ++ rows →
+    take (row * 5) after ≡ take (row * 5) before
+rows-front row next before after rows l h e =
+    sym (take-take (row * 5) (next * 5) after (omega arith))
+    ∙ ap (take (row * 5)) e
+    ∙ take-at (take (row * 5) before) rows (row * 5) (length-take-le (row * 5) before h)
+
+-- the rows of a part, retargeted
+turned-laid : (y n : ℕ) {tokens before middle between : List ℕ} {at row next p : ℕ} {d : Carried} {o : Result} → Room tokens at row before →
+    (t : Laid tokens row before middle p d next o) → Turned y n next between middle row →
+    (take (next * 5) between ≡ take (row * 5) before ++ flat (map (retargeted y n) (rowsOf row onTrue onFalse (t .tree))))
+    × (drop (next * 5) between ≡ drop (next * 5) before)
+turned-laid y n {before = before} {middle = middle} {row = row} {next = next} room t turned =
+    let rows = rowsOf row onTrue onFalse (t .tree) in
+    let (front, rest) = turned-rows y n row next middle (take (row * 5) before) rows turned (t .rows)
+    (length-take-le (row * 5) before (row-room room)) (omega (arith, t .count, rows-count row onTrue onFalse (t .tree))) in
+    (front, rest ∙ t .rest)
+
+-- a part that is read through, and after which nothing goes on
+partly : {parser : ℕ → Carry → Parser} {level first at row p next : ℕ} {tokens before after : List ℕ} {c d : Carried} → Room tokens first row before →
+    Plans parser level tokens at c row before (Parsed p d next) after → Partly row p before after
+partly {level = level} {at = at} {next = next} {tokens = tokens} room h =
+    let t = h .told (4 * (length tokens - at) + level + 1) (omega arith) in
+    record {
+      upto = next;
+      since = h .fits .0;
+      few = h .fits .1;
+      most = omega (arith, h .fits, h .upto, room .short);
+      front = rows-front _ next _ _ _ (h .fits .0) (row-room room) (t .rows);
+      rest = t .rest;
+    }
+
+-- an answer for later rows serves for earlier ones, after a part that left the rows before it alone
+fits-more : (row next : ℕ) (before between after : List ℕ) (r : Answer) → row ≤ next → take (row * 5) between ≡ take (row * 5) before →
+    drop (next * 5) between ≡ drop (next * 5) before → Fits next between after r → Fits row before after r
+fits-more row next before between after (Parsed p c n) l front rest h = omega arith
+fits-more row next before between after (Stuck p) l front rest h =
+    record {
+      upto = h .upto;
+      since = omega (arith, h .since);
+      few = h .few;
+      most = h .most;
+      front = earlier-front after between (row * 5) (next * 5) (omega arith) (h .front) ∙ front;
+      rest = h .rest ∙ later-rest between before (next * 5) (h .upto * 5) (omega (arith, h .since)) rest;
+    }
 
 -- What a loop over the parts has shown where the next one starts: an answer from there on is an answer from the first part on.
 pub record Continues (parser : ℕ → Carry → Parser) (level : ℕ) (tokens : List ℕ) (at : ℕ) (c : Carried) (row : ℕ) (before : List ℕ)
@@ -93,7 +133,7 @@ module _ {k : Class} {w : ℕ} {join : Tree → Tree → Tree} {y n : ℕ → �
       plans
       (λ f l.
       let g = h .told f (omega arith) in
-      record { tree = g .tree; gives = j .step f _ _ ∙ rw (g .gives) (pass-on tokens p e (λ s. i (j .token _ s)) _ _); count = g .count; rows = g .rows })
+      record { tree = g .tree; gives = j .step f _ _ ∙ rw (g .gives) (pass-on tokens p e (λ s. i (j .token _ s)) _ _); count = g .count; rows = g .rows; rest = g .rest })
       (h .from)
       (h .upto)
       (h .fits)
@@ -101,9 +141,10 @@ module _ {k : Class} {w : ℕ} {join : Tree → Tree → Tree} {y n : ℕ → �
   -- the rest is told of its own rows: those of the part, retargeted, stand before them
   joined : (tokens before between after : List ℕ) (row next : ℕ) (t : Tree) → next ≡ row + leaves t → next ≤ onFalse →
       take (next * 5) between ≡ take (row * 5) before ++ flat (map (retargeted (y next) (n next)) (rowsOf row onTrue onFalse t)) →
+      drop (next * 5) between ≡ drop (next * 5) before →
       (r : Answer) (o : Result) → Told tokens next between after r o → Told tokens row before after r (continue o (λ u e. done (join t u) e))
-  joined tokens before between after row next t e l h (Stuck p) o g = rw g
-  joined tokens before between after row next t e l h (Parsed p d m) o g =
+  joined tokens before between after row next t e l h k (Stuck p) o g = rw g
+  joined tokens before between after row next t e l h k (Parsed p d m) o g =
       let u = g .tree in
       let first = map (retargeted (y next) (n next)) (rowsOf row onTrue onFalse t) in
       let rest = rowsOf next onTrue onFalse u in
@@ -113,23 +154,26 @@ module _ {k : Class} {w : ℕ} {join : Tree → Tree → Tree} {y n : ℕ → �
         gives = rw (g .gives);
         count = rw (j .size) (omega (arith, g .count));
         rows = g .rows ∙ rw (h, both-rows, flat-append) (append-assoc (take (row * 5) before) (flat first) (flat rest));
+        rest = g .rest ∙ later-rest between before (next * 5) (m * 5) (omega (arith, g .count)) k;
       }
 
   joins-more : {level at row p next x : ℕ} {tokens before middle between after : List ℕ} {c d : Carried} {r : Answer} →
       Room tokens at row before → Plans lower level tokens at c row before (Parsed p d next) middle → x ≡ tok tokens p → x ≡ w →
       Turned (y next) (n next) next between middle row → Plans self (level + 1) tokens (p + 1) d next between r after →
       Plans self (level + 1) tokens at c row before r after
-  joins-more {row} {p} {next} {tokens} {before} {between} {after} {r} room h e i turned g =
+  joins-more {level} {at} {row} {p} {next} {tokens = tokens} {before = before} {between = between} {after = after} {r = r} room h e i turned g =
       let low : p < length tokens = stands tokens p e (j .is _ i) (j .word) in
+      let once = h .told (4 * (length tokens - at) + level + 1) (omega arith) in
+      let (first, rest) = turned-laid (y next) (n next) room once turned in
       plans
       (λ f l.
       let t = h .told f (omega arith) in
+      let (first, rest) = turned-laid (y next) (n next) room t turned in
       rw (j .step, t .gives, take-on tokens p e (j .is _ i) (j .word))
-      (joined tokens before between after row next (t .tree) (t .count) (omega arith) (turned-rows (t .tree) room turned (t .rows)) r _
-      (g .told f (omega arith))))
+      (joined tokens before between after row next (t .tree) (t .count) (omega arith) first rest r _ (g .told f (omega arith))))
       (omega (arith, g .from))
       (g .upto)
-      (fits-more row next r (omega arith) (g .fits))
+      (fits-more row next before between after r (omega arith) (rows-front row next before between _ (omega arith) (row-room room) first) rest (g .fits))
 
   pub joins-on : {level at row start first p next x : ℕ} {tokens before begun middle between : List ℕ} {c held d : Carried} →
       Continues self (level + 1) tokens at c row before start held first begun →
@@ -156,8 +200,13 @@ pub single : {parser : ℕ → Carry → Parser} {q : Parser} {level at from row
 unfolding leaves
 single (Row a n b p d) room h placed l step =
     rw (placed .0)
-    (plans (λ f _. record { tree = simple a n b; gives = step f ∙ h .found; count = refl; rows = placed .1 }) (omega arith) (omega arith) (omega arith))
-single (Lost p) room h placed l step = rw placed (plans (λ f _. step f ∙ h .found) (omega arith) (omega arith) tt)
+    (plans (λ f _. let (front, rest) = added-parts _ _ _ _ _ (row-room room) (placed .1) in
+    record { tree = simple a n b; gives = step f ∙ h .found; count = refl; rows = front; rest = rest }) (omega arith) (omega arith) (omega arith))
+single {row = row} {before = before} (Lost p) room h placed l step =
+    let same = placed .1 in
+    rw (placed .0)
+    (plans (λ f _. step f ∙ h .found) (omega arith) (omega arith)
+    (record { upto = row; since = omega arith; few = omega (arith, room .few, h .from); most = omega (arith, room .few, room .within, room .short); front = rw same; rest = rw same }))
 
 -- a term, by its first token
 module _ (tokens : List ℕ) (at : ℕ) (c : Carried) {x : ℕ} (e : x ≡ tok tokens at) where
@@ -193,7 +242,7 @@ module _ (tokens : List ℕ) (at : ℕ) (c : Carried) {x : ℕ} (e : x ≡ tok t
 
       pub term-not-stuck : {row p : ℕ} {before after : List ℕ} →
           Plans parse-body 0 tokens (at + 1) c row before (Stuck p) after → Plans parse-term 1 tokens at c row before (Stuck p) after
-      term-not-stuck h = plans (λ f l. term-not f ∙ rw (h .told f (omega arith))) (omega (arith, h .from)) (h .upto) tt
+      term-not-stuck h = plans (λ f l. term-not f ∙ rw (h .told f (omega arith))) (omega (arith, h .from)) (h .upto) (h .fits)
 
       pub term-not-row : {row p next : ℕ} {before middle after : List ℕ} {k : Carried} → Room tokens at row before →
           Plans parse-body 0 tokens (at + 1) c row before (Parsed p k next) middle → Turned onFalse onTrue next after middle row →
@@ -203,11 +252,13 @@ module _ (tokens : List ℕ) (at : ℕ) (c : Carried) {x : ℕ} (e : x ≡ tok t
           plans
           (λ f l.
           let t = h .told f (omega arith) in
+          let (front, rest) = turned-laid onFalse onTrue room t turned in
           record {
             tree = negated (t .tree);
             gives = term-not f ∙ rw (t .gives);
             count = t .count;
-            rows = rw (rows-negated row (t .tree) (omega (arith, t .count))) (turned-rows (t .tree) room turned (t .rows));
+            rows = rw (rows-negated row (t .tree) (omega (arith, t .count))) front;
+            rest = rest;
           })
           (omega arith)
           (omega arith)
@@ -236,7 +287,7 @@ module _ (tokens : List ℕ) (at : ℕ) (c : Carried) {x : ℕ} (e : x ≡ tok t
     pub body-stuck : {row p : ℕ} {before after : List ℕ} →
         Plans parse-condition 3 tokens (at + 1) none row before (Stuck p) after → Plans parse-body 0 tokens at c row before (Stuck p) after
     unfolding carryOf
-    body-stuck h = plans (λ f l. body-open f ∙ rw (h .told f (omega (arith, low)))) (omega (arith, h .from)) (h .upto) tt
+    body-stuck h = plans (λ f l. body-open f ∙ rw (h .told f (omega (arith, low)))) (omega (arith, h .from)) (h .upto) (h .fits)
 
     module _ {row p next z : ℕ} {before after : List ℕ} {d : Carried}
         (h : Plans parse-condition 3 tokens (at + 1) none row before (Parsed p d next) after) (y : z ≡ tok tokens p) where
@@ -251,37 +302,41 @@ module _ (tokens : List ℕ) (at : ℕ) (c : Carried) {x : ℕ} (e : x ≡ tok t
             gives = body-open f ∙ rw (t .gives) (take-on tokens p y (is-closing z k) tt _ _);
             count = t .count;
             rows = rw rows-bracketed (t .rows);
+            rest = t .rest;
           })
           (omega arith)
           (omega (arith, stands tokens p y (is-closing z k) tt))
           (omega arith)
 
-      pub body-not-shut : (z ≡ 262145 → ⊥) → Plans parse-body 0 tokens at c row before (Stuck p) after
+      pub body-not-shut : Room tokens at row before → (z ≡ 262145 → ⊥) → Plans parse-body 0 tokens at c row before (Stuck p) after
       unfolding carryOf
-      body-not-shut k =
+      body-not-shut room k =
           plans
           (λ f l. body-open f ∙ rw (h .told f (omega (arith, low)) .gives) (pass-on tokens p y {k = closing} (λ i. k (closing-token z i)) _ _))
           (omega arith)
           (omega arith)
-          tt
+          (partly room h)
 
 -- a whole sequence, of which all is read, or a part
 module _ {tokens before after : List ℕ} where
-  pub whole-stuck : {p : ℕ} → Plans parse-condition 3 tokens 0 none 0 before (Stuck p) after → Parses tokens (Refused p) after
+  pub whole-stuck : {p : ℕ} → Plans parse-condition 3 tokens 0 none 0 before (Stuck p) after → Parses tokens (Refused p) before after
   unfolding read carryOf Whole
-  whole-stuck {p} h = rw (h .told (4 * length tokens + 4) (omega arith), length-drop) (ap Refused (omega (arith, h .upto)))
+  whole-stuck {p} h =
+      let e : length tokens - (length tokens - p) ≡ p = omega (arith, h .upto) in
+      rw (h .told (4 * length tokens + 4) (omega arith), length-drop, e) (refl, h .fits)
 
   module _ {p n : ℕ} {d : Carried} (h : Plans parse-condition 3 tokens 0 none 0 before (Parsed p d n) after) where
-    pub whole-part : (p ≡ length tokens → ⊥) → Parses tokens (Refused p) after
+    pub whole-part : Room tokens 0 0 before → (p ≡ length tokens → ⊥) → Parses tokens (Refused p) before after
     unfolding read carryOf Whole
-    whole-part g =
-        rw (h .told (4 * length tokens + 4) (omega arith) .gives, from-here tokens p refl (omega (arith, h .upto)))
-        (ap Refused (omega (arith, length-drop (p + 1) tokens, h .upto)))
+    whole-part room g =
+        let e : length tokens - suc (length (drop (p + 1) tokens)) ≡ p = omega (arith, length-drop (p + 1) tokens, h .upto) in
+        rw (h .told (4 * length tokens + 4) (omega arith) .gives, from-here tokens p refl (omega (arith, h .upto)), e) (refl, partly room h)
 
-    pub whole-read : p ≡ length tokens → Parses tokens (Accepted n) after
+    pub whole-read : p ≡ length tokens → Parses tokens (Accepted n) before after
     unfolding read carryOf Whole planned
     whole-read g =
         let t = h .told (4 * length tokens + 4) (omega arith) in
         let m : n ≡ leaves (t .tree) = omega (arith, t .count) in
         let l : length tokens ≤ p = omega arith in
-        rw (t .gives, drop-of-length-le tokens l, ← m) (refl, t .rows)
+        rw (t .gives, drop-of-length-le tokens l, ← m)
+        (refl, sym (take-append-drop (n * 5) after) ∙ ap (λ w. w ++ drop (n * 5) after) (t .rows) ∙ ap (λ w. flat (rowsOf 0 onTrue onFalse (t .tree)) ++ w) (t .rest))

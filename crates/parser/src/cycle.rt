@@ -1,7 +1,6 @@
 // Condition, chain, term and body call each other over the tokens. Each writes the rows of what it reads as if it were the whole
 // condition; whoever called it turns their verdicts into the targets that they lead to. A condition loops over its chains and a
 // chain over its terms, so that only a bracket takes more of the stack.
-ghost use mathlib.Core.Path.{_≡_};
 ghost use Prim.Native.Nat.{_≤_};
 ghost use lib.ListN.{length};
 ghost use Rattle.grammar.specs.Parser.{parse-condition, parse-chain, parse-term, parse-body};
@@ -173,7 +172,7 @@ fn put_single(single: Single, row: usize, rows: &mut [u32]) -> Answer
 // The plan's rows of a whole sequence, from the start of the buffer, or refusal 7's place.
 pub fn parse(tokens: &[u32], rows: &mut [u32]) -> Parse
     requires { ⌜ (length (now tokens) ≤ 256) × (640 ≤ length (now rows)) ⌝ }
-    ensures { λ r. ⌜ Parses (now (tokens .entry)) r (now (rows .exit)) ⌝ }
+    ensures { λ r. ⌜ Parses (now (tokens .entry)) r (now (rows .entry)) (now (rows .exit)) ⌝ }
 {
     let nothing = Carried {
         subject: 0,

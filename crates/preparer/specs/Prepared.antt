@@ -2,9 +2,10 @@
 -- buffer.
 use mathlib.Core.Path.{_≡_}
 use mathlib.Core.Bool.{Bool}
-use mathlib.Core.List.{List, [], _∷_}
+use mathlib.Core.List.{List, [], _++_}
 use Prim.Native.Nat.{ℕ, suc, _*_}
-use lib.ListN.{length, take}
+use lib.ListN.{length, drop}
+use Rattle.tables.specs.declared.Refusal.{Refusal}
 use Rattle.tables.specs.declared.Refusal.the-variants.{Grammar}
 use Rattle.tables.specs.declared.Check.{Check}
 use Rattle.tables.specs.declared.Check.the-variants.{Sound, Refused}
@@ -19,7 +20,7 @@ use Rattle.grammar.specs.Judging.{leaves}
 use Rattle.grammar.specs.Plan.{planned}
 use Rattle.preparer.specs.declared.Prepared.{Prepared}
 use Rattle.preparer.specs.declared.Prepared.the-variants.{Rows, Refused as Unprepared}
-use Rattle.rules.specs.Calls.{grammarLines, conditionLines}
+use Rattle.rules.specs.Calls.{tokenLines, grammarLines, conditionLines}
 
 -- every token exists, whatever the names are, by the rules with or without the switch-off words: 7 to 9 do not ask for them
 pub record There (items literals tokens : List ℕ) : Type 0 where
@@ -37,22 +38,24 @@ abbrev pub parsedTokens : List ℕ → Check → ℕ
 parsedTokens tokens Sound = length tokens
 parsedTokens tokens (Refused eight) = suc (place eight)
 
--- so many rows of a tree stand at the start of the buffer
-pub record Stands (reading : Reading) (count : ℕ) (after : List ℕ) : Type 0 where
+-- the buffer is so many rows of a tree, and then as it was
+pub record Stands (reading : Reading) (count : ℕ) (before after : List ℕ) : Type 0 where
   pub tree : Tree
   pub read-as : reading ≡ accepted tree
   pub counted : count ≡ leaves tree
-  pub rows : take (count * 5) after ≡ planned tree
+  pub rows : after ≡ planned tree ++ drop (count * 5) before
 
--- what is prepared: the refusal of the lines, or the rows
-abbrev pub Readies : Check → Reading → Prepared → List ℕ → Type 0
-Readies check reading (Unprepared refusal) after = check ≡ Refused refusal
-Readies check reading (Rows count) after = (check ≡ Sound) × Stands reading count after
+-- What is prepared: the refusal of the lines, or the rows. Of a condition that is refused the first 640 numbers of the buffer,
+-- 128 rows, are free: there may stand rows of what was parsed.
+abbrev pub Readies : Check → Reading → Prepared → List ℕ → List ℕ → Type 0
+Readies check reading (Unprepared refusal) before after = (check ≡ Refused refusal) × (drop 640 after ≡ drop 640 before)
+Readies check reading (Rows count) before after = (check ≡ Sound) × Stands reading count before after
 
 -- 7 to 9
-pub record Resolves (lent : Lent) (tokens : List ℕ) (r : Prepared) (after : List ℕ) : Type 0 where
-  pub readied : Readies (firstOf (grammarLines lent tokens)) (read tokens) r after
+pub record Resolves (lent : Lent) (tokens : List ℕ) (r : Prepared) (before after : List ℕ) : Type 0 where
+  pub readied : Readies (firstOf (grammarLines lent tokens)) (read tokens) r before after
 
--- 1 to 9 and 18
-pub record Prepares (lent : Lent) (tokens : List ℕ) (r : Prepared) (after : List ℕ) : Type 0 where
-  pub readied : Readies (firstOf (conditionLines lent tokens)) (read tokens) r after
+-- 1 to 9 and 18; what 1 to 6 or 18 refuse leaves the buffer as it was
+pub record Prepares (lent : Lent) (tokens : List ℕ) (r : Prepared) (before after : List ℕ) : Type 0 where
+  pub readied : Readies (firstOf (conditionLines lent tokens)) (read tokens) r before after
+  pub untouched : {refusal : Refusal} → firstOf (tokenLines lent tokens) ≡ Refused refusal → after ≡ before

@@ -81,7 +81,7 @@ fn parsed_tokens(tokens: &[u32], depth: Check) -> usize
 // 7 to 9, of tokens that 1 to 6 do not refuse: the names do not matter any more.
 fn resolve(items: &[u32], literals: &[u32], tokens: &[u32], rows: &mut [u32]) -> Prepared
     requires { ⌜ (length (now tokens) ≤ 256) × There (now items) (now literals) (now tokens) × (640 ≤ length (now rows)) ⌝ }
-    ensures { λ r. ⌜ Resolves (lend (now (items .entry)) (now (literals .entry)) []) (now (tokens .entry)) r (now (rows .exit)) ⌝ }
+    ensures { λ r. ⌜ Resolves (lend (now (items .entry)) (now (literals .entry)) []) (now (tokens .entry)) r (now (rows .entry)) (now (rows .exit)) ⌝ }
 {
     let depth = check_depth(tokens);
     let end = parsed_tokens(tokens, depth);
@@ -113,7 +113,7 @@ pub fn prepare(
     rows: &mut [u32],
 ) -> Prepared
     requires { ⌜ 640 ≤ length (now rows) ⌝ }
-    ensures { λ r. ⌜ Prepares (under off (lendNames (now (items .entry)) (now (literals .entry)) (now (bytes .entry)) (now (names .entry)))) (now (tokens .entry)) r (now (rows .exit)) ⌝ }
+    ensures { λ r. ⌜ Prepares (under off (lendNames (now (items .entry)) (now (literals .entry)) (now (bytes .entry)) (now (names .entry)))) (now (tokens .entry)) r (now (rows .entry)) (now (rows .exit)) ⌝ }
 {
     let lent = check_lent(off, items, literals, bytes, names, tokens);
     match lent {

@@ -5,7 +5,7 @@ use mathlib.Core.List.{List}
 use Prim.Native.Nat.{ℕ, _+_, _-_, _≤_, _<_, _%_}
 use native.Mathlib.Omega.{arith}
 use native.Mathlib.Decide.{ℕ-discrete, decLe}
-use borrow.Author.Tests.{leb-true, leb-false, le-leb, eq-eqb, ne-eqb, eqb-false, not-true}
+use borrow.Author.Tests.{eq-eqb, ne-eqb, eqb-false, not-true}
 use lib.ListN.{length, drop}
 use lib.Dec.{eqb}
 use Rattle.typing.specs.Tests.{within}
@@ -15,24 +15,10 @@ use Rattle.reader.specs.declared.Single.the-variants.{Row, Stuck}
 use Rattle.grammar.specs.Grammar.{operand, switch, not, order, bound, test, name, Is, Carry, nothing, carried, simple}
 use Rattle.grammar.specs.Parser.{Parser, parsed, stuck, object, alone, short-bounded, short-ordered, after-operand, parse-simple}
 use Rattle.reader.specs.Reads.{tok, carryOf, Reads}
-use Rattle.grammar.proofs.Spelling.{operand-token, switch-token, not-token, order-token, bound-token, test-token, name-token}
-use Rattle.grammar.proofs.Spelling.{is-operand, is-switch, is-not, is-order, is-bound, is-test, is-name}
+use Rattle.grammar.proofs.Spelling.{not-token, order-token, bound-token, test-token}
+use Rattle.grammar.proofs.Spelling.{is-not, is-order, is-bound, is-test}
 use Rattle.reader.proofs.Looking.{inside, look, pass-on}
-
--- two flags
-pub and-true : (s t : Bool) → (s && t) ≡ true → (s ≡ true) × (t ≡ true)
-and-true true t e = (refl, e)
-and-true false t e = let z : _≡_ {A = ℕ} 0 1 = cc in absurd (omega arith)
-
-pub and-false : (s t : Bool) → (s && t) ≡ false → s ≡ true → t ≡ false
-and-false true t e h = e
-and-false false t e h = let z : _≡_ {A = ℕ} 0 1 = cc in absurd (omega arith)
-
-pub within-true : (low high x : ℕ) → within low high x ≡ true → (low ≤ x) × (x ≤ high)
-within-true low high x e = let (l, h) = and-true _ _ e in (leb-true low x l, leb-true x high h)
-
-pub within-false : (low high x : ℕ) → within low high x ≡ false → low ≤ x → high < x
-within-false low high x e l = leb-false x high (and-false _ _ e (le-leb low x l))
+use Rattle.reader.proofs.Classes.{and-true, within-true, within-false}
 
 -- A word that is found stands within the tokens.
 abbrev pub Here : List ℕ → ℕ → ℕ → ℕ → ℕ → Type 0
@@ -99,11 +85,11 @@ module _ (q : Parser) (least : ℕ) (tokens : List ℕ) (at : ℕ) where
 
 module _ (tokens : List ℕ) (at : ℕ) {x : ℕ} (e : x ≡ tok tokens at) where
   -- the object of a relation
-  pub at-object : (a n : ℕ) → x < 131072 → object a n (drop at tokens) ≡ parsed (simple a n x) (carried a n) (drop (at + 1) tokens)
-  at-object a n l = simp (look tokens at e (is-operand x l) tt)
+  pub at-object : (a n : ℕ) → Is operand x → object a n (drop at tokens) ≡ parsed (simple a n x) (carried a n) (drop (at + 1) tokens)
+  at-object a n i = simp (look tokens at e i tt)
 
-  pub at-no-object : (a n : ℕ) → 131072 ≤ x → object a n (drop at tokens) ≡ stuck (drop at tokens)
-  at-no-object a n l = simp (pass-on tokens at e (λ (i : Is operand x). omega (arith, operand-token x i)))
+  pub at-no-object : (a n : ℕ) → ¬ Is operand x → object a n (drop at tokens) ≡ stuck (drop at tokens)
+  at-no-object a n o = simp (pass-on tokens at e {k = operand} o)
 
   -- after an operand
   pub at-relation : (c : Carry) (a : ℕ) → 262149 ≤ x → x ≤ 262153 → after-operand c a (drop at tokens) ≡ object a (x - 262144) (drop (at + 1) tokens)
@@ -160,22 +146,22 @@ module _ (tokens : List ℕ) (at : ℕ) {x : ℕ} (e : x ≡ tok tokens at) wher
         )
 
   -- where a simple condition begins
-  pub at-operand : (c : Carry) → x < 131072 → parse-simple c (drop at tokens) ≡ after-operand c x (drop (at + 1) tokens)
-  at-operand c l = simp (look tokens at e (is-operand x l) tt)
+  pub at-operand : (c : Carry) → Is operand x → parse-simple c (drop at tokens) ≡ after-operand c x (drop (at + 1) tokens)
+  at-operand c i = simp (look tokens at e i tt)
 
-  pub at-switch : (c : Carry) → 131072 ≤ x → x < 262144 → parse-simple c (drop at tokens) ≡ parsed (simple x 0 0) nothing (drop (at + 1) tokens)
-  at-switch c l h = simp (look tokens at e (is-switch x l h) tt)
+  pub at-switch : (c : Carry) → Is switch x → parse-simple c (drop at tokens) ≡ parsed (simple x 0 0) nothing (drop (at + 1) tokens)
+  at-switch c i = simp (look tokens at e i tt)
 
-  pub at-name : (c : Carry) → 327680 ≤ x → x ≤ 393215 → parse-simple c (drop at tokens) ≡ parsed (simple x 0 0) nothing (drop (at + 1) tokens)
-  at-name c l h = simp (look tokens at e (is-name x l (omega arith)) tt)
+  pub at-name : (c : Carry) → Is name x → parse-simple c (drop at tokens) ≡ parsed (simple x 0 0) nothing (drop (at + 1) tokens)
+  at-name c i = simp (look tokens at e i tt)
 
-  module _ (c : Carried) (l : 262144 ≤ x) (unnamed : 327680 ≤ x → 393215 < x) where
+  module _ (c : Carried) (no-operand : ¬ Is operand x) (no-switch : ¬ Is switch x) (no-name : ¬ Is name x) where
     at-word : parse-simple (carryOf c) (drop at tokens) ≡ short-bounded (carryOf c) (drop at tokens)
     at-word =
         rw (
-          pass-on tokens at e {k = operand} (λ i. let h = operand-token x i in omega arith),
-          pass-on tokens at e {k = switch} (λ i. let h = switch-token x i in omega arith),
-          pass-on tokens at e {k = name} (λ i. let h = name-token x i in omega (arith, unnamed (h .0))),
+          pass-on tokens at e {k = operand} no-operand,
+          pass-on tokens at e {k = switch} no-switch,
+          pass-on tokens at e {k = name} no-name,
         )
 
     pub at-bound : (c .relation ≡ 0 → ⊥) → 262152 ≤ x → x ≤ 262153 →

@@ -1,6 +1,6 @@
 -- What the reader of one simple condition promises: it answers as the parser of Parser.antt does on the tokens from its place on.
 use mathlib.Core.Path.{_≡_}
-use mathlib.Core.Bool.{cond}
+use mathlib.Core.Bool.{Bool, true, false, cond}
 use mathlib.Core.List.{List}
 use Prim.Native.Nat.{ℕ, _+_, _≤_}
 use lib.ListN.{length, getD, drop}
@@ -8,12 +8,16 @@ use lib.Dec.{eqb}
 use Rattle.reader.specs.declared.Carried.{Carried}
 use Rattle.reader.specs.declared.Single.{Single}
 use Rattle.reader.specs.declared.Single.the-variants.{Row, Stuck}
-use Rattle.grammar.specs.Grammar.{Carry, nothing, carried, simple}
+use Rattle.grammar.specs.Grammar.{Class, Class-discrete, class, Carry, nothing, carried, simple}
 use Rattle.grammar.specs.Parser.{Result, parsed, stuck, Parser}
 
 -- the token at a place, or a number that is no token
 unfoldable pub tok : List ℕ → ℕ → ℕ
 tok tokens at = getD tokens at 4294967295
+
+-- whether a token is of a class of the grammar
+unfoldable pub isA : Class → ℕ → Bool
+isA k token = elim (Class-discrete (class token) k) as (λ _. Bool) [ yes _ ↦ true | no _ ↦ false ]
 
 -- relation 0 says that nothing is carried
 unfoldable pub carryOf : Carried → Carry
@@ -32,6 +36,11 @@ endOf (Stuck p) = p
 abbrev pub taken : ℕ → Single → ℕ
 taken least (Row a n b p c) = least
 taken least (Stuck p) = 0
+
+-- "drop the carry": where no relation is carried on, no subject is, and both are 0
+abbrev pub Settled : Single → Type 0
+Settled (Row a n b p c) = c .relation ≡ 0 → c .subject ≡ 0
+Settled (Stuck p) = Unit {0}
 
 pub record Reads (parser : Parser) (least : ℕ) (tokens : List ℕ) (at : ℕ) (r : Single) : Type 0 where
   pub found : Found tokens r (parser (drop at tokens))

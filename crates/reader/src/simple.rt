@@ -2,14 +2,16 @@
 ghost use mathlib.Core.Path.{_≡_};
 ghost use Prim.Native.Nat.{_+_, _≤_, _<_};
 ghost use lib.ListN.{length};
-ghost use Rattle.typing.specs.Tests.{within};
 ghost use Rattle.grammar.specs.Parser.{object, after-operand, parse-simple};
-ghost use Rattle.reader.specs.Reads.{carryOf, Reads};
+ghost use Rattle.reader.specs.Reads.{carryOf, Reads, Settled};
 use crate::Carried;
 use crate::Single;
 use crate::words::NOT;
 use crate::words::is_bound;
+use crate::words::is_name;
+use crate::words::is_operand;
 use crate::words::is_order;
+use crate::words::is_switch;
 use crate::words::is_test;
 use crate::words::peek;
 
@@ -17,9 +19,10 @@ use crate::words::peek;
 pub fn read_object(tokens: &[u32], at: usize, subject: u32, relation: u32) -> Single
     requires { ⌜ (at ≤ length (now tokens)) × (0 < relation) ⌝ }
     ensures { λ r. ⌜ Reads (object subject relation) 1 (now (tokens .entry)) at r ⌝ }
+    ensures { λ r. ⌜ Settled r ⌝ }
 {
     let token = peek(tokens, at);
-    if token < 131072 {
+    if is_operand(token) {
         return Single::Row {
             subject,
             relation,
@@ -51,6 +54,7 @@ fn tested(subject: u32, relation: u32, next: usize) -> Single
 fn after_operand(tokens: &[u32], at: usize, carry: Carried, operand: u32) -> Single
     requires { ⌜ at ≤ length (now tokens) ⌝ }
     ensures { λ r. ⌜ Reads (after-operand (carryOf carry) operand) 0 (now (tokens .entry)) at r ⌝ }
+    ensures { λ r. ⌜ Settled r ⌝ }
 {
     let word = peek(tokens, at);
     if is_order(word) | is_bound(word) {
@@ -82,23 +86,17 @@ fn after_operand(tokens: &[u32], at: usize, carry: Carried, operand: u32) -> Sin
     }
 }
 
-// A condition-name, token kind 5.
-fn is_name(token: u32) -> bool
-    ensures { λ r. ⌜ r ≡ within 327680 393215 token ⌝ }
-{
-    (327680 <= token) & (token <= 393215)
-}
-
 // A simple condition, but for one that begins with > < = or with NOT before these.
 pub fn read_simple(tokens: &[u32], at: usize, carry: Carried) -> Single
     requires { ⌜ at ≤ length (now tokens) ⌝ }
     ensures { λ r. ⌜ Reads (parse-simple (carryOf carry)) 1 (now (tokens .entry)) at r ⌝ }
+    ensures { λ r. ⌜ Settled r ⌝ }
 {
     let token = peek(tokens, at);
-    if token < 131072 {
+    if is_operand(token) {
         return after_operand(tokens, at + 1, carry, token);
     }
-    if token < 262144 {
+    if is_switch(token) {
         return tested(token, 0, at + 1);
     }
     if is_name(token) {

@@ -1,7 +1,7 @@
 // Tokens by class.
 ghost use mathlib.Core.Path.{_≡_};
-ghost use Rattle.typing.specs.Tests.{within};
-ghost use Rattle.reader.specs.Reads.{tok};
+ghost use Rattle.grammar.specs.Grammar.{operand, switch, order, bound, test, name};
+ghost use Rattle.reader.specs.Reads.{tok, isA};
 
 pub const OPEN: u32 = 262144;
 
@@ -28,21 +28,42 @@ pub fn peek(tokens: &[u32], at: usize) -> u32
 
 // > < =
 pub fn is_order(token: u32) -> bool
-    ensures { λ r. ⌜ r ≡ within 262149 262151 token ⌝ }
+    ensures { λ r. ⌜ r ≡ isA order token ⌝ }
 {
     (262149 <= token) & (token <= 262151)
 }
 
 // >= <=
 pub(crate) fn is_bound(token: u32) -> bool
-    ensures { λ r. ⌜ r ≡ within 262152 262153 token ⌝ }
+    ensures { λ r. ⌜ r ≡ isA bound token ⌝ }
 {
     (262152 <= token) & (token <= 262153)
 }
 
 // a class word or a sign word
 pub(crate) fn is_test(token: u32) -> bool
-    ensures { λ r. ⌜ r ≡ within 262154 262160 token ⌝ }
+    ensures { λ r. ⌜ r ≡ isA test token ⌝ }
 {
     (262154 <= token) & (token <= 262160)
+}
+
+// an item or a literal, token kinds 0 and 1
+pub(crate) fn is_operand(token: u32) -> bool
+    ensures { λ r. ⌜ r ≡ isA operand token ⌝ }
+{
+    (token / 65536 == 0) | (token / 65536 == 1)
+}
+
+// token kinds 2 and 3
+pub(crate) fn is_switch(token: u32) -> bool
+    ensures { λ r. ⌜ r ≡ isA switch token ⌝ }
+{
+    (token / 65536 == 2) | (token / 65536 == 3)
+}
+
+// a condition-name, token kind 5
+pub(crate) fn is_name(token: u32) -> bool
+    ensures { λ r. ⌜ r ≡ isA name token ⌝ }
+{
+    token / 65536 == 5
 }

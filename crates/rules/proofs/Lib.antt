@@ -1,4 +1,5 @@
 pub mod Cases
+pub mod Numbers
 pub mod Passing
 pub mod Deep
 pub mod Stops

@@ -4,17 +4,15 @@ use mathlib.Core.List.{List, [], _∷_, _++_}
 use Prim.Native.Nat.{ℕ, _+_}
 use lib.ListN.{length, take, drop, replicate}
 use lib.IntN.{ℤ, negsuc}
-use Rattle.tables.specs.declared.Refusal.{Refusal}
-use Rattle.tables.specs.declared.Written.{Written}
 use Rattle.tables.specs.declared.Written.the-variants.{Count, Refused as Unwritten}
 use mathlib.Core.Bool.{false}
 use Rattle.tables.specs.declared.Verdict.{Verdict}
 use Rattle.tables.specs.declared.Judged.{Judged}
-use Rattle.tables.specs.declared.Verdict.the-variants.{True, False, Refused as Unjudged}
+use Rattle.tables.specs.declared.Verdict.the-variants.{True, False}
 use Rattle.tables.specs.Operands.{Lent}
-use Rattle.tables.specs.Refusals.{number, values as valuesOf}
 use Rattle.values.specs.Comparison.{sideOf, valueOf}
 use Rattle.rules.specs.Calls.{Gives, expandGives, planGives, judgeGives, runGives}
+use Rattle.rules.specs.Numbers.{ofWritten, ofVerdict}
 
 -- What a case says of a condition. A truth value or a stop is said of a record, for switch byte 0.
 pub data Says : Type 0 where
@@ -36,16 +34,6 @@ lentOutput = replicate 24 7
 
 abbrev pub filledWith : List ℕ → Gives
 filledWith numbers = record { answer = Count (length numbers); output = numbers ++ drop (length numbers) lentOutput }
-
--- a refusal as this paper gives it, number, place and (02, c) byte; nothing of an answer that is none
-abbrev pub ofWritten : Written → List ℕ
-ofWritten (Count n) = []
-ofWritten (Unwritten refusal) = number refusal ∷ valuesOf refusal
-
-abbrev pub ofVerdict : Verdict → List ℕ
-ofVerdict True = []
-ofVerdict False = []
-ofVerdict (Unjudged refusal) = number refusal ∷ valuesOf refusal
 
 -- the plan that the rules write for a case's condition
 abbrev pub planOf : Gives → List ℕ

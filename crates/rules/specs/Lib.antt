@@ -1,4 +1,5 @@
 pub mod Calls
+pub mod Numbers
 pub mod Cases
 pub mod Demands
 pub mod Places

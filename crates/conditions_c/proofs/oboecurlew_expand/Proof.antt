@@ -9,13 +9,13 @@ expand-requires : tie.Need-expand-requires
 expand-requires c κs = search needs
 
 tell-written-requires : tie.Need-tell-written-requires
-tell-written-requires c κs = small-left (c .before .before .before .expand .ensures) (expand-small _ _ _)
+tell-written-requires c κs = small-left (c .before .before .before .expand .ensures .0) (expand-small _ _ _)
 
 same-length : tie.Need-same-length
 same-length c = search needs
 
 returns : tie.Need-returns
-returns c = left-told (c .before .before .before .before .expand .ensures) (c .tell-written .ensures)
+returns c = left-told (c .before .before .before .before .expand .ensures .0) (c .tell-written .ensures)
 
 pub oboecurlew-expand-spec : {M : Type 1} → statement M
 oboecurlew-expand-spec =

@@ -9,13 +9,13 @@ plan-requires : tie.Need-plan-requires
 plan-requires c κs = search needs
 
 tell-written-requires : tie.Need-tell-written-requires
-tell-written-requires c κs = small-left (c .before .before .before .plan .ensures) (plan-small _ _ _)
+tell-written-requires c κs = small-left (c .before .before .before .plan .ensures .0) (plan-small _ _ _)
 
 same-length : tie.Need-same-length
 same-length c = search needs
 
 returns : tie.Need-returns
-returns c = left-told (c .before .before .before .before .plan .ensures) (c .tell-written .ensures)
+returns c = left-told (c .before .before .before .before .plan .ensures .0) (c .tell-written .ensures)
 
 pub oboecurlew-plan-spec : {M : Type 1} → statement M
 oboecurlew-plan-spec = tie.close (tie.spec plan-requires tell-written-requires same-length returns)

@@ -8,10 +8,10 @@ run-requires : tie.Need-run-requires
 run-requires c κs = search needs
 
 tell-judged-requires : tie.Need-tell-judged-requires
-tell-judged-requires c κs = rw (c .before .run .ensures) (run-fits _ _ _ _)
+tell-judged-requires c κs = rw (c .before .run .ensures .0) (run-fits _ _ _ _)
 
 returns : tie.Need-returns
-returns c = rw (c .before .before .run .ensures) at (c .tell-judged .ensures)
+returns c = rw (c .before .before .run .ensures .0) at (c .tell-judged .ensures)
 
 pub oboecurlew-run-spec : {M : Type 1} → statement M
 oboecurlew-run-spec = tie.close (tie.spec run-requires tell-judged-requires returns)

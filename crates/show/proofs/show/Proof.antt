@@ -16,10 +16,10 @@ enum-known-planned-2 : tie.Need-enum-known-planned-2
 enum-known-planned-2 c = search needs
 
 slice-reshare-prefix-run : tie.Need-slice-reshare-prefix-run
-slice-reshare-prefix-run c = plan-inside _ _ _ (rw (c .before .planned2 .given .1) at (c .before .before .before .before .before .plan .ensures))
+slice-reshare-prefix-run c = plan-inside _ _ _ (rw (c .before .planned2 .given .1) at (c .before .before .before .before .before .plan .ensures .0))
 
 slice-aggregate-run : tie.Need-slice-aggregate-run
-slice-aggregate-run c = sym (length-take-le _ _ (plan-inside _ _ _ (rw (c .before .before .planned2 .given .1) at (c .before .before .before .before .before .before .plan .ensures))))
+slice-aggregate-run c = sym (length-take-le _ _ (plan-inside _ _ _ (rw (c .before .before .planned2 .given .1) at (c .before .before .before .before .before .before .plan .ensures .0))))
 
 run-requires : tie.Need-run-requires
 run-requires c κs = search needs
@@ -34,10 +34,10 @@ enum-known-expanded-2 : tie.Need-enum-known-expanded-2
 enum-known-expanded-2 c = search needs
 
 slice-reshare-prefix-plan : tie.Need-slice-reshare-prefix-plan
-slice-reshare-prefix-plan c = expand-inside _ _ _ (rw (c .before .expanded2 .given .1) at (c .before .before .before .before .before .expand .ensures))
+slice-reshare-prefix-plan c = expand-inside _ _ _ (rw (c .before .expanded2 .given .1) at (c .before .before .before .before .before .expand .ensures .0))
 
 slice-aggregate-plan : tie.Need-slice-aggregate-plan
-slice-aggregate-plan c = sym (length-take-le _ _ (expand-inside _ _ _ (rw (c .before .before .expanded2 .given .1) at (c .before .before .before .before .before .before .expand .ensures))))
+slice-aggregate-plan c = sym (length-take-le _ _ (expand-inside _ _ _ (rw (c .before .before .expanded2 .given .1) at (c .before .before .before .before .before .before .expand .ensures .0))))
 
 plan-requires-2 : tie.Need-plan-requires-2
 plan-requires-2 c κs = search needs
@@ -46,7 +46,7 @@ same-length : tie.Need-same-length
 same-length c = search needs
 
 returns : tie.Need-returns
-returns c = (rw (c .before .planned .given .1) at (c .before .before .before .before .before .plan .ensures), refl, refl)
+returns c = (rw (c .before .planned .given .1) at (c .before .before .before .before .before .plan .ensures .0), refl, refl)
 
 same-length-2 : tie.Need-same-length-2
 same-length-2 c = search needs
@@ -56,10 +56,11 @@ same-length-3 c = search needs
 
 returns-2 : tie.Need-returns-2
 returns-2 c =
+    let r = c .before .before .before .before .before .before .before in
     shown _ _ _ _ _ _ _
-    (rw (c .before .before .before .before .before .before .before .before .before .before .planned2 .given .1) at (c .before .before .before .before .before .before .before .before .before .before .before .before .before .before .plan .ensures))
-    (c .before .before .before .before .before .before .before .run .ensures)
-    (rw (c .before .expanded .given .1) at (c .before .before .before .before .before .expand .ensures))
+    (rw (r .before .before .before .planned2 .given .1) at (r .before .before .before .before .before .before .before .plan .ensures .0))
+    (r .run .ensures .0)
+    (rw (c .before .expanded .given .1) at (c .before .before .before .before .before .expand .ensures .0))
     (refl, refl)
 
 same-length-4 : tie.Need-same-length-4
@@ -73,11 +74,12 @@ same-length-6 c = search needs
 
 returns-3 : tie.Need-returns-3
 returns-3 c =
+    let r = c .before .before .before .before .before .before .before .before .before .before .before .before in
     shown _ _ _ _ _ _ _
-    (rw (c .before .before .before .before .before .before .before .before .before .before .before .before .before .before .before .planned2 .given .1) at (c .before .before .before .before .before .before .before .before .before .before .before .before .before .before .before .before .before .before .before .plan .ensures))
-    (c .before .before .before .before .before .before .before .before .before .before .before .before .run .ensures)
-    (rw (c .before .before .before .before .before .before .expanded2 .given .1) at (c .before .before .before .before .before .before .before .before .before .before .expand .ensures))
-    (c .before .before .plan2 .ensures)
+    (rw (r .before .before .before .planned2 .given .1) at (r .before .before .before .before .before .before .before .plan .ensures .0))
+    (r .run .ensures .0)
+    (rw (c .before .before .before .before .before .before .expanded2 .given .1) at (c .before .before .before .before .before .before .before .before .before .before .expand .ensures .0))
+    (c .before .before .plan2 .ensures .0)
 
 pub show-spec : {M : Type 1} → statement M
 show-spec =

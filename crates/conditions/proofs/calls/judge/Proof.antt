@@ -2,7 +2,7 @@
 use mathlib.Core.Path.{sym, _∙_}
 use native.Mathlib.Omega.{arith}
 use borrow.Author.Needs.{needs}
-use Rattle.conditions.proofs.Calling.{few-prepared, row-numbers, judge-refused, judge-record-refuses, rows-runnable, judge-answers}
+use Rattle.conditions.proofs.Calling.{judged-in-numbers, few-prepared, row-numbers, judge-refused, judge-record-refuses, rows-runnable, judge-answers}
 use Rattle.conditions.proofs.calls.judge.Statement.{statement}
 use Rattle.conditions.proofs.calls.judge.Tie as tie
 
@@ -32,8 +32,9 @@ unjudged-requires-2 c κs = search needs
 
 returns : tie.Need-returns
 returns c =
-    c .unjudged2 .ensures ∙ judge-record-refuses (c .before .before .before .before .before .before .before .before .before .prepare .ensures) (c .before .before .before .before .before .before .prepared2 .given .1) _ _
-    (sym (c .before .before .before .before .check-record .ensures) ∙ c .before .before .held .given .1)
+    let p = c .before .before .before .before .before .before in
+    judged-in-numbers (c .unjudged2 .ensures ∙ judge-record-refuses (p .before .before .before .prepare .ensures) (p .prepared2 .given .1) _ _
+    (sym (c .before .before .before .before .check-record .ensures) ∙ c .before .before .held .given .1))
 
 enum-told : tie.Need-enum-told
 enum-told c = search needs
@@ -53,13 +54,14 @@ run-rows-requires c κs =
     (sym (c .before .before .before .check-record .ensures) ∙ c .before .enum-told .given .1)
 
 returns-2 : tie.Need-returns-2
-returns-2 c = c .unjudged .ensures ∙ judge-refused (c .before .before .before .before .before .prepare .ensures) (c .before .before .prepared .given .1) _ _
+returns-2 c = judged-in-numbers (c .unjudged .ensures ∙ judge-refused (c .before .before .before .before .before .prepare .ensures) (c .before .before .prepared .given .1) _ _)
 
 returns-3 : tie.Need-returns-3
 returns-3 c =
-    judge-answers (c .before .before .before .before .before .before .before .before .before .prepare .ensures) (c .before .before .before .before .before .before .prepared2 .given .1) _ _
+    let p = c .before .before .before .before .before .before in
+    judged-in-numbers (judge-answers (p .before .before .before .prepare .ensures) (p .prepared2 .given .1) _ _
     (sym (c .before .before .before .before .check-record .ensures) ∙ c .before .before .enum-told .given .1)
-    (c .run-rows .ensures)
+    (c .run-rows .ensures))
 
 pub judge-spec : {M : Type 1} → statement M
 judge-spec =

@@ -1,7 +1,7 @@
 -- Rests on what `prepare` ensures: the refusal of a line, or the rows of the condition's tree at the start of the buffer.
 use native.Mathlib.Omega.{arith}
 use borrow.Author.Needs.{needs}
-use Rattle.conditions.proofs.Calling.{few-prepared, row-numbers, plan-refused, plan-no-room, plan-written}
+use Rattle.conditions.proofs.Calling.{in-numbers, few-prepared, row-numbers, plan-refused, plan-no-room, plan-written}
 use Rattle.conditions.proofs.calls.plan.Statement.{statement}
 use Rattle.conditions.proofs.calls.plan.Tie as tie
 
@@ -21,7 +21,7 @@ mul-needed : tie.Need-mul-needed
 mul-needed c = omega (arith, few-prepared (c .before .before .before .before .prepare .ensures) (c .before .prepared2 .given .1))
 
 returns : tie.Need-returns
-returns c = plan-no-room (c .before .before .before .before .before .prepare .ensures) (c .before .before .prepared2 .given .1) _ (c .if1 .taken)
+returns c = in-numbers (plan-no-room (c .before .before .before .before .before .prepare .ensures) (c .before .before .prepared2 .given .1) _ (c .if1 .taken))
 
 array-share-prefix-rows : tie.Need-array-share-prefix-rows
 array-share-prefix-rows c = omega (arith, few-prepared (c .before .before .before .before .before .prepare .ensures) (c .before .before .prepared2 .given .1))
@@ -33,15 +33,16 @@ copy-requires : tie.Need-copy-requires
 copy-requires c κs = omega (arith, row-numbers (c .before .before .before .before .before .before .before .prepare .ensures) (c .before .before .before .before .prepared2 .given .1))
 
 returns-2 : tie.Need-returns-2
-returns-2 c = plan-refused (c .before .before .before .before .prepare .ensures) (c .before .prepared .given .1) _
+returns-2 c = in-numbers (plan-refused (c .before .before .before .before .prepare .ensures) (c .before .prepared .given .1) _)
 
 same-length : tie.Need-same-length
 same-length c = search needs
 
 returns-3 : tie.Need-returns-3
 returns-3 c =
-    plan-written (c .before .before .before .before .before .before .before .before .before .before .prepare .ensures) (c .before .before .before .before .before .before .before .prepared2 .given .1) _
-    (c .before .before .before .before .before .if1 .left) (c .before .before .copy .ensures)
+    let p = c .before .before .before .before .before .before .before in
+    in-numbers (plan-written (p .before .before .before .prepare .ensures) (p .prepared2 .given .1) _
+    (c .before .before .before .before .before .if1 .left) (c .before .before .copy .ensures))
 
 pub plan-spec : {M : Type 1} → statement M
 plan-spec =

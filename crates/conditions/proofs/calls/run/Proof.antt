@@ -5,7 +5,7 @@ use Rattle.tables.specs.Operands.{lendNames}
 use Rattle.names.proofs.Lines.{tables-refused, names-tried}
 use Rattle.rules.specs.Calls.{told}
 use Rattle.rules.proofs.Answers.{tables-refuse}
-use Rattle.conditions.proofs.Calling.{plan-refuses, run-record-refuses, plan-runnable, run-answers}
+use Rattle.conditions.proofs.Calling.{judged-in-numbers, plan-refuses, run-record-refuses, plan-runnable, run-answers}
 use Rattle.conditions.proofs.calls.run.Statement.{statement}
 use Rattle.conditions.proofs.calls.run.Tie as tie
 
@@ -22,7 +22,7 @@ returns : tie.Need-returns
 returns c =
     let a = c .before .before .before .before .before .before .before .before .before .before .before .args in
     let lent = lendNames (a .items .now) (a .literals .now) (a .bytes .now) (a .names .now) in
-    c .unjudged .ensures ∙ ap told (tables-refuse lent _ _ _ (tables-refused lent (c .before .before .before .before .check-tables .ensures) (c .before .before .tables .given .1)))
+    judged-in-numbers (c .unjudged .ensures ∙ ap told (tables-refuse lent _ _ _ (tables-refused lent (c .before .before .before .before .check-tables .ensures) (c .before .before .tables .given .1))))
 
 enum-told : tie.Need-enum-told
 enum-told c = search needs
@@ -42,7 +42,7 @@ returns-2 c =
     let a = n .before .before .before .before .before .before .before .before .before .before .args in
     let lent = lendNames (a .items .now) (a .literals .now) (a .bytes .now) (a .names .now) in
     let tried = names-tried lent (n .before .before .before .check-tables .ensures) (n .before .enum-told .given .1) (n .check-names .ensures) in
-    c .unjudged2 .ensures ∙ ap told (tables-refuse lent _ _ _ (sym tried ∙ c .before .before .named .given .1))
+    judged-in-numbers (c .unjudged2 .ensures ∙ ap told (tables-refuse lent _ _ _ (sym tried ∙ c .before .before .named .given .1)))
 
 enum-told-2 : tie.Need-enum-told-2
 enum-told-2 c = search needs
@@ -62,9 +62,9 @@ returns-3 c =
     let a = n .before .before .before .before .before .before .before .before .before .before .args in
     let lent = lendNames (a .items .now) (a .literals .now) (a .bytes .now) (a .names .now) in
     let tried = names-tried lent (n .before .before .before .check-tables .ensures) (n .before .enum-told .given .1) (n .check-names .ensures) in
-    c .unjudged3 .ensures
+    judged-in-numbers (c .unjudged3 .ensures
     ∙ plan-refuses _ _ _ _ _ _ (sym tried ∙ c .before .before .before .before .before .enum-told2 .given .1) _
-    (sym (c .before .before .before .before .check-plan .ensures) ∙ c .before .before .rows .given .1)
+    (sym (c .before .before .before .before .check-plan .ensures) ∙ c .before .before .rows .given .1))
 
 enum-told-3 : tie.Need-enum-told-3
 enum-told-3 c = search needs
@@ -84,10 +84,10 @@ returns-4 c =
     let a = n .before .before .before .before .before .before .before .before .before .before .args in
     let lent = lendNames (a .items .now) (a .literals .now) (a .bytes .now) (a .names .now) in
     let tried = names-tried lent (n .before .before .before .check-tables .ensures) (n .before .enum-told .given .1) (n .check-names .ensures) in
-    c .unjudged4 .ensures
+    judged-in-numbers (c .unjudged4 .ensures
     ∙ run-record-refuses _ _ _ _ _ _ (sym tried ∙ c .before .before .before .before .before .before .before .before .enum-told2 .given .1) _
     (sym (c .before .before .before .before .before .before .before .check-plan .ensures) ∙ c .before .before .before .before .before .enum-told3 .given .1)
-    (sym (c .before .before .before .before .check-record .ensures) ∙ c .before .before .held .given .1)
+    (sym (c .before .before .before .before .check-record .ensures) ∙ c .before .before .held .given .1))
 
 enum-told-4 : tie.Need-enum-told-4
 enum-told-4 c = search needs
@@ -108,11 +108,11 @@ returns-5 c =
     let a = n .before .before .before .before .before .before .before .before .before .before .args in
     let lent = lendNames (a .items .now) (a .literals .now) (a .bytes .now) (a .names .now) in
     let tried = names-tried lent (n .before .before .before .check-tables .ensures) (n .before .enum-told .given .1) (n .check-names .ensures) in
-    run-answers _ _ _ _
+    judged-in-numbers (run-answers _ _ _ _
     (plan-runnable _ _ _ _ _ _ (sym tried ∙ c .before .before .before .before .before .before .before .enum-told2 .given .1)
     (sym (c .before .before .before .before .before .before .check-plan .ensures) ∙ c .before .before .before .before .enum-told3 .given .1)
     (sym (c .before .before .before .check-record .ensures) ∙ c .before .enum-told4 .given .1))
-    (c .run-rows .ensures)
+    (c .run-rows .ensures))
 
 pub run-spec : {M : Type 1} → statement M
 run-spec =

@@ -1,6 +1,6 @@
 -- The measure of a call is what its fuel has to exceed: 4 for each token left, and the level. A loop's invariant is `Continues`,
 -- and its measure the tokens left. Each return cites its law of Steps.antt; `c5` is what was known five places before `c`.
-use mathlib.Core.Path.{_≡_}
+use mathlib.Core.Path.{_≡_, _∙_}
 use Prim.Native.Nat.{ℕ, _+_, _*_, _-_, _<_}
 use native.Mathlib.Omega.{arith}
 use lib.ListN.{length}
@@ -9,6 +9,7 @@ use borrow.Fn.Kinds.{In}
 use borrow.Fn.PlainCycle.{Measures, is, falls, and}
 use Rattle.grammar.specs.Parser.{parse-condition, parse-chain}
 use Rattle.reader.proofs.Looking.{inside}
+use Rattle.reader.proofs.Classes.{order-within}
 use Rattle.reader.proofs.Resolving.{Here, short-here, no-short}
 use Rattle.parser.proofs.Steps.{Continues, continues, conditions, chains, joins-stuck, joins-part, joins-on, placeable, single}
 use Rattle.parser.proofs.Steps.{term-order, term-plain, term-not-order, term-not-stuck, term-not-row, body-simple, body-stuck, body-shut, body-not-shut}
@@ -100,12 +101,12 @@ module _ (t : ℕ) where
   order-here : (c : term-lts.Then1 term-claims term-at term.Post) →
       let a = c .before .before .before .before .before .before .args in
       Here (a .tokens .now) (a .at) (c .before .before .before .peek .result) 262149 262151 × (a .carry .relation ≡ 0 → ⊥)
-  order-here c = short-here _ _ _ _ _ _ (c .before .before .before .peek .ensures) (omega arith) (c .before .is-order .ensures) (c .if1 .taken)
+  order-here c = short-here _ _ _ _ _ _ (c .before .before .before .peek .ensures) (omega arith) (c .before .is-order .ensures ∙ order-within _) (c .if1 .taken)
 
   order-after : (c : term-lts.Then3 term-claims term-at term.Post) →
       let a = c .before .before .before .before .before .before .before .before .before .args in
       Here (a .tokens .now) (a .at + 1) (c .before .before .before .before .before .peek2 .result) 262149 262151 × (a .carry .relation ≡ 0 → ⊥)
-  order-after c = short-here _ _ _ _ _ _ (c .before .before .before .before .before .peek2 .ensures) (omega arith) (c .before .is-order2 .ensures) (c .if3 .taken)
+  order-after c = short-here _ _ _ _ _ _ (c .before .before .before .before .before .peek2 .ensures) (omega arith) (c .before .is-order2 .ensures ∙ order-within _) (c .if3 .taken)
 
 pub +body+chain+condition+term-spec : {M : Type 1} → statement M
 +body+chain+condition+term-spec =
@@ -114,7 +115,7 @@ pub +body+chain+condition+term-spec : {M : Type 1} → statement M
     (λ c κs. search needs)
     (λ c κs. search needs)
     (λ c κs. (
-      placeable (c .before .read-simple .result) (c .before .before .before .before .before .before .pre .1) (c .before .read-simple .ensures)
+      placeable (c .before .read-simple .result) (c .before .before .before .before .before .before .pre .1) (c .before .read-simple .ensures .0)
           (omega arith),
       omega arith,
     ))
@@ -122,7 +123,7 @@ pub +body+chain+condition+term-spec : {M : Type 1} → statement M
     (λ c.
     let c5 = c .before .before .before .before .before in
     single (c .before .before .before .before .read-simple .result) (c5 .before .before .before .before .pre .1)
-    (c .before .before .before .before .read-simple .ensures) (c .before .before .put-single .ensures) (omega arith)
+    (c .before .before .before .before .read-simple .ensures .0) (c .before .before .put-single .ensures) (omega arith)
     (body-simple _ _ _ (c5 .before .peek .ensures) (c5 .if1 .taken)))
     (λ c. search needs)
     (λ c κs. omega (arith, inside _ _ (c .before .before .peek .ensures) (omega arith)))
@@ -144,7 +145,8 @@ pub +body+chain+condition+term-spec : {M : Type 1} → statement M
     (λ c.
     let c7 = c .before .before .before .before .before .before .before in
     body-not-shut _ _ _ (c7 .before .before .before .peek .ensures) (c7 .before .before .if1 .left)
-    (rw (c .before .before .before .inner2 .given .1) at (c7 .condition .ensures)) (c .before .peek2 .ensures) (c .if2 .left)))
+    (rw (c .before .before .before .inner2 .given .1) at (c7 .condition .ensures)) (c .before .peek2 .ensures)
+    (c7 .before .before .before .before .before .before .pre .1) (c .if2 .left)))
     (λ t. chain-lts.spec (chain-claims t) (chain-at t) chain.Post chain-Inv chain-loop-μ
     (λ c. continues (c .before .before .pre .1))
     (λ c κs. search needs)
@@ -253,7 +255,7 @@ pub +body+chain+condition+term-spec : {M : Type 1} → statement M
     (λ c κs. omega (arith, order-here t c .0))
     (λ c κs. (
       placeable (c .before .read-object .result) (c .before .before .before .before .before .before .before .before .pre .1)
-          (c .before .read-object .ensures) (omega arith),
+          (c .before .read-object .ensures .0) (omega arith),
       omega arith,
     ))
     (λ c. search needs)
@@ -261,14 +263,14 @@ pub +body+chain+condition+term-spec : {M : Type 1} → statement M
     let c5 = c .before .before .before .before .before in
     let ((l, h, i), n) = order-here t c5 in
     single (c .before .before .before .before .read-object .result) (c5 .before .before .before .before .before .before .pre .1)
-    (c .before .before .before .before .read-object .ensures) (c .before .before .put-single .ensures) (omega arith)
+    (c .before .before .before .before .read-object .ensures .0) (c .before .before .put-single .ensures) (omega arith)
     (term-order _ _ _ (c5 .before .before .before .peek .ensures) n l h))
     (λ c κs. search needs)
     (λ c. search needs)
     (λ c.
     let c5 = c .before .before .before .before .before in
     term-plain _ _ _ (c5 .before .before .before .peek .ensures) (c .before .before .before .before .if2 .taken)
-    (no-short _ _ _ _ (c5 .before .is-order .ensures) (c5 .if1 .left)) (c .before .before .body .ensures))
+    (no-short _ _ _ _ (c5 .before .is-order .ensures ∙ order-within _) (c5 .if1 .left)) (c .before .before .body .ensures))
     (λ c κs. search needs)
     (λ c. search needs)
     (λ c. omega (arith, order-after t c .0))
@@ -276,7 +278,7 @@ pub +body+chain+condition+term-spec : {M : Type 1} → statement M
     (λ c κs. omega (arith, order-after t c .0))
     (λ c κs. (
       placeable (c .before .read-object2 .result) (c .before .before .before .before .before .before .before .before .before .before .before .pre .1)
-          (c .before .read-object2 .ensures) (omega arith),
+          (c .before .read-object2 .ensures .0) (omega arith),
       omega arith,
     ))
     (λ c. search needs)
@@ -285,7 +287,7 @@ pub +body+chain+condition+term-spec : {M : Type 1} → statement M
     let c10 = c5 .before .before .before .before .before in
     let ((l, h, i), n) = order-after t c5 in
     single (c .before .before .before .before .read-object2 .result) (c10 .before .before .before .before .pre .1)
-    (c .before .before .before .before .read-object2 .ensures) (c .before .before .put-single2 .ensures) (omega arith)
+    (c .before .before .before .before .read-object2 .ensures .0) (c .before .before .put-single2 .ensures) (omega arith)
     (term-not-order _ _ _ (c10 .before .peek .ensures) (c5 .before .before .if2 .left) (c10 .peek2 .ensures) n l h))
     (λ c. search needs)
     (λ c κs.
@@ -311,7 +313,7 @@ pub +body+chain+condition+term-spec : {M : Type 1} → statement M
     let c5 = c .before .before .before .before .before in
     let c12 = c5 .before .before .before .before .before .before .before in
     term-not-stuck _ _ _ (c12 .before .peek .ensures) (c5 .before .before .before .before .if2 .left) (c12 .peek2 .ensures)
-    (no-short _ _ _ _ (c5 .before .before .before .is-order2 .ensures) (c5 .before .before .if3 .left))
+    (no-short _ _ _ _ (c5 .before .before .before .is-order2 .ensures ∙ order-within _) (c5 .before .before .if3 .left))
     (rw (c .before .inner .given .1) at (c5 .body2 .ensures)))
     (λ c. search needs)
     (λ c.
@@ -319,7 +321,7 @@ pub +body+chain+condition+term-spec : {M : Type 1} → statement M
     let c13 = c7 .before .before .before .before .before .before in
     let c18 = c13 .before .before .before .before .before in
     term-not-row _ _ _ (c18 .before .peek .ensures) (c13 .before .before .if2 .left) (c18 .peek2 .ensures)
-    (no-short _ _ _ _ (c13 .before .is-order2 .ensures) (c13 .if3 .left)) (c18 .before .before .before .before .pre .1)
+    (no-short _ _ _ _ (c13 .before .is-order2 .ensures ∙ order-within _) (c13 .if3 .left)) (c18 .before .before .before .before .pre .1)
     (rw (c7 .inner2 .given .1) at (c7 .before .before .before .before .body2 .ensures))
     (rw (
       c .before .before .before .before .verdict .ensures,

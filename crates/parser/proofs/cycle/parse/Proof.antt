@@ -1,3 +1,4 @@
+use native.Mathlib.Omega.{arith}
 use borrow.Author.Needs.{needs}
 use Rattle.parser.proofs.Steps.{whole-stuck, whole-part, whole-read}
 use Rattle.parser.proofs.cycle.parse.Statement.{statement}
@@ -15,4 +16,4 @@ parse-spec =
     (λ c. search needs)
     (λ c. whole-read (rw (c .before .before .whole2 .given .1) at (c .before .before .before .before .before .before .condition .ensures)) (c .if1 .taken))
     (λ c. search needs)
-    (λ c. whole-part (rw (c .before .before .whole2 .given .1) at (c .before .before .before .before .before .before .condition .ensures)) (c .if1 .left)))
+    (λ c. whole-part (rw (c .before .before .whole2 .given .1) at (c .before .before .before .before .before .before .condition .ensures)) (omega arith) (c .if1 .left)))

@@ -15,6 +15,6 @@ put-single-spec =
     (λ c.
     let c5 = c .before .before .before .before .before in
     omega (arith, rw (c5 .single2 .given .1) at (c5 .before .before .before .pre .0)))
-    (λ c. rw (c .before .single .given .1))
+    (λ c. rw (c .before .single .given .1) (refl, refl))
     (λ c. search needs)
     (λ c. rw (c .before .before .before .before .before .single2 .given .1) (refl, c .before .before .put-row .ensures)))
