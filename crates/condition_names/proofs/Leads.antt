@@ -68,7 +68,9 @@ inked-from text n = omega arith
 pub word-within : (word text : List ℕ) (n m : ℕ) → n ≤ length text → literalAt word text n ≡ Reached.Word m → (n ≤ m) × (m ≤ length text)
 word-within word text n m l e = by (eqb (inked text n) n) (eqb (common word (drop (inked text n) text)) (length word)) e
   where
-    by : (a b : Bool) → cond a (Reached.Fault n) (cond b (Reached.Word (inked text n + common word (drop (inked text n) text))) (Reached.Fault (inked text n + common word (drop (inked text n) text)))) ≡ Reached.Word m →
+    by : (a b : Bool) →
+        cond a (Reached.Fault n) (cond b (Reached.Word (inked text n + common word (drop (inked text n) text)))
+        (Reached.Fault (inked text n + common word (drop (inked text n) text)))) ≡ Reached.Word m →
         (n ≤ m) × (m ≤ length text)
     by true b e = let z : _≡_ {A = ℕ} 0 1 = cc in absurd (omega arith)
     by false true e =
