@@ -21,7 +21,8 @@ use Rattle.description.specs.declared.Spelled.the-variants as Spelled
 use Rattle.description.proofs.Bytes.{apart, eqb-no, is-some, given-some, bind-some, unended-is}
 use Rattle.description.proofs.Stages.{reach-le}
 use Rattle.description.proofs.Phases.{onReached}
-use Rattle.words.proofs.Laws.{inked-le, common-le}
+use Rattle.text_bytes.proofs.Laws.{inked-le}
+use Rattle.words.proofs.Laws.{common-le}
 use Rattle.description.proofs.Valued.{onValue, onHigh, literal-leads-on, thru-leads, high-leads}
 use Rattle.condition_names.specs.Values.{alone, ranging, highRead, highAt, thruRead, thruAt, lowRead, valueAt, valueOf, Stands}
 use Rattle.condition_names.specs.declared.Found.{Found}

@@ -9,7 +9,7 @@ ghost use Rattle.literal_words.specs.Found.{writtenOver};
 ghost use Rattle.vocabulary.specs.Spellings.{starts, spelt};
 use keywords::same_bytes;
 use literal_words::copies::copy_bytes;
-use words::bytes::byte_at;
+use text_bytes::bytes::byte_at;
 
 fn wide(x: u8) -> usize
     ensures { λ r. ⌜ r ≡ x ⌝ }

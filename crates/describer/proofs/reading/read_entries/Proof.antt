@@ -6,7 +6,7 @@ use native.Mathlib.Omega.{arith}
 use lib.ListN.{length}
 use borrow.Author.Needs.{needs}
 use borrow.Author.Tests.{not-true, not-false}
-use Rattle.words.proofs.Laws.{inked-le}
+use Rattle.text_bytes.proofs.Laws.{inked-le}
 use Rattle.describer.proofs.Going.{Going, begins, over, faults, fits, fits-stack, level-fits, stops, goes-on, further, name-ready, name-stops, name-goes, name-further, name-fault, step-as}
 use Rattle.describer.proofs.reading.read_entries.Statement.{statement}
 use Rattle.describer.proofs.reading.read_entries.Tie as tie
