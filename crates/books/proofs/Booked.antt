@@ -74,7 +74,8 @@ module _ {text rows places names others literal-rows bytes : List ℕ} (r : Desc
       let w = within text t e in
       let n1 = le-leb (length (rowsOf t)) (length rows) (omega (arith, ap length (same-numbers (t .rows)), numbers-length (t .rows), w .as-many, w .items)) in
       let n2 = le-leb (length (placesOf t)) (length places) (omega (arith, few-items text t e)) in
-      let n3 = le-leb (length (namesOf t)) (length names) (omega (arith, ap (λ (ns : List NameRow). length (nameNumbers ns)) (w .valid .named), names-numbers 0 (t .conditions) (λ j d l. w .name-kept j d l .few), w .names)) in
+      let named = ap (λ (ns : List NameRow). length (nameNumbers ns)) (w .valid .named) in
+      let n3 = le-leb (length (namesOf t)) (length names) (omega (arith, named, names-numbers 0 (t .conditions) (λ j d l. w .name-kept j d l .few), w .names)) in
       let n4 = le-leb (length (namePlacesOf t)) (length others) (omega (arith, few-conditions text t e)) in
       let n5 = le-leb (length (literalsOf t)) (length literal-rows) (omega (arith, ap length (same-numbers (t .literals)), few-rows text t e)) in
       let n6 = le-leb (length (t .bytes)) (length bytes) (omega (arith, few-bytes text t e)) in

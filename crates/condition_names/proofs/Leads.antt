@@ -21,7 +21,8 @@ use Rattle.description.specs.declared.Spelled.the-variants as Spelled
 use Rattle.description.proofs.Bytes.{apart, eqb-no, is-some, given-some, bind-some, unended-is}
 use Rattle.description.proofs.Stages.{reach-le}
 use Rattle.description.proofs.Phases.{onReached}
-use Rattle.words.proofs.Laws.{inked-le, common-le}
+use Rattle.text_bytes.proofs.Laws.{inked-le}
+use Rattle.words.proofs.Laws.{common-le}
 use Rattle.description.proofs.Valued.{onValue, onHigh, literal-leads-on, thru-leads, high-leads}
 use Rattle.condition_names.specs.Values.{alone, ranging, highRead, highAt, thruRead, thruAt, lowRead, valueAt, valueOf, Stands}
 use Rattle.condition_names.specs.declared.Found.{Found}
@@ -68,7 +69,9 @@ inked-from text n = omega arith
 pub word-within : (word text : List ℕ) (n m : ℕ) → n ≤ length text → literalAt word text n ≡ Reached.Word m → (n ≤ m) × (m ≤ length text)
 word-within word text n m l e = by (eqb (inked text n) n) (eqb (common word (drop (inked text n) text)) (length word)) e
   where
-    by : (a b : Bool) → cond a (Reached.Fault n) (cond b (Reached.Word (inked text n + common word (drop (inked text n) text))) (Reached.Fault (inked text n + common word (drop (inked text n) text)))) ≡ Reached.Word m →
+    by : (a b : Bool) →
+        cond a (Reached.Fault n) (cond b (Reached.Word (inked text n + common word (drop (inked text n) text)))
+        (Reached.Fault (inked text n + common word (drop (inked text n) text)))) ≡ Reached.Word m →
         (n ≤ m) × (m ≤ length text)
     by true b e = let z : _≡_ {A = ℕ} 0 1 = cc in absurd (omega arith)
     by false true e =

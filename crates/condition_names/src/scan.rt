@@ -8,8 +8,8 @@ use crate::ValueRead;
 use description::Reached;
 use description::Spelled;
 use literal_spans::spans::spelled_at;
-use words::blanks::next_ink;
-use words::bytes::byte_at;
+use text_bytes::blanks::next_ink;
+use text_bytes::bytes::byte_at;
 use words::literals::literal;
 
 // The high end after THRU, whose low end stands from low to mid.

@@ -18,7 +18,7 @@ use Rattle.description.proofs.Takes.{naming}
 use Rattle.description.proofs.Opening.{shut, level-ends}
 use Rattle.levels.specs.Stack.{opened, groupsOf, enteredBy, topped}
 use Rattle.levels.proofs.Stack.{stored-top}
-use Rattle.words.proofs.Laws.{inked-le}
+use Rattle.text_bytes.proofs.Laws.{inked-le}
 use Rattle.entries.specs.declared.Noted.{Noted}
 use Rattle.entries.specs.declared.EntryRead.{EntryRead}
 use Rattle.entries.specs.declared.EntryRead.the-variants.{Whole, Name, Fault}

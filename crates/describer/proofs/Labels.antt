@@ -11,7 +11,8 @@ use lib.Dec.{eqb, leb, ltb}
 use lib.ListN.{length, getD, take, drop, set, replicate, length-append, length-replicate, List·getD-append}
 use lib.Seq.{sets, take-suc-set}
 use Rattle.content.specs.declared.Row as Rules
-use Rattle.description.specs.Grammar.{Entry, Content, group, item, Row, row, Literal, Value, single, range, Condition, condition, Pair, NameRow, nameRow, pairs, literals, nameRows, literalsOf, literalBytes}
+use Rattle.description.specs.Grammar.{Entry, Content, group, item, Row, row, Literal, Value, single, range, Condition, condition, Pair, NameRow}
+use Rattle.description.specs.Grammar.{nameRow, pairs, literals, nameRows, literalsOf, literalBytes}
 use Rattle.description.specs.Limits.{comparable, barred, anyBarred, overName, Mark, mark, nameMarks}
 use Rattle.description.specs.Stages.{inked, firstOver, ownRow, ownRows}
 use Rattle.description.proofs.Bytes.{apart, eqb-no}

@@ -15,8 +15,8 @@ use storing::naming::name_step;
 use storing::store::push;
 use storing::store::store;
 use storing::store::waiting_after;
-use words::blanks::next_ink;
-use words::bytes::is_blank;
+use text_bytes::blanks::next_ink;
+use text_bytes::bytes::is_blank;
 
 // Whether a blank or the end of the text stands at a place.
 fn parted_at(text: &[u8], k: usize) -> bool

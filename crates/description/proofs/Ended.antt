@@ -12,7 +12,9 @@ use lib.Seq.{append-snoc, getD-drop, take-suc}
 use Rattle.description.specs.Machine.{bind, after, result}
 use Rattle.description.specs.Grammar.{ended, all, any, same, isNameByte, Shape, characters, number, Picture, content, item, Entry}
 use Rattle.description.specs.Grammar.{Called as Calls}
-use Rattle.description.specs.Reader.{isSome, given, orElse, unended, endedBy, groupable, isName, isCalled, beginsName, nothing, pictures, Started, State, name, pic, picture, sign, finished, opened, unfinished, next, begins, ends, partsOf, Reading, faulty}
+use Rattle.description.specs.Reader.{isSome, given, orElse, unended, endedBy, groupable, isName, isCalled, beginsName, nothing, pictures}
+use Rattle.description.specs.Reader.{Started, State, name, pic, picture, sign, finished, opened, unfinished, next, begins, ends, partsOf}
+use Rattle.description.specs.Reader.{Reading, faulty}
 use Rattle.description.specs.Stages.{inked, reach, joined, calledAt, nameReach, nameFrom, nameAt, isPeriod, pictureReach, shapeFrom, endedPicture, openPicture, pictured, pictureFrom, pictureAt}
 use Rattle.description.specs.declared.Called.{Called}
 use Rattle.description.specs.declared.Called.the-variants as Called

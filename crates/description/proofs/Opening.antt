@@ -12,8 +12,11 @@ use lib.Seq.{getD-drop, drop-drop, drop-cons}
 use Rattle.description.specs.Machine.{bind, closed, run}
 use Rattle.description.specs.Words.{mid, pause}
 use Rattle.description.specs.Grammar.{bytes, same, ended, isBlank, isDigit, item, packed, Table}
-use Rattle.description.specs.Reader.{isSome, given, prefix, readLevel, Groups, enter, enters, beginsLevel, Parts, hasItem, Started, State, level, name, pic, picture, sign, side, separate, label, finished, next, begins, ends, descriptions, partsOf, tableOf, Reading, read, faulty, reading}
-use Rattle.description.specs.Stages.{blanks, inked, reach, literalAt, sideAt, pictureAt, signAt, packedAt, usageAt, clausesAt, afterPic, afterPicture, afterSign, afterSide, afterSeparate, afterPacked, isEight, leveled, levelAt, onward, joined}
+use Rattle.description.specs.Reader.{isSome, given, prefix, readLevel, Groups, enter, enters, beginsLevel, Parts, hasItem, Started, State}
+use Rattle.description.specs.Reader.{level, name, pic, picture, sign, side, separate, label, finished, next, begins, ends, descriptions}
+use Rattle.description.specs.Reader.{partsOf, tableOf, Reading, read, faulty, reading}
+use Rattle.description.specs.Stages.{blanks, inked, reach, literalAt, sideAt, pictureAt, signAt, packedAt, usageAt, clausesAt, afterPic}
+use Rattle.description.specs.Stages.{afterPicture, afterSign, afterSide, afterSeparate, afterPacked, isEight, leveled, levelAt, onward, joined}
 use Rattle.description.specs.declared.Reached.{Reached}
 use Rattle.description.specs.declared.Reached.the-variants as Reached
 use Rattle.description.specs.declared.Sided.{Sided}

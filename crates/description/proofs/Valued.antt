@@ -12,7 +12,9 @@ use lib.ListN.{length, getD, take, drop, length-append}
 use lib.Seq.{append-snoc, getD-drop, take-take, length-take-le, take-append-seam}
 use Rattle.description.specs.Machine.{bind, after, result}
 use Rattle.description.specs.Grammar.{bytes, same, ended, any, all, Literal, literal, Value, single, range}
-use Rattle.description.specs.Reader.{isSome, given, orElse, prefix, unended, endedBy, isName, beginsName, unspelt, spell, spelling, readLiteral, beginsLiteral, Naming, State, label, value, values, high, alone, thru, labelled, next, begins, partsOf, Reading, faulty}
+use Rattle.description.specs.Reader.{isSome, given, orElse, prefix, unended, endedBy, isName, beginsName, unspelt, spell, spelling, readLiteral}
+use Rattle.description.specs.Reader.{beginsLiteral, Naming, State, label, value, values, high, alone, thru, labelled, next, begins, partsOf}
+use Rattle.description.specs.Reader.{Reading, faulty}
 use Rattle.description.specs.Stages.{inked, reach, joined, nameReach, isPeriod, literalAt, labelFrom, labelAt, literalReach, isLiteral, isEnded, spelled, spelledFrom, spelledAt, literalIn}
 use Rattle.description.specs.declared.Reached.{Reached}
 use Rattle.description.specs.declared.Reached.the-variants as Reached

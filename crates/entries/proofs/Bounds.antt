@@ -12,7 +12,9 @@ use lib.ListN.{length, getD, take, drop, length-drop, List·getD-eq-default}
 use Rattle.description.specs.Grammar.{all, any, same, bytes, ended, Picture, Shape, characters, number}
 use Rattle.description.specs.Reader.{isName, isCalled, beginsName, isSome, nothing, pictures, enters, beginsLevel, Groups}
 use Rattle.description.specs.Machine.{after, result}
-use Rattle.description.specs.Stages.{inked, common, met, literalAt, isPeriod, nameReach, nameFrom, nameAt, calledAt, pictureReach, shapeFrom, endedPicture, openPicture, pictured, pictureFrom, pictureAt, sided, sideAt, afterSeparate, afterSide, afterSign, signAt, afterPacked, packedAt, usageAt, afterPicture, afterPic, clausesAt, isEight, leveled, levelAt, reach}
+use Rattle.description.specs.Stages.{inked, common, met, literalAt, isPeriod, nameReach, nameFrom, nameAt, calledAt, pictureReach, shapeFrom}
+use Rattle.description.specs.Stages.{endedPicture, openPicture, pictured, pictureFrom, pictureAt, sided, sideAt, afterSeparate, afterSide, afterSign}
+use Rattle.description.specs.Stages.{signAt, afterPacked, packedAt, usageAt, afterPicture, afterPic, clausesAt, isEight, leveled, levelAt, reach}
 use Rattle.description.specs.declared.Reached.{Reached}
 use Rattle.description.specs.declared.Reached.the-variants as Reached
 use Rattle.description.specs.declared.Called.{Called}
@@ -28,7 +30,8 @@ use Rattle.description.specs.declared.Leveled.the-variants as Leveled
 use Rattle.description.proofs.Bytes.{apart, and-both}
 use Rattle.description.proofs.Stages.{reach-le}
 use Rattle.description.proofs.Takes.{picture-read}
-use Rattle.words.proofs.Laws.{inked-le, common-le}
+use Rattle.text_bytes.proofs.Laws.{inked-le}
+use Rattle.words.proofs.Laws.{common-le}
 use Rattle.pictures.specs.Drawings.{capPictured}
 use Rattle.levels.proofs.Stack.{digits-of, digit-range}
 use Rattle.entries.specs.Entries.{itemOf, itemAt, calledOf, namedAt}

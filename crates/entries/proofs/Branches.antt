@@ -7,7 +7,8 @@ use native.Mathlib.Omega.{arith}
 use lib.Dec.{eqb}
 use lib.ListN.{getD, length}
 use Rattle.description.specs.Grammar.{bytes, ended}
-use Rattle.description.specs.Stages.{inked, literalAt, sided, sideAt, afterSeparate, afterSide, afterSign, signAt, afterPacked, packedAt, usageAt, pictureAt, afterPicture, afterPic, clausesAt, nameAt, levelAt}
+use Rattle.description.specs.Stages.{inked, literalAt, sided, sideAt, afterSeparate, afterSide, afterSign, signAt, afterPacked, packedAt, usageAt}
+use Rattle.description.specs.Stages.{pictureAt, afterPicture, afterPic, clausesAt, nameAt, levelAt}
 use Rattle.description.specs.declared.Reached.{Reached}
 use Rattle.description.specs.declared.Reached.the-variants as Reached
 use Rattle.description.specs.declared.Called.{Called}

@@ -12,8 +12,8 @@ use description::Pictured;
 use description::Reached;
 use description::Sided;
 use pictures::scan::picture_at;
-use words::blanks::next_ink;
-use words::bytes::byte_at;
+use text_bytes::blanks::next_ink;
+use text_bytes::bytes::byte_at;
 use words::literals::literal;
 
 fn side_word(word: &[u8], kind: u32, text: &[u8], n: usize) -> Sided

@@ -13,7 +13,7 @@ use description::Leveled;
 use levels::Entered;
 use levels::level::level_at;
 use levels::open::enter;
-use words::blanks::next_ink;
+use text_bytes::blanks::next_ink;
 use words::names::name_at;
 
 fn narrow(n: usize) -> u32

@@ -99,7 +99,10 @@ unfolding within same
 starts-Z [] h e = absurd (omega arith)
 starts-Z (a ∷ v) h e = rw e
 
-pub starts-other : (w : List ℕ) → ¬ (getD w 0 0 ≡ 0x41) → ¬ (getD w 0 0 ≡ 0x43) → ¬ (getD w 0 0 ≡ 0x45) → ¬ (getD w 0 0 ≡ 0x46) → ¬ (getD w 0 0 ≡ 0x47) → ¬ (getD w 0 0 ≡ 0x49) → ¬ (getD w 0 0 ≡ 0x4c) → ¬ (getD w 0 0 ≡ 0x4e) → ¬ (getD w 0 0 ≡ 0x4f) → ¬ (getD w 0 0 ≡ 0x50) → ¬ (getD w 0 0 ≡ 0x53) → ¬ (getD w 0 0 ≡ 0x54) → ¬ (getD w 0 0 ≡ 0x55) → ¬ (getD w 0 0 ≡ 0x56) → ¬ (getD w 0 0 ≡ 0x5a) → false ≡ within w keywords
+pub starts-other : (w : List ℕ) → ¬ (getD w 0 0 ≡ 0x41) → ¬ (getD w 0 0 ≡ 0x43) → ¬ (getD w 0 0 ≡ 0x45) → ¬ (getD w 0 0 ≡ 0x46)
+    → ¬ (getD w 0 0 ≡ 0x47) → ¬ (getD w 0 0 ≡ 0x49) → ¬ (getD w 0 0 ≡ 0x4c) → ¬ (getD w 0 0 ≡ 0x4e) → ¬ (getD w 0 0 ≡ 0x4f) → ¬ (getD w 0 0 ≡ 0x50)
+    → ¬ (getD w 0 0 ≡ 0x53) → ¬ (getD w 0 0 ≡ 0x54) → ¬ (getD w 0 0 ≡ 0x55) → ¬ (getD w 0 0 ≡ 0x56) → ¬ (getD w 0 0 ≡ 0x5a)
+    → false ≡ within w keywords
 unfolding within same
 starts-other [] hA hC hE hF hG hI hL hN hO hP hS hT hU hV hZ = refl
 starts-other (a ∷ v) hA hC hE hF hG hI hL hN hO hP hS hT hU hV hZ =

@@ -11,8 +11,8 @@ ghost use Rattle.levels.specs.Stack.{groupsOf};
 use crate::Entered;
 use crate::open::enter;
 use description::Leveled;
-use words::bytes::byte_at;
-use words::bytes::is_digit;
+use text_bytes::bytes::byte_at;
+use text_bytes::bytes::is_digit;
 
 fn wide(b: u8) -> u32
     ensures { λ r. ⌜ r ≡ b ⌝ }

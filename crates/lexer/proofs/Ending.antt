@@ -14,7 +14,8 @@ use Rattle.spelling.specs.Names.{Known, Book}
 use Rattle.spelling.specs.Words.{wordLength, wordsFrom}
 use Rattle.spelling.specs.Keywords.{Piece as Spelt, token, literal, fault}
 use Rattle.spelling.specs.Meanings.{meaning, joins, pieceOf}
-use Rattle.spelling.specs.Reading.{Placed, piecesFrom, placed, pieces, Found, none, refusal, before, faultAt, after, firstFault, orTooLong, faultOf, tokensFrom, rowsFrom, bytesOf, literalsBefore, tokensOf}
+use Rattle.spelling.specs.Reading.{Placed, piecesFrom, placed, pieces, Found, none, refusal, before, faultAt, after, firstFault, orTooLong, faultOf}
+use Rattle.spelling.specs.Reading.{tokensFrom, rowsFrom, bytesOf, literalsBefore, tokensOf}
 use Rattle.splitter.specs.Splits.{wordsAt, NextFrom}
 use Rattle.splitter.specs.declared.Next.{Next}
 use Rattle.splitter.specs.declared.Next.the-variants.{End as NoWord}

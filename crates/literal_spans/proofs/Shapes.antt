@@ -20,7 +20,7 @@ use Rattle.description.proofs.Bytes.{apart, eqb-same, eqb-no, given-some}
 use Rattle.description.proofs.Literals.{after-append}
 use Rattle.description.proofs.Ended.{ended-snoc}
 use Rattle.description.proofs.Stages.{reach-le}
-use Rattle.words.proofs.Laws.{part-from}
+use Rattle.text_bytes.proofs.Laws.{part-from}
 use Rattle.literal_spans.specs.Steps.{isQuote, pointStep, firstStep, digitStep, step, spelledFar, spelledState, wholeState}
 
 abbrev shape : Spelt → ℕ

@@ -6,7 +6,7 @@ ghost use Rattle.description.specs.Stages.{spelledAt};
 ghost use Rattle.literal_spans.specs.Steps.{wholeState};
 use crate::steps::spell;
 use description::Spelled;
-use words::blanks::next_ink;
+use text_bytes::blanks::next_ink;
 use words::names::period_at;
 
 fn is_whole(state: u32) -> bool

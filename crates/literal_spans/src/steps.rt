@@ -4,7 +4,7 @@
 ghost use mathlib.Core.Path.{_≡_};
 ghost use Rattle.literal_spans.specs.Steps.{pointStep, firstStep, step, spelledFar, spelledState};
 use crate::Span;
-use words::bytes::is_digit;
+use text_bytes::bytes::is_digit;
 
 fn point_step(state: u32) -> u32
     ensures { λ r. ⌜ r ≡ pointStep state ⌝ }

@@ -18,7 +18,7 @@ use Rattle.description.specs.declared.Reached.the-variants as Reached
 use Rattle.description.proofs.Bytes.{apart}
 use Rattle.description.proofs.Stages.{reach-le}
 use Rattle.description.proofs.Phases.{onReached}
-use Rattle.words.proofs.Laws.{inked-le}
+use Rattle.text_bytes.proofs.Laws.{inked-le}
 use Rattle.description.proofs.Valued.{label-leads, value-leads}
 use Rattle.condition_names.specs.Values.{valueAt, valueOf, Stands, shown, weighed}
 use Rattle.condition_names.specs.declared.Found.{Found}

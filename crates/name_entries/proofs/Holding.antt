@@ -203,7 +203,10 @@ module _ (item : Rules.Row) (k : ℕ) (vs : List Value) (v : Value) where
       or-true false = refl
 
       by : (a : Bool) → ltb 64 (k + length (literals vs)) ≡ a → (b : Bool) → ltb 8 (length vs) ≡ b → (c : Bool) → anyBarred r vs ≡ c → a || b || c ≡ true → overValues k r (vs ++ v ∷ []) ≡ true
-      by true i b j c l e = let z : ltb 64 (k + length (literals (vs ++ v ∷ []))) ≡ true = lt-ltb 64 (k + length (literals (vs ++ v ∷ []))) (omega (arith, ltb-true 64 (k + length (literals vs)) i, length-more)) in rw z
+      by true i b j c l e =
+          let z : ltb 64 (k + length (literals (vs ++ v ∷ []))) ≡ true =
+          lt-ltb 64 (k + length (literals (vs ++ v ∷ []))) (omega (arith, ltb-true 64 (k + length (literals vs)) i, length-more)) in
+          rw z
       by false i true j c l e =
           let z : ltb 8 (length (vs ++ v ∷ [])) ≡ true = lt-ltb 8 (length (vs ++ v ∷ [])) (omega (arith, ltb-true 8 (length vs) j, values-more)) in
           rw (z, or-true (ltb 64 (k + length (literals (vs ++ v ∷ [])))))

@@ -9,8 +9,8 @@ ghost use Rattle.spelling.specs.Meanings.{position};
 ghost use Rattle.naming.specs.Named.{knownAt, Listed, calledBy};
 use crate::Called;
 use crate::parts::rest_from;
-use words::bytes::byte_at;
-use words::bytes::is_name_byte;
+use text_bytes::bytes::byte_at;
+use text_bytes::bytes::is_name_byte;
 
 // Whether the name at the head of these bytes is another one by the word's last byte alone: names are often alike but for their ends.
 fn ends_apart(word: &[u8], rest: &[u8]) -> bool

@@ -18,9 +18,10 @@ use Rattle.description.specs.declared.Pictured.{Pictured}
 use Rattle.description.specs.declared.Pictured.the-variants as Pictured
 use Rattle.description.proofs.Bytes.{apart, eqb-no, eqb-same, is-some}
 use Rattle.description.proofs.Stages.{reach-le, reached}
-use Rattle.words.proofs.Laws.{part-from}
+use Rattle.text_bytes.proofs.Laws.{part-from}
 use Rattle.pictures.specs.Steps.{cap, made, onTally, totalOf, Small}
-use Rattle.pictures.specs.Drawings.{drew, pointAfter, onLetters, onPointed, onPoint, onNumber, onFirst, onDrawn, SmallDrawn, numberEnd, numberKind, lettersEnd, endWith, drawnEnd, capPending, capTally, capDrawn, capPictured, draws, sketch}
+use Rattle.pictures.specs.Drawings.{drew, pointAfter, onLetters, onPointed, onPoint, onNumber, onFirst, onDrawn, SmallDrawn, numberEnd}
+use Rattle.pictures.specs.Drawings.{numberKind, lettersEnd, endWith, drawnEnd, capPending, capTally, capDrawn, capPictured, draws, sketch}
 use Rattle.pictures.specs.declared.Pending.the-variants.{Settled, Last, Counting}
 use Rattle.pictures.specs.declared.Tally.{Tally}
 use Rattle.pictures.specs.declared.Tallied.{Tallied}

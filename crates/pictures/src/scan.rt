@@ -10,7 +10,7 @@ use crate::Sketch;
 use crate::drawings::draw_byte;
 use crate::drawings::drawn_end;
 use description::Pictured;
-use words::blanks::next_ink;
+use text_bytes::blanks::next_ink;
 use words::names::period_at;
 
 // A picture as far as it goes on.

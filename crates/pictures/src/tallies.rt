@@ -6,7 +6,7 @@ ghost use Rattle.pictures.specs.Steps.{onSettled, onLast, onCounting, on
 use crate::Pending;
 use crate::Tallied;
 use crate::Tally;
-use words::bytes::is_digit;
+use text_bytes::bytes::is_digit;
 
 fn wide(b: u8) -> u32
     ensures { λ r. ⌜ r ≡ b ⌝ }

@@ -5,7 +5,7 @@ ghost use Rattle.positions.specs.Positions.{textEnd, tokenPlace};
 use senses::pieces::piece_at;
 use splitter::Next;
 use splitter::splits::next_word;
-use words::bytes::is_blank;
+use text_bytes::bytes::is_blank;
 
 // The place after the last byte that is no blank.
 fn text_end(text: &[u8]) -> usize

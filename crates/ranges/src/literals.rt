@@ -13,7 +13,7 @@ use literal_words::Text;
 use literal_words::numbers::read_number;
 use literal_words::quotes::read_text;
 use tables::rows::is_numeric;
-use words::bytes::byte_at;
+use text_bytes::bytes::byte_at;
 
 // The row of a nonnumeric literal of n bytes.
 fn text_row(n: usize) -> Row

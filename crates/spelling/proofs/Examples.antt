@@ -11,7 +11,70 @@ use Rattle.spelling.specs.Examples.{plain, named, examples, namedExample
 
 pub examples-right : AllGive plain examples
 unfolding runs wordLength wordsFrom isText isNumber isName same within any all validContent firstFrom doubled undoubled withoutPoint afterPoint count position lookup meaning next piecesFrom firstFault tokensFrom rowsFrom bytesOf reading
-examples-right = (refl, (refl, (refl, (refl, (refl, (refl, (refl, (refl, (refl, (refl, (refl, (refl, (refl, (refl, (refl, (refl, (refl, (refl, (refl, (refl, (refl, (refl, (refl, (refl, (refl, (refl, (refl, (refl, tt))))))))))))))))))))))))))))
+examples-right = (
+  refl,
+  (
+    refl,
+    (
+      refl,
+      (
+        refl,
+        (
+          refl,
+          (
+            refl,
+            (
+              refl,
+              (
+                refl,
+                (
+                  refl,
+                  (
+                    refl,
+                    (
+                      refl,
+                      (
+                        refl,
+                        (
+                          refl,
+                          (
+                            refl,
+                            (
+                              refl,
+                              (
+                                refl,
+                                (
+                                  refl,
+                                  (
+                                    refl,
+                                    (
+                                      refl,
+                                      (
+                                        refl,
+                                        (
+                                          refl,
+                                          (refl, (refl, (refl, (refl, (refl, (refl, (refl, tt))))))),
+                                        ),
+                                      ),
+                                    ),
+                                  ),
+                                ),
+                              ),
+                            ),
+                          ),
+                        ),
+                      ),
+                    ),
+                  ),
+                ),
+              ),
+            ),
+          ),
+        ),
+      ),
+    ),
+  ),
+)
 
 pub named-examples-right : AllGive named namedExamples
 unfolding runs wordLength wordsFrom isText isNumber isName same within any all validContent firstFrom doubled undoubled withoutPoint afterPoint count position lookup meaning next piecesFrom firstFault tokensFrom rowsFrom bytesOf reading

@@ -11,7 +11,8 @@ use Rattle.content.specs.WrongByte.{validContent}
 use Rattle.content.proofs.WrongByte.{valid-digits, valid-leading, valid-other}
 use Rattle.tables.specs.Rows.{rowSound}
 use Rattle.tables.proofs.Tests.{both, and-both}
-use Rattle.description.specs.Grammar.{all, isDigit, isSign, Word, Parted, Digits, Quoted, Spells, Literal as Told, Value, single, range, literals, Values, Condition, Names, Entry, Entries, Row, literalRow, literalsOf, literalBytes}
+use Rattle.description.specs.Grammar.{all, isDigit, isSign, Word, Parted, Digits, Quoted, Spells, Literal as Told, Value, single, range, literals}
+use Rattle.description.specs.Grammar.{Values, Condition, Names, Entry, Entries, Row, literalRow, literalsOf, literalBytes}
 use Rattle.description.specs.Limits.{ruled, unfit, comparable, barredAlone, unlike, above, anyBarred}
 use Rattle.description.proofs.Keeping.{or-no}
 use Rattle.spelling.specs.Literals.{Literal, fits}

@@ -130,6 +130,7 @@ module _ (known : Known) where
       let long : length (pre ++ row) ≡ suc n * 5 = omega (arith, length-append pre row) in
       let ih = words-again (suc n) ps (c .1) (f .1) (pre ++ row) (preb ++ l .bytes) long in
       ap₂ (λ (w : List ℕ) (ws : List (List ℕ)). w ∷ ws)
-      (literal-word (pre ++ (l .kind ∷ length preb ∷ length (l .bytes) ∷ l .scale ∷ literalDigits (l .kind) (length (l .bytes)) ∷ rest)) (preb ++ (l .bytes ++ bytesOf ps)) n (c .0) ∙ ap written (literal-again n pre preb l rest (bytesOf ps) e))
+      (literal-word (pre ++ (l .kind ∷ length preb ∷ length (l .bytes) ∷ l .scale ∷ literalDigits (l .kind) (length (l .bytes)) ∷ rest))
+      (preb ++ (l .bytes ++ bytesOf ps)) n (c .0) ∙ ap written (literal-again n pre preb l rest (bytesOf ps) e))
       (rw (length-append preb (l .bytes), append-assoc pre row rest, append-assoc preb (l .bytes) (bytesOf ps)) at ih)
   words-again n (fault number ∷ ps) c f pre preb e = absurd c

@@ -13,7 +13,8 @@ use Rattle.spelling.specs.Keywords.{Piece, token, literal, fault, Meanin
 use Rattle.spelling.specs.Meanings.{meaning, pieceOf, joins, orEqual, afterThan}
 use Rattle.description.specs.Limits.{Outcome, table, refusal as undescribed, describe}
 use Rattle.spelling.specs.Names.{Known, Book, bookOf}
-use Rattle.spelling.specs.Reading.{Placed, piecesFrom, placed, pieces, Found, none, refusal, firstFault, orTooLong, faultOf, tokensFrom, rowsFrom, bytesOf, literalsBefore, tokensOf, Reading, read, refused, result, reading, readAfter}
+use Rattle.spelling.specs.Reading.{Placed, piecesFrom, placed, pieces, Found, none, refusal, firstFault, orTooLong, faultOf, tokensFrom}
+use Rattle.spelling.specs.Reading.{rowsFrom, bytesOf, literalsBefore, tokensOf, Reading, read, refused, result, reading, readAfter}
 use Rattle.spelling.specs.Printing.{wordOf, line, printed, printFault, printResult, printing, printAfter, text as printedText}
 use Rattle.spelling.specs.RoundTrip.{PrintedAgain, RoundTrip}
 use Rattle.spelling.proofs.Cutting.{AllStand, cut-line}

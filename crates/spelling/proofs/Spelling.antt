@@ -73,12 +73,32 @@ module _ (known : Known) where
   vocabulary-good : GoodTable known vocabulary
   unfolding meaning lookup isText isNumber isName same within every any validContent firstFrom doubled undoubled withoutPoint afterPoint runs wordLength
   vocabulary-good =
-      let greater : Fine known (token 262149) = fixed 262149 refl refl refl refl refl refl refl (λ rest. refl) in
-      let less : Fine known (token 262150) = fixed 262150 refl refl refl refl refl refl refl (λ rest. refl) in
-      let equals : Fine known (token 262151) = fixed 262151 refl refl refl refl refl refl refl (λ rest. refl) in
-      let at-least : Fine known (token 262152) = fixed 262152 refl refl refl refl refl refl refl (λ rest. refl) in
-      let at-most : Fine known (token 262153) = fixed 262153 refl refl refl refl refl refl refl (λ rest. refl) in
-      (fixed 262144 refl refl refl refl refl refl refl (λ rest. refl), (fixed 262145 refl refl refl refl refl refl refl (λ rest. refl), (fixed 262146 refl refl refl refl refl refl refl (λ rest. refl), (fixed 262147 refl refl refl refl refl refl refl (λ rest. refl), (fixed 262148 refl refl refl refl refl refl refl (λ rest. refl), (greater, (less, (equals, (at-least, (at-most, (fixed 262154 refl refl refl refl refl refl refl (λ rest. refl), (fixed 262155 refl refl refl refl refl refl refl (λ rest. refl), (fixed 262156 refl refl refl refl refl refl refl (λ rest. refl), (fixed 262157 refl refl refl refl refl refl refl (λ rest. refl), (fixed 262158 refl refl refl refl refl refl refl (λ rest. refl), (fixed 262159 refl refl refl refl refl refl refl (λ rest. refl), (fixed 262160 refl refl refl refl refl refl refl (λ rest. refl), (fixed 131072 refl refl refl refl refl refl refl (λ rest. refl), (fixed 131073 refl refl refl refl refl refl refl (λ rest. refl), (fixed 131074 refl refl refl refl refl refl refl (λ rest. refl), (fixed 131075 refl refl refl refl refl refl refl (λ rest. refl), (fixed 131076 refl refl refl refl refl refl refl (λ rest. refl), (fixed 131077 refl refl refl refl refl refl refl (λ rest. refl), (fixed 131078 refl refl refl refl refl refl refl (λ rest. refl), (fixed 131079 refl refl refl refl refl refl refl (λ rest. refl), ((greater, at-least), ((less, at-most), (equals, tt))))))))))))))))))))))))))))
+      let w0 : Fine known (token 262144) = fixed 262144 refl refl refl refl refl refl refl (λ rest. refl) in
+      let w1 : Fine known (token 262145) = fixed 262145 refl refl refl refl refl refl refl (λ rest. refl) in
+      let w2 : Fine known (token 262146) = fixed 262146 refl refl refl refl refl refl refl (λ rest. refl) in
+      let w3 : Fine known (token 262147) = fixed 262147 refl refl refl refl refl refl refl (λ rest. refl) in
+      let w4 : Fine known (token 262148) = fixed 262148 refl refl refl refl refl refl refl (λ rest. refl) in
+      let w5 : Fine known (token 262149) = fixed 262149 refl refl refl refl refl refl refl (λ rest. refl) in
+      let w6 : Fine known (token 262150) = fixed 262150 refl refl refl refl refl refl refl (λ rest. refl) in
+      let w7 : Fine known (token 262151) = fixed 262151 refl refl refl refl refl refl refl (λ rest. refl) in
+      let w8 : Fine known (token 262152) = fixed 262152 refl refl refl refl refl refl refl (λ rest. refl) in
+      let w9 : Fine known (token 262153) = fixed 262153 refl refl refl refl refl refl refl (λ rest. refl) in
+      let w10 : Fine known (token 262154) = fixed 262154 refl refl refl refl refl refl refl (λ rest. refl) in
+      let w11 : Fine known (token 262155) = fixed 262155 refl refl refl refl refl refl refl (λ rest. refl) in
+      let w12 : Fine known (token 262156) = fixed 262156 refl refl refl refl refl refl refl (λ rest. refl) in
+      let w13 : Fine known (token 262157) = fixed 262157 refl refl refl refl refl refl refl (λ rest. refl) in
+      let w14 : Fine known (token 262158) = fixed 262158 refl refl refl refl refl refl refl (λ rest. refl) in
+      let w15 : Fine known (token 262159) = fixed 262159 refl refl refl refl refl refl refl (λ rest. refl) in
+      let w16 : Fine known (token 262160) = fixed 262160 refl refl refl refl refl refl refl (λ rest. refl) in
+      let u0 : Fine known (token 131072) = fixed 131072 refl refl refl refl refl refl refl (λ rest. refl) in
+      let u1 : Fine known (token 131073) = fixed 131073 refl refl refl refl refl refl refl (λ rest. refl) in
+      let u2 : Fine known (token 131074) = fixed 131074 refl refl refl refl refl refl refl (λ rest. refl) in
+      let u3 : Fine known (token 131075) = fixed 131075 refl refl refl refl refl refl refl (λ rest. refl) in
+      let u4 : Fine known (token 131076) = fixed 131076 refl refl refl refl refl refl refl (λ rest. refl) in
+      let u5 : Fine known (token 131077) = fixed 131077 refl refl refl refl refl refl refl (λ rest. refl) in
+      let u6 : Fine known (token 131078) = fixed 131078 refl refl refl refl refl refl refl (λ rest. refl) in
+      let u7 : Fine known (token 131079) = fixed 131079 refl refl refl refl refl refl refl (λ rest. refl) in
+      (w0, (w1, (w2, (w3, (w4, (w5, (w6, (w7, (w8, (w9, (w10, (w11, (w12, (w13, (w14, (w15, (w16, (u0, (u1, (u2, (u3, (u4, (u5, (u6, (u7, ((w5, w8), ((w6, w9), (w7, tt))))))))))))))))))))))))))))
 
 -- where a name that stands once is found
 named-once : (w : List ℕ) (names : List (List ℕ)) → 1 ≤ count w names

@@ -3,7 +3,7 @@ ghost use mathlib.Core.Path.{_≡_};
 ghost use mathlib.Core.Bool.{false};
 ghost use Rattle.spelling.specs.Words.{endsWord, runs, wordLength};
 ghost use Rattle.splitter.specs.Splits.{stops, turned};
-use words::bytes::byte_at;
+use text_bytes::bytes::byte_at;
 
 fn ends_word(b: u8) -> bool
     ensures { λ r. ⌜ r ≡ endsWord b ⌝ }

@@ -6,7 +6,7 @@ ghost use Rattle.splitter.specs.Splits.{NextFrom, Past};
 use crate::Next;
 use crate::runs::word_length;
 use keywords::same_bytes;
-use words::bytes::is_blank;
+use text_bytes::bytes::is_blank;
 
 // The next word from a place on: blanks are passed.
 pub fn next_word(text: &[u8], from: usize) -> Next

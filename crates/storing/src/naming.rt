@@ -14,7 +14,7 @@ use name_entries::NameRead;
 use name_entries::Tally;
 use name_entries::reading::read_name;
 use tables::rows::NAME_WIDTH;
-use words::blanks::next_ink;
+use text_bytes::blanks::next_ink;
 
 // What entry i tells of its row.
 fn item_row(entries: &[u32], i: usize) -> Row

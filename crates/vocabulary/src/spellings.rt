@@ -9,7 +9,7 @@ ghost use Rattle.literal_words.specs.Found.{writtenOver};
 ghost use Rattle.vocabulary.specs.Spellings.{starts, spelt};
 use keywords::same_bytes;
 use literal_words::copies::copy_bytes;
-use words::bytes::byte_at;
+use text_bytes::bytes::byte_at;
 
 // Where the words stand in the list: first document 01's by their numbers, then the switches, then those that other words may join.
 pub const AT_SWITCHES: usize = 17;

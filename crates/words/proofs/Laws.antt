@@ -9,36 +9,12 @@ use borrow.Author.Tests.{eqb-true}
 use lib.Dec.{eqb}
 use lib.ListN.{length, getD, take, drop, length-drop, drop-of-length-le, List·getD-eq-default}
 use lib.Seq.{drop-cons, take-all}
-use Rattle.description.specs.Grammar.{isBlank, same}
-use Rattle.description.specs.Stages.{blanks, inked, common, met, literalAt}
+use Rattle.description.specs.Grammar.{same}
+use Rattle.description.specs.Stages.{inked, common, met, literalAt}
 use Rattle.description.specs.declared.Reached.{Reached}
 use Rattle.description.specs.declared.Reached.the-variants as Reached
 use Rattle.description.proofs.Bytes.{eqb-no, eqb-same}
-
--- Blanks.
-pub blank-more : (text : List ℕ) (n k : ℕ) → k < length text → isBlank (getD text k 0) ≡ true → inked text n ≡ inked text k → inked text n ≡ inked text (k + 1)
-unfolding blanks
-blank-more text n k l h e = e ∙ rw (drop-cons text k 0 l, h, add-one) (omega arith)
-
-pub blank-stop : (text : List ℕ) (n k : ℕ) → k < length text → isBlank (getD text k 0) ≡ false → inked text n ≡ inked text k → k ≡ inked text n
-unfolding blanks
-blank-stop text n k l h e = sym (e ∙ rw (drop-cons text k 0 l, h) (omega arith))
-
-pub blank-end : (text : List ℕ) (n k : ℕ) → length text ≤ k → inked text n ≡ inked text k → k ≡ inked text n
-unfolding blanks
-blank-end text n k l e = sym (e ∙ rw (drop-of-length-le text l) (omega arith))
-
-blanks-le : (bs : List ℕ) → blanks bs ≤ length bs
-unfolding blanks
-blanks-le [] = omega arith
-blanks-le (b ∷ bs) = by (isBlank b) (blanks-le bs)
-  where
-    by : (t : Bool) → blanks bs ≤ length bs → cond t (suc (blanks bs)) 0 ≤ suc (length bs)
-    by true h = omega arith
-    by false h = omega arith
-
-pub inked-le : (text : List ℕ) (n : ℕ) → n ≤ length text → inked text n ≤ length text
-inked-le text n h = omega (arith, blanks-le (drop n text), length-drop n text)
+use Rattle.text_bytes.proofs.Laws.{part-from}
 
 -- A word that is asked for.
 pub common-more : (w bs : List ℕ) (k : ℕ) → k < length w → k < length bs → getD bs k 0 ≡ getD w k 0 →
@@ -69,10 +45,6 @@ common-le (a ∷ w) (b ∷ bs) = by (eqb b a) (common-le w bs)
     by true h = omega arith
     by false h = omega arith
 
--- the part from p on
-pub part-from : (text : List ℕ) (p : ℕ) → take (length text - p) (drop p text) ≡ drop p text
-part-from text p = take-all (length text - p) (drop p text) (omega (arith, length-drop p text))
-
 pub literal-none : (w text : List ℕ) (n p : ℕ) → p ≡ inked text n → p ≡ n → Reached.Fault n ≡ literalAt w text n
 literal-none w text n p e h = let i : inked text n ≡ n = sym e ∙ h in rw (i, eqb-same n)
 
@@ -87,7 +59,3 @@ pub literal-fault : (w text : List ℕ) (n p m : ℕ) → p ≡ inked text n →
 literal-fault w text n p m e h f k =
     let z : m ≡ common w (drop p text) = f ∙ ap (common w) (part-from text p) in
     rw (← e, eqb-no p n h, ← z, eqb-no m (length w) k)
-
--- Past the end.
-pub no-byte : (text : List ℕ) (k : ℕ) → length text ≤ k → 0 ≡ getD text k 0
-no-byte text k l = sym (List·getD-eq-default text 0 l)

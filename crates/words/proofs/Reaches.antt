@@ -20,7 +20,7 @@ use Rattle.description.proofs.Bytes.{apart, eqb-same, eqb-no, leb-so, leb-no}
 use Rattle.description.proofs.Stages.{reach-le}
 use Rattle.description.proofs.Phases.{eqb-suc}
 use Rattle.words.specs.Runs.{nameRun}
-use Rattle.words.proofs.Laws.{part-from}
+use Rattle.text_bytes.proofs.Laws.{part-from}
 
 -- Tests of each byte.
 pub all-more : (test : ℕ → Bool) (w : List ℕ) (k : ℕ) → k < length w → test (getD w k 0) ≡ true → all test w ≡ all test (drop k w) → all test w ≡ all test (drop (k + 1) w)

@@ -3,8 +3,8 @@ ghost use mathlib.Core.Path.{_≡_};
 ghost use Prim.Native.Nat.{_≤_};
 ghost use lib.ListN.{length};
 ghost use Rattle.description.specs.Stages.{common, literalAt};
-use crate::blanks::next_ink;
 use description::Reached;
+use text_bytes::blanks::next_ink;
 
 // How many bytes the two have in common at their beginning.
 fn common_length(word: &[u8], rest: &[u8]) -> usize

@@ -7,13 +7,13 @@ ghost use Rattle.description.specs.Grammar.{all, any, isLetter, isNameByte};
 ghost use Rattle.description.specs.Reader.{isName, isCalled, beginsName};
 ghost use Rattle.description.specs.Stages.{reach, isPeriod, nameAt, labelAt};
 ghost use Rattle.words.specs.Runs.{nameRun};
-use crate::blanks::next_ink;
-use crate::bytes::is_letter;
-use crate::bytes::is_name_byte;
 use description::Called;
 use description::Reached;
 use keywords::is_keyword;
 use keywords::same_bytes;
+use text_bytes::blanks::next_ink;
+use text_bytes::bytes::is_letter;
+use text_bytes::bytes::is_name_byte;
 
 fn all_name_bytes(w: &[u8]) -> bool
     ensures { λ r. ⌜ r ≡ all isNameByte (now (w .entry)) ⌝ }

@@ -32,10 +32,12 @@ row-at-requires c κs = omega arith
 
 is-apart-requires : tie.Need-is-apart-requires Inv-loop μ-loop
 is-apart-requires c κs =
-    let a = c .before .before .before .before .before .before .before .args in
-    let pre = c .before .before .before .before .before .before .before .pre in
+    let c7 = c .before .before .before .before .before .before .before in
+    let a = c7 .args in
+    let pre = c7 .pre in
     let e = c .row-at .ensures in
-    let h : rowAt (now (a .items)) (c .before .before .loop .v) .offset + rowAt (now (a .items)) (c .before .before .loop .v) .size ≤ length (now (a .old)) = pre .lies (c .before .before .loop .v) (c .before .loop-test .taken) in
+    let h : rowAt (now (a .items)) (c .before .before .loop .v) .offset + rowAt (now (a .items)) (c .before .before .loop .v) .size ≤ length (now (a .old))
+    = pre .lies (c .before .before .loop .v) (c .before .loop-test .taken) in
     (rw e h, pre .first-long, pre .second-long)
 
 add-count : tie.Need-add-count Inv-loop μ-loop

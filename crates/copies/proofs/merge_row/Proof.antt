@@ -36,13 +36,14 @@ merged-item-requires c κs = search needs
 
 put-part-requires : tie.Need-put-part-requires
 put-part-requires c κs =
-    let a = c .before .before .before .before .before .before .before .before .before .before .before .args in
-    let pre = c .before .before .before .before .before .before .before .before .before .before .before .pre in
-    let got = c .before .merged-item .ensures ∙ chosen-from (a .verdict) (c .before .before .before .before .row-part .ensures) (c .before .before .before .row-part2 .ensures) (c .before .before .row-part3 .ensures) in (
-      ap length got ∙ merged-length (a .verdict) _ _ _ (a .row .size)
-          (part-length (a .row) (now (a .old)) (pre .0))
-          (part-length (a .row) (now (a .first)) (omega (arith, pre)))
-          (part-length (a .row) (now (a .second)) (omega (arith, pre))),
+    let c4 = c .before .before .before .before in
+    let c11 = c4 .before .before .before .before .before .before .before in
+    let a = c11 .args in
+    let pre = c11 .pre in
+    let got = c .before .merged-item .ensures ∙ chosen-from (a .verdict) (c4 .row-part .ensures) (c .before .before .before .row-part2 .ensures) (c .before .before .row-part3 .ensures)
+    in (
+      ap length got ∙ merged-length (a .verdict) _ _ _ (a .row .size) (part-length (a .row) (now (a .old)) (pre .0)) (part-length (a .row) (now (a .first))
+          (omega (arith, pre))) (part-length (a .row) (now (a .second)) (omega (arith, pre))),
       omega (arith, pre),
     )
 
@@ -51,12 +52,13 @@ same-length c = search needs
 
 returns-2 : tie.Need-returns-2
 returns-2 c =
-    let a = c .before .before .before .before .before .before .before .before .before .before .before .before .before .before .args in
-    let g : isGroup (a .row) ≡ false = sym (c .before .before .before .before .before .before .before .before .before .is-group .ensures) ∙ c .before .before .before .before .before .before .before .before .if1 .left in
-    rw g
-    (c .before .before .put-part .ensures
-    ∙ ap (λ (l : List ℕ). replaced (a .row) l (now (a .out)))
-    (c .before .before .before .before .merged-item .ensures ∙ chosen-from (a .verdict) (c .before .before .before .before .before .before .before .row-part .ensures) (c .before .before .before .before .before .before .row-part2 .ensures) (c .before .before .before .before .before .row-part3 .ensures)))
+    let c4 = c .before .before .before .before in
+    let c7 = c4 .before .before .before in
+    let c14 = c7 .before .before .before .before .before .before .before in
+    let a = c14 .args in
+    let g : isGroup (a .row) ≡ false = sym (c7 .before .before .is-group .ensures) ∙ c7 .before .if1 .left in
+    rw g (c .before .before .put-part .ensures ∙ ap (λ (l : List ℕ). replaced (a .row) l (now (a .out))) (c4 .merged-item .ensures ∙ chosen-from (a .verdict)
+    (c7 .row-part .ensures) (c4 .before .before .row-part2 .ensures) (c4 .before .row-part3 .ensures)))
 
 pub merge-row-spec : {M : Type 1} → statement M
 merge-row-spec =

@@ -33,10 +33,12 @@ row-at-requires c κs = omega arith
 
 merge-row-requires : tie.Need-merge-row-requires Inv-loop μ-loop
 merge-row-requires c κs =
-    let a = c .before .before .before .before .before .before .before .before .before .before .before .before .before .args in
-    let pre = c .before .before .before .before .before .before .before .before .before .before .before .before .before .pre in
+    let c13 = c .before .before .before .before .before .before .before .before .before .before .before .before .before in
+    let a = c13 .args in
+    let pre = c13 .pre in
     let e = c .before .row-at .ensures in
-    let h : rowAt (now (a .items)) (c .before .before .before .loop .v) .offset + rowAt (now (a .items)) (c .before .before .before .loop .v) .size ≤ length (now (a .old)) = pre .lies (c .before .before .before .loop .v) (c .before .before .loop-test .taken) in
+    let h : rowAt (now (a .items)) (c .before .before .before .loop .v) .offset + rowAt (now (a .items)) (c .before .before .before .loop .v) .size ≤
+    length (now (a .old)) = pre .lies (c .before .before .before .loop .v) (c .before .before .loop-test .taken) in
     (rw e h, pre .first-long, pre .second-long, c .before .before .before .loop .inv .1)
 
 add-v : tie.Need-add-v Inv-loop μ-loop
@@ -47,15 +49,17 @@ loop-less c = omega arith
 
 loop-again : tie.Need-loop-again Inv-loop μ-loop
 loop-again c =
-    let a = c .before .before .before .before .before .before .before .before .before .before .before .before .before .before .before .before .args in
-    let turn = c .before .before .before .before .before .before .loop in
+    let c4 = c .before .before .before .before in
+    let c16 = c4 .before .before .before .before .before .before .before .before .before .before .before .before in
+    let a = c16 .args in
+    let turn = c4 .before .before .loop in
     let copies = copiesOf (now (a .items)) (now (a .old)) (now (a .first)) (now (a .second)) in (
       omega arith,
       c .before .out2 .given ∙ turn .inv .1,
-      c .before .before .merge-row .ensures
-          ∙ ap (λ (r : Row). cond (isElementary r) (replaced r (mergedItem (a .verdict) (part r (now (a .old))) (part r (now (a .first))) (part r (now (a .second)))) (turn .out)) (turn .out)) (c .before .before .before .before .row-at .ensures)
-          ∙ ap (λ (l : List ℕ). cond (isElementary (rowAt (now (a .items)) (turn .v))) (replaced (rowAt (now (a .items)) (turn .v)) ((mergedAt copies (a .verdict)) (turn .v)) l) l) (turn .inv .2)
-          ∙ sym (rewritten-more (now (a .items)) (mergedAt copies (a .verdict)) (now (a .old)) (turn .v)),
+      c .before .before .merge-row .ensures ∙ ap (λ (r : Row). cond (isElementary r) (replaced r
+          (mergedItem (a .verdict) (part r (now (a .old))) (part r (now (a .first))) (part r (now (a .second)))) (turn .out)) (turn .out)) (c4 .row-at .ensures)
+          ∙ ap (λ (l : List ℕ). cond (isElementary (rowAt (now (a .items)) (turn .v))) (replaced (rowAt (now (a .items)) (turn .v)) ((mergedAt copies (a .verdict))
+          (turn .v)) l) l) (turn .inv .2) ∙ sym (rewritten-more (now (a .items)) (mergedAt copies (a .verdict)) (now (a .old)) (turn .v)),
     )
 
 same-length : tie.Need-same-length Inv-loop μ-loop

@@ -2,7 +2,8 @@
 use denote.Ref.{now}
 use mathlib.Core.Path.{_∙_}
 use native.Mathlib.Omega.{arith}
-use Rattle.keywords.proofs.Initials.{no-letters, one-word, starts-other, starts-A, starts-C, starts-E, starts-F, starts-G, starts-I, starts-L, starts-N, starts-O, starts-P, starts-S, starts-T, starts-U, starts-V, starts-Z}
+use Rattle.keywords.proofs.Initials.{no-letters, one-word, starts-other, starts-A, starts-C, starts-E, starts-F, starts-G, starts-I, starts-L}
+use Rattle.keywords.proofs.Initials.{starts-N, starts-O, starts-P, starts-S, starts-T, starts-U, starts-V, starts-Z}
 use borrow.Author.Needs.{needs}
 use Rattle.keywords.proofs.is_keyword.Statement.{statement}
 use Rattle.keywords.proofs.is_keyword.Tie as tie

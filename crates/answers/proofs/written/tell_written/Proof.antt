@@ -12,7 +12,13 @@ written-count-requires : tie.Need-written-count-requires
 written-count-requires c κs = search needs
 
 answer-numbers-requires : tie.Need-answer-numbers-requires
-answer-numbers-requires c κs = (rw (c .before .written-place .ensures) (place-small (c .before .before .args .written) (c .before .before .pre)), omega arith, omega arith, rw (c .written-count .ensures) (count-small (c .before .before .args .written) (c .before .before .pre)))
+answer-numbers-requires c κs = (
+  rw (c .before .written-place .ensures) (place-small (c .before .before .args .written) (c .before .before .pre)),
+  omega arith,
+  omega arith,
+  rw (c .written-count .ensures)
+      (count-small (c .before .before .args .written) (c .before .before .pre)),
+)
 
 written-number-requires : tie.Need-written-number-requires
 written-number-requires c κs = search needs

@@ -134,22 +134,20 @@ copy-numbers-requires-2 c κs = omega (
 )
 
 slice-aggregate-copy-bytes : tie.Need-slice-aggregate-copy-bytes
-slice-aggregate-copy-bytes c = (sym (length-take-le
-    (c .before .before .before .before .before .before .before .before .before .before .before .before .before .before .before .before .before .before .before .before .before .before .args .held .bytes)
-    (now
-    (c .before .before .before .before .before .before .before .before .before .before .before .before .before .before .before .before .before .before .before .before .before .before .args .bytes))
-    (c .before .before .before .before .before .before .before .before .before .before .before .before .before .before .before .before .before .before .before .before .before .before .pre .2)))
+slice-aggregate-copy-bytes c =
+    let c12 = c .before .before .before .before .before .before .before .before .before .before .before .before in
+    let c22 = c12 .before .before .before .before .before .before .before .before .before .before in
+    (sym (length-take-le (c22 .args .held .bytes) (now (c22 .args .bytes)) (c22 .pre .2)))
 
 copy-bytes-requires : tie.Need-copy-bytes-requires
-copy-bytes-requires c κs = omega (
-  arith,
-  (sym (length-take-le
-      (c .before .before .before .before .before .before .before .before .before .before .before .before .before .before .before .before .before .before .before .before .before .before .before .args .held .bytes)
-      (now
-      (c .before .before .before .before .before .before .before .before .before .before .before .before .before .before .before .before .before .before .before .before .before .before .before .args .bytes))
-      (c .before .before .before .before .before .before .before .before .before .before .before .before .before .before .before .before .before .before .before .before .before .before .before .pre .2))),
-  c .before .before .before .before .before .before .before .before .before .before .before .before .if4 .left,
-)
+copy-bytes-requires c κs =
+    let c12 = c .before .before .before .before .before .before .before .before .before .before .before .before in
+    let c23 = c12 .before .before .before .before .before .before .before .before .before .before .before in
+    omega (
+      arith,
+      (sym (length-take-le (c23 .args .held .bytes) (now (c23 .args .bytes)) (c23 .pre .2))),
+      c12 .if4 .left,
+    )
 
 same-length : tie.Need-same-length
 same-length c = search needs
@@ -161,48 +159,19 @@ same-length-3 : tie.Need-same-length-3
 same-length-3 c = search needs
 
 returns-5 : tie.Need-returns-5
-returns-5 c = all-given (take
-    (c .before .before .before .before .before .before .before .before .before .before .before .before .before .before .before .before .before .before .before .before .before .before .before .before .before .before .args .held .tokens)
-    (now
-    (c .before .before .before .before .before .before .before .before .before .before .before .before .before .before .before .before .before .before .before .before .before .before .before .before .before .before .args .tokens)))
-    (take
-    (c .before .before .before .before .before .before .before .before .before .before .before .before .before .before .before .before .before .before .before .before .before .before .before .before .before .before .args .held .literals * 5)
-    (now
-    (c .before .before .before .before .before .before .before .before .before .before .before .before .before .before .before .before .before .before .before .before .before .before .before .before .before .before .args .rows)))
-    (take
-    (c .before .before .before .before .before .before .before .before .before .before .before .before .before .before .before .before .before .before .before .before .before .before .before .before .before .before .args .held .bytes)
-    (now
-    (c .before .before .before .before .before .before .before .before .before .before .before .before .before .before .before .before .before .before .before .before .before .before .before .before .before .before .args .bytes)))
-    (now
-    (c .before .before .before .before .before .before .before .before .before .before .before .before .before .before .before .before .before .before .before .before .before .before .before .before .before .before .args .out))
-    (now
-    (c .before .before .before .before .before .before .before .before .before .before .before .before .before .before .before .before .before .before .before .before .before .before .before .before .before .before .args .literals))
-    (now
-    (c .before .before .before .before .before .before .before .before .before .before .before .before .before .before .before .before .before .before .before .before .before .before .before .before .before .before .args .content))
-    (c .before .before .before .before .before .before .before .before .before .before .before .before .before .before .before .before .before .before .before .before .before .before .before .before .before .before .args .held .tokens)
-    (c .before .before .before .before .before .before .before .before .before .before .before .before .before .before .before .before .before .before .before .before .before .before .before .before .before .before .args .held .literals * 5)
-    (c .before .before .before .before .before .before .before .before .before .before .before .before .before .before .before .before .before .before .before .before .before .before .before .before .before .before .args .held .bytes)
-    (sym (length-take-le
-    (c .before .before .before .before .before .before .before .before .before .before .before .before .before .before .before .before .before .before .before .before .before .before .before .before .before .before .args .held .tokens)
-    (now
-    (c .before .before .before .before .before .before .before .before .before .before .before .before .before .before .before .before .before .before .before .before .before .before .before .before .before .before .args .tokens))
-    (c .before .before .before .before .before .before .before .before .before .before .before .before .before .before .before .before .before .before .before .before .before .before .before .before .before .before .pre .0)))
-    (sym (length-take-le
-    (c .before .before .before .before .before .before .before .before .before .before .before .before .before .before .before .before .before .before .before .before .before .before .before .before .before .before .args .held .literals * 5)
-    (now
-    (c .before .before .before .before .before .before .before .before .before .before .before .before .before .before .before .before .before .before .before .before .before .before .before .before .before .before .args .rows))
-    (c .before .before .before .before .before .before .before .before .before .before .before .before .before .before .before .before .before .before .before .before .before .before .before .before .before .before .pre .1)))
-    (sym (length-take-le
-    (c .before .before .before .before .before .before .before .before .before .before .before .before .before .before .before .before .before .before .before .before .before .before .before .before .before .before .args .held .bytes)
-    (now
-    (c .before .before .before .before .before .before .before .before .before .before .before .before .before .before .before .before .before .before .before .before .before .before .before .before .before .before .args .bytes))
-    (c .before .before .before .before .before .before .before .before .before .before .before .before .before .before .before .before .before .before .before .before .before .before .before .before .before .before .pre .2)))
-    (not-false _ (c .before .before .before .before .before .before .before .before .before .before .before .before .before .before .before .before .before .before .if1 .left))
-    (c .before .before .before .before .before .before .before .before .before .before .before .before .before .before .before .before .before .if2 .left)
-    (c .before .before .before .before .before .before .before .before .before .before .before .before .before .before .before .before .if3 .left)
-    (c .before .before .before .before .before .before .before .before .before .before .before .before .before .before .before .if4 .left)
-    (c .before .before .before .before .before .before .before .before .before .before .before .before .copy-numbers .ensures)
-    (c .before .before .before .before .before .before .before .copy-numbers2 .ensures) (c .before .before .copy-bytes .ensures)
+returns-5 c =
+    let c7 = c .before .before .before .before .before .before .before in
+    let c12 = c7 .before .before .before .before .before in
+    let c15 = c12 .before .before .before in
+    let c18 = c15 .before .before .before in
+    let c26 = c18 .before .before .before .before .before .before .before .before in
+    let a = c26 .args in
+    let p = c26 .pre in
+    all-given (take (a .held .tokens) (now (a .tokens))) (take (a .held .literals * 5) (now (a .rows))) (take (a .held .bytes) (now (a .bytes))) (now
+    (a .out)) (now (a .literals)) (now (a .content)) (a .held .tokens) (a .held .literals * 5) (a .held .bytes) (sym (length-take-le (a .held .tokens)
+    (now (a .tokens)) (p .0))) (sym (length-take-le (a .held .literals * 5) (now (a .rows)) (p .1))) (sym (length-take-le (a .held .bytes) (now (a .bytes))
+    (p .2))) (not-false _ (c18 .if1 .left)) (c15 .before .before .if2 .left) (c15 .before .if3 .left) (c15 .if4 .left) (c12 .copy-numbers .ensures)
+    (c7 .copy-numbers2 .ensures) (c .before .before .copy-bytes .ensures)
 
 pub give-spec : {M : Type 1} → statement M
 give-spec =

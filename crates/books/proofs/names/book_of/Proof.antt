@@ -35,63 +35,54 @@ array-share-prefix-others c = (few (c .before .before .before .before .before .b
     (c .before .described .given .1)) .3
 
 slice-aggregate-copy-numbers : tie.Need-slice-aggregate-copy-numbers
-slice-aggregate-copy-numbers c = sym (length-take-le _ _ ((few
-    (c .before .before .before .before .before .before .before .before .before .before .before .before .before .describe .result)
-    (c .before .before .before .before .before .before .before .before .before .before .before .before .before .describe .ensures) (omega arith)
-    (c .before .before .before .before .before .before .before .before .before .before .before .before .before .before .before .before .before .before .before .before .before .before .before .before .pre .0)
-    (omega arith) (omega arith)
-    (c .before .before .before .before .before .before .before .before .before .before .before .before .before .before .before .before .before .before .before .before .before .before .before .before .pre .1)
-    (c .before .before .before .before .before .before .before .before .before .before .before .before .before .before .before .before .before .before .before .before .before .before .before .before .pre .2)
-    (c .before .before .described .given .1)) .3))
+slice-aggregate-copy-numbers c =
+    let c13 = c .before .before .before .before .before .before .before .before .before .before .before .before .before in
+    let c24 = c13 .before .before .before .before .before .before .before .before .before .before .before in
+    let p = c24 .pre in
+    sym (length-take-le _ _ ((few (c13 .describe .result) (c13 .describe .ensures) (omega arith) (p .0) (omega arith) (omega arith) (p .1) (p .2) (c .before .before .described .given .1)) .3))
 
 mul-copy-numbers : tie.Need-mul-copy-numbers
-mul-copy-numbers c = let f = (few (c .before .before .before .before .before .before .before .before .before .before .before .before .before .describe .result)
-    (c .before .before .before .before .before .before .before .before .before .before .before .before .before .describe .ensures) (omega arith)
-    (c .before .before .before .before .before .before .before .before .before .before .before .before .before .before .before .before .before .before .before .before .before .before .before .before .pre .0)
-    (omega arith) (omega arith)
-    (c .before .before .before .before .before .before .before .before .before .before .before .before .before .before .before .before .before .before .before .before .before .before .before .before .pre .1)
-    (c .before .before .before .before .before .before .before .before .before .before .before .before .before .before .before .before .before .before .before .before .before .before .before .before .pre .2)
-    (c .before .before .described .given .1)) in omega (arith, f .0)
+mul-copy-numbers c =
+    let c13 = c .before .before .before .before .before .before .before .before .before .before .before .before .before in
+    let c24 = c13 .before .before .before .before .before .before .before .before .before .before .before in
+    let p = c24 .pre in
+    let f = (few (c13 .describe .result) (c13 .describe .ensures) (omega arith) (p .0) (omega arith) (omega arith) (p .1) (p .2) (c .before .before .described .given .1))
+    in
+    omega (arith, f .0)
 
 sub-copy-numbers : tie.Need-sub-copy-numbers
-sub-copy-numbers c = (few (c .before .before .before .before .before .before .before .before .before .before .before .before .before .describe .result)
-    (c .before .before .before .before .before .before .before .before .before .before .before .before .before .describe .ensures) (omega arith)
-    (c .before .before .before .before .before .before .before .before .before .before .before .before .before .before .before .before .before .before .before .before .before .before .before .before .pre .0)
-    (omega arith) (omega arith)
-    (c .before .before .before .before .before .before .before .before .before .before .before .before .before .before .before .before .before .before .before .before .before .before .before .before .pre .1)
-    (c .before .before .before .before .before .before .before .before .before .before .before .before .before .before .before .before .before .before .before .before .before .before .before .before .pre .2)
-    (c .before .before .described .given .1)) .2
+sub-copy-numbers c =
+    let c13 = c .before .before .before .before .before .before .before .before .before .before .before .before .before in
+    let c24 = c13 .before .before .before .before .before .before .before .before .before .before .before in
+    let p = c24 .pre in
+    (few (c13 .describe .result) (c13 .describe .ensures) (omega arith) (p .0) (omega arith) (omega arith) (p .1) (p .2) (c .before .before .described .given .1)) .2
 
 part-copy-numbers-start : tie.Need-part-copy-numbers-start
-part-copy-numbers-start c = (few (c .before .before .before .before .before .before .before .before .before .before .before .before .before .describe .result)
-    (c .before .before .before .before .before .before .before .before .before .before .before .before .before .describe .ensures) (omega arith)
-    (c .before .before .before .before .before .before .before .before .before .before .before .before .before .before .before .before .before .before .before .before .before .before .before .before .pre .0)
-    (omega arith) (omega arith)
-    (c .before .before .before .before .before .before .before .before .before .before .before .before .before .before .before .before .before .before .before .before .before .before .before .before .pre .1)
-    (c .before .before .before .before .before .before .before .before .before .before .before .before .before .before .before .before .before .before .before .before .before .before .before .before .pre .2)
-    (c .before .before .described .given .1)) .2
+part-copy-numbers-start c =
+    let c13 = c .before .before .before .before .before .before .before .before .before .before .before .before .before in
+    let c24 = c13 .before .before .before .before .before .before .before .before .before .before .before in
+    let p = c24 .pre in
+    (few (c13 .describe .result) (c13 .describe .ensures) (omega arith) (p .0) (omega arith) (omega arith) (p .1) (p .2) (c .before .before .described .given .1)) .2
 
 part-copy-numbers-end : tie.Need-part-copy-numbers-end
 part-copy-numbers-end c = search needs
 
 copy-numbers-requires : tie.Need-copy-numbers-requires
-copy-numbers-requires c κs = (few (c .before .before .before .before .before .before .before .before .before .before .before .before .before .before .describe .result)
-    (c .before .before .before .before .before .before .before .before .before .before .before .before .before .before .describe .ensures) (omega arith)
-    (c .before .before .before .before .before .before .before .before .before .before .before .before .before .before .before .before .before .before .before .before .before .before .before .before .before .pre .0)
-    (omega arith) (omega arith)
-    (c .before .before .before .before .before .before .before .before .before .before .before .before .before .before .before .before .before .before .before .before .before .before .before .before .before .pre .1)
-    (c .before .before .before .before .before .before .before .before .before .before .before .before .before .before .before .before .before .before .before .before .before .before .before .before .before .pre .2)
-    (c .before .before .before .described .given .1)) .4
+copy-numbers-requires c κs =
+    let c14 = c .before .before .before .before .before .before .before .before .before .before .before .before .before .before in
+    let c25 = c14 .before .before .before .before .before .before .before .before .before .before .before in
+    let p = c25 .pre in
+    (few (c14 .describe .result) (c14 .describe .ensures) (omega arith) (p .0) (omega arith) (omega arith) (p .1) (p .2) (c .before .before .before .described .given .1)) .4
 
 add-t31 : tie.Need-add-t31
-add-t31 c = let f = (few
-    (c .before .before .before .before .before .before .before .before .before .before .before .before .before .before .before .before .before .describe .result)
-    (c .before .before .before .before .before .before .before .before .before .before .before .before .before .before .before .before .before .describe .ensures) (omega arith)
-    (c .before .before .before .before .before .before .before .before .before .before .before .before .before .before .before .before .before .before .before .before .before .before .before .before .before .before .before .before .pre .0)
-    (omega arith) (omega arith)
-    (c .before .before .before .before .before .before .before .before .before .before .before .before .before .before .before .before .before .before .before .before .before .before .before .before .before .before .before .before .pre .1)
-    (c .before .before .before .before .before .before .before .before .before .before .before .before .before .before .before .before .before .before .before .before .before .before .before .before .before .before .before .before .pre .2)
-    (c .before .before .before .before .before .before .described .given .1)) in omega (arith, f .0, f .1)
+add-t31 c =
+    let c6 = c .before .before .before .before .before .before in
+    let c17 = c6 .before .before .before .before .before .before .before .before .before .before .before in
+    let c28 = c17 .before .before .before .before .before .before .before .before .before .before .before in
+    let p = c28 .pre in
+    let f = (few (c17 .describe .result) (c17 .describe .ensures) (omega arith) (p .0) (omega arith) (omega arith) (p .1) (p .2) (c6 .described .given .1))
+    in
+    omega (arith, f .0, f .1)
 
 enum-known-described-2 : tie.Need-enum-known-described-2
 enum-known-described-2 c = search needs
@@ -109,14 +100,13 @@ same-length-3 : tie.Need-same-length-3
 same-length-3 c = search needs
 
 returns : tie.Need-returns
-returns c = described-book
-    (c .before .before .before .before .before .before .before .before .before .before .before .before .before .before .before .before .before .describe .result)
-    (c .before .before .before .before .before .before .before .before .before .before .before .before .before .before .before .before .before .describe .ensures) (omega arith)
-    (c .before .before .before .before .before .before .before .before .before .before .before .before .before .before .before .before .before .before .before .before .before .before .before .before .before .before .before .before .pre .0)
-    (omega arith) (omega arith)
-    (c .before .before .before .before .before .before .before .before .before .before .before .before .before .before .before .before .before .before .before .before .before .before .before .before .before .before .before .before .pre .1)
-    (c .before .before .before .before .before .before .before .before .before .before .before .before .before .before .before .before .before .before .before .before .before .before .before .before .before .before .before .before .pre .2)
-    (c .before .before .before .before .before .before .described .given .1) (c .before .before .copy-numbers .ensures)
+returns c =
+    let c6 = c .before .before .before .before .before .before in
+    let c17 = c6 .before .before .before .before .before .before .before .before .before .before .before in
+    let c28 = c17 .before .before .before .before .before .before .before .before .before .before .before in
+    let p = c28 .pre in
+    described-book (c17 .describe .result) (c17 .describe .ensures) (omega arith) (p .0) (omega arith) (omega arith) (p .1) (p .2) (c6 .described .given .1)
+    (c .before .before .copy-numbers .ensures)
 
 same-length-4 : tie.Need-same-length-4
 same-length-4 c = search needs

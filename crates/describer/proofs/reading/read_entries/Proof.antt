@@ -6,7 +6,7 @@ use native.Mathlib.Omega.{arith}
 use lib.ListN.{length}
 use borrow.Author.Needs.{needs}
 use borrow.Author.Tests.{not-true, not-false}
-use Rattle.words.proofs.Laws.{inked-le}
+use Rattle.text_bytes.proofs.Laws.{inked-le}
 use Rattle.describer.proofs.Going.{Going, begins, over, faults, fits, fits-stack, level-fits, stops, goes-on, further, name-ready, name-stops, name-goes, name-further, name-fault, step-as}
 use Rattle.describer.proofs.reading.read_entries.Statement.{statement}
 use Rattle.describer.proofs.reading.read_entries.Tie as tie
@@ -149,16 +149,16 @@ found-requires-3 c κs = search needs
 
 same-length-13 : tie.Need-same-length-13 Inv-loop μ-loop
 same-length-13 c =
-    let p26 =
-    c .before .before .before .before .before .before .before .before .before .before .before .before .before .before .before .before .before .before .before .before .before .before .before .before .before .before
-    in
+    let c12 = c .before .before .before .before .before .before .before .before .before .before .before .before in
+    let c26 = c12 .before .before .before .before .before .before .before .before .before .before .before .before .before .before in
+    let p26 = c26 in
     p26 .loop .inv .1
 
 same-length-14 : tie.Need-same-length-14 Inv-loop μ-loop
 same-length-14 c =
-    let p26 =
-    c .before .before .before .before .before .before .before .before .before .before .before .before .before .before .before .before .before .before .before .before .before .before .before .before .before .before
-    in
+    let c12 = c .before .before .before .before .before .before .before .before .before .before .before .before in
+    let c26 = c12 .before .before .before .before .before .before .before .before .before .before .before .before .before .before in
+    let p26 = c26 in
     p26 .loop .inv .2
 
 same-length-15 : tie.Need-same-length-15 Inv-loop μ-loop

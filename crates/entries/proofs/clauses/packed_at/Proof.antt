@@ -37,12 +37,19 @@ enum-known-k-2 c = search needs
 
 returns : tie.Need-returns
 unfolding packedAt
-returns c = via (λ x. capClauses (afterPacked (c .before .before .before .before .before .before .before .before .args .signed) (c .before .before .before .before .before .before .before .before .args .i) (c .before .before .before .before .before .before .before .before .args .j) x)) (c .before .before .before .before .before .literal .ensures) (c .before .before .before .k .given .1)
-    (c .ended .ensures ∙ rw (c .before .packed-kind .ensures))
+returns c =
+    let c5 = c .before .before .before .before .before in
+    let c8 = c5 .before .before .before in
+    let a = c8 .args in
+    via (λ x. capClauses (afterPacked (a .signed) (a .i) (a .j) x)) (c5 .literal .ensures) (c .before .before .before .k .given .1) (c .ended .ensures
+    ∙ rw (c .before .packed-kind .ensures))
 
 returns-2 : tie.Need-returns-2
 unfolding packedAt
-returns-2 c = via (λ x. capClauses (afterPacked (c .before .before .before .before .before .before .args .signed) (c .before .before .before .before .before .before .args .i) (c .before .before .before .before .before .before .args .j) x)) (c .before .before .before .literal .ensures) (c .before .k2 .given .1) refl
+returns-2 c =
+    let c6 = c .before .before .before .before .before .before in
+    let a = c6 .args in
+    via (λ x. capClauses (afterPacked (a .signed) (a .i) (a .j) x)) (c .before .before .before .literal .ensures) (c .before .k2 .given .1) refl
 
 pub packed-at-spec : {M : Type 1} → statement M
 packed-at-spec =

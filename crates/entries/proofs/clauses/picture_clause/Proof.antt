@@ -20,23 +20,35 @@ enum-known-signed : tie.Need-enum-known-signed
 enum-known-signed c = search needs
 
 usage-at-requires : tie.Need-usage-at-requires
-usage-at-requires c κs = (
-  number-le (now (c .before .before .before .before .before .args .text)) (c .before .before .before .before .before .args .n) (pictureAt (now (c .before .before .before .before .before .args .text)) (c .before .before .before .before .before .args .n)) (c .before .before .before .picture-at .ensures) (c .before .signed .given .1)
-      (picture-draws (now (c .before .before .before .before .before .args .text)) (c .before .before .before .before .before .args .n) (c .before .before .before .before .before .pre .0)),
-  number-small (pictureAt (now (c .before .before .before .before .before .args .text)) (c .before .before .before .before .before .args .n)) (c .before .before .before .picture-at .ensures) (c .before .signed .given .1),
-)
+usage-at-requires c κs =
+    let c5 = c .before .before .before .before .before in
+    let a = c5 .args in (
+      number-le (now (a .text)) (a .n) (pictureAt (now (a .text)) (a .n)) (c .before .before .before .picture-at .ensures) (c .before .signed .given .1)
+          (picture-draws (now (a .text)) (a .n) (c5 .pre .0)),
+      number-small (pictureAt (now (a .text)) (a .n)) (c .before .before .before .picture-at .ensures)
+          (c .before .signed .given .1),
+    )
 
 enum-known-k : tie.Need-enum-known-k
 enum-known-k c = search needs
 
 returns : tie.Need-returns
-returns c = ended-is (now (c .before .before .before .before .before .before .args .text)) (pictureAt (now (c .before .before .before .before .before .before .args .text)) (c .before .before .before .before .before .before .args .n)) (c .before .before .before .before .picture-at .ensures) (c .before .before .kind .given .1) (c .ended .ensures)
+returns c =
+    let c4 = c .before .before .before .before in
+    let a = c4 .before .before .args in
+    ended-is (now (a .text)) (pictureAt (now (a .text)) (a .n)) (c4 .picture-at .ensures) (c .before .before .kind .given .1) (c .ended .ensures)
 
 returns-2 : tie.Need-returns-2
-returns-2 c = number-is (now (c .before .before .before .before .before .before .args .text)) (pictureAt (now (c .before .before .before .before .before .before .args .text)) (c .before .before .before .before .before .before .args .n)) (c .before .before .before .before .picture-at .ensures) (c .before .before .signed .given .1) (c .usage-at .ensures)
+returns-2 c =
+    let c4 = c .before .before .before .before in
+    let a = c4 .before .before .args in
+    number-is (now (a .text)) (pictureAt (now (a .text)) (a .n)) (c4 .picture-at .ensures) (c .before .before .signed .given .1) (c .usage-at .ensures)
 
 returns-3 : tie.Need-returns-3
-returns-3 c = picture-fault (now (c .before .before .before .before .before .args .text)) (pictureAt (now (c .before .before .before .before .before .args .text)) (c .before .before .before .before .before .args .n)) (c .before .before .before .picture-at .ensures) (c .before .k .given .1)
+returns-3 c =
+    let c5 = c .before .before .before .before .before in
+    let a = c5 .args in
+    picture-fault (now (a .text)) (pictureAt (now (a .text)) (a .n)) (c .before .before .before .picture-at .ensures) (c .before .k .given .1)
 
 pub picture-clause-spec : {M : Type 1} → statement M
 picture-clause-spec =

@@ -33,10 +33,17 @@ enum-known-k-2 : tie.Need-enum-known-k-2
 enum-known-k-2 c = search needs
 
 returns : tie.Need-returns
-returns c = via (λ x. capClauses (afterSeparate (c .before .before .before .before .before .before .before .args .kind) (c .before .before .before .before .before .before .before .args .i) (c .before .before .before .before .before .before .before .args .j) x)) (c .before .before .before .before .literal .ensures) (c .before .before .k .given .1) (c .ended .ensures)
+returns c =
+    let c4 = c .before .before .before .before in
+    let c7 = c4 .before .before .before in
+    let a = c7 .args in
+    via (λ x. capClauses (afterSeparate (a .kind) (a .i) (a .j) x)) (c4 .literal .ensures) (c .before .before .k .given .1) (c .ended .ensures)
 
 returns-2 : tie.Need-returns-2
-returns-2 c = via (λ x. capClauses (afterSeparate (c .before .before .before .before .before .before .args .kind) (c .before .before .before .before .before .before .args .i) (c .before .before .before .before .before .before .args .j) x)) (c .before .before .before .literal .ensures) (c .before .k2 .given .1) refl
+returns-2 c =
+    let c6 = c .before .before .before .before .before .before in
+    let a = c6 .args in
+    via (λ x. capClauses (afterSeparate (a .kind) (a .i) (a .j) x)) (c .before .before .before .literal .ensures) (c .before .k2 .given .1) refl
 
 pub separate-spec : {M : Type 1} → statement M
 separate-spec =

@@ -19,10 +19,18 @@ packed-at-requires : tie.Need-packed-at-requires
 packed-at-requires c κs = search needs
 
 returns : tie.Need-returns
-returns c = sign-is (c .before .before .before .before .before .args .signed) (c .before .before .before .before .before .args .i) (c .before .before .before .before .before .args .j) (now (c .before .before .before .before .before .args .text)) (c .before .before .before .before .before .args .n) (c .before .before .before .next-ink .ensures) (c .before .before .byte-at .ensures) (c .before .if1 .taken) (c .sign-at .ensures)
+returns c =
+    let c5 = c .before .before .before .before .before in
+    let a = c5 .args in
+    sign-is (a .signed) (a .i) (a .j) (now (a .text)) (a .n) (c .before .before .before .next-ink .ensures) (c .before .before .byte-at .ensures) (c .before .if1 .taken)
+    (c .sign-at .ensures)
 
 returns-2 : tie.Need-returns-2
-returns-2 c = packed-is (c .before .before .before .before .before .args .signed) (c .before .before .before .before .before .args .i) (c .before .before .before .before .before .args .j) (now (c .before .before .before .before .before .args .text)) (c .before .before .before .before .before .args .n) (c .before .before .before .next-ink .ensures) (c .before .before .byte-at .ensures) (c .before .if1 .left) (c .packed-at .ensures)
+returns-2 c =
+    let c5 = c .before .before .before .before .before in
+    let a = c5 .args in
+    packed-is (a .signed) (a .i) (a .j) (now (a .text)) (a .n) (c .before .before .before .next-ink .ensures) (c .before .before .byte-at .ensures) (c .before .if1 .left)
+    (c .packed-at .ensures)
 
 pub usage-at-spec : {M : Type 1} → statement M
 usage-at-spec =

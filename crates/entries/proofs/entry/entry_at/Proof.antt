@@ -73,9 +73,11 @@ returns-2 c = via (λ x. capEntry
     (c .before .before .enter .ensures) (c .enum-told .given .1) refl)
 
 returns-3 : tie.Need-returns-3
-returns-3 c = via (λ x. capEntry
-    (leveledAt (now (c .before .before .before .before .before .args .stack)) (c .before .before .before .before .before .args .depth) (c .before .before .before .before .before .args .waiting) (now (c .before .before .before .before .before .args .text)) (c .before .before .before .before .before .args .p) x))
-    (c .before .before .level-at .ensures) (c .enum-told2 .given .1) refl
+returns-3 c =
+    let c5 = c .before .before .before .before .before in
+    let a = c5 .args in
+    via (λ x. capEntry (leveledAt (now (a .stack)) (a .depth) (a .waiting) (now (a .text)) (a .p) x)) (c .before .before .level-at .ensures) (c .enum-told2 .given .1)
+    refl
 
 returns-4 : tie.Need-returns-4
 returns-4 c = via (λ x. capEntry

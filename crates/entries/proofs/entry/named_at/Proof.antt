@@ -6,7 +6,7 @@ use lib.ListN.{length, take, drop, getD}
 use denote.Ref.{now}
 use Rattle.entries.specs.Entries.{capClauses, capEntry}
 use Rattle.entries.proofs.Branches.{via, known}
-use Rattle.words.proofs.Laws.{inked-le}
+use Rattle.text_bytes.proofs.Laws.{inked-le}
 use Rattle.entries.specs.Entries.{itemAt, calledOf}
 use Rattle.entries.proofs.Bounds.{Names, name-reaches}
 use borrow.Author.Needs.{needs}

@@ -53,57 +53,28 @@ enum-known-stepped : tie.Need-enum-known-stepped Inv-loop μ-loop
 enum-known-stepped c = search needs
 
 loop-less : tie.Need-loop-less Inv-loop μ-loop
-loop-less c = omega (
-  arith,
-  on-step (bookIn (knownAt (now
-      (c .before .before .before .before .before .before .before .before .before .before .before .before .before .before .before .before .before .before .before .before .before .before .args .description))
-      (c .before .before .before .before .before .before .before .before .before .before .before .before .before .before .before .before .before .before .before .before .before .before .args .items)
-      (now
-      (c .before .before .before .before .before .before .before .before .before .before .before .before .before .before .before .before .before .before .before .before .before .before .args .places)))
-      (c .before .before .before .before .before .before .before .before .before .before .before .before .before .before .before .before .before .before .before .before .before .before .args .literals)
-      (c .before .before .before .before .before .before .before .before .before .before .before .before .before .before .before .before .before .before .before .before .before .before .args .content)
-      (now
-      (c .before .before .before .before .before .before .before .before .before .before .before .before .before .before .before .before .before .before .before .before .before .before .args .rows))
-      (now
-      (c .before .before .before .before .before .before .before .before .before .before .before .before .before .before .before .before .before .before .before .before .before .before .args .bytes)))
-      (now
-      (c .before .before .before .before .before .before .before .before .before .before .before .before .before .before .before .before .before .before .before .before .before .before .args .text))
-      (c .before .before .before .before .before .before .before .before .before .before .before .before .before .before .before .loop .inv .0)
-      (c .before .before .before .before .before .before .before .before .before .before .before .before .before .before .before .loop .inv .1)
-      (c .before .before .before .before .before .before .before .before .before .step .result)
-      (c .before .before .before .before .before .before .before .before .before .step .ensures)
-      (c .before .stepped .given .1) .2,
-  c .before .before .before .before .before .before .before .before .before .before .before .before .before .if1 .taken,
-)
+loop-less c =
+    let c9 = c .before .before .before .before .before .before .before .before .before in
+    let c13 = c9 .before .before .before .before in
+    let c22 = c13 .before .before .before .before .before .before .before .before .before in
+    let a = c22 .args in
+    omega (
+      arith,
+      on-step (bookIn (knownAt (now (a .description)) (a .items) (now (a .places))) (a .literals) (a .content) (now (a .rows)) (now (a .bytes)))
+          (now (a .text)) (c13 .before .before .loop .inv .0) (c13 .before .before .loop .inv .1) (c9 .step .result) (c9 .step .ensures) (c .before .stepped .given .1) .2,
+      c13 .if1 .taken,
+    )
 
 loop-again : tie.Need-loop-again Inv-loop μ-loop
 loop-again c =
-    let i = c .before .before .before .before .before .before .before .before .before .before .before .before .before .before .before .loop .inv in
-    let s = on-step (bookIn (knownAt (now
-    (c .before .before .before .before .before .before .before .before .before .before .before .before .before .before .before .before .before .before .before .before .before .before .args .description))
-    (c .before .before .before .before .before .before .before .before .before .before .before .before .before .before .before .before .before .before .before .before .before .before .args .items)
-    (now
-    (c .before .before .before .before .before .before .before .before .before .before .before .before .before .before .before .before .before .before .before .before .before .before .args .places)))
-    (c .before .before .before .before .before .before .before .before .before .before .before .before .before .before .before .before .before .before .before .before .before .before .args .literals)
-    (c .before .before .before .before .before .before .before .before .before .before .before .before .before .before .before .before .before .before .before .before .before .before .args .content)
-    (now
-    (c .before .before .before .before .before .before .before .before .before .before .before .before .before .before .before .before .before .before .before .before .before .before .args .rows))
-    (now
-    (c .before .before .before .before .before .before .before .before .before .before .before .before .before .before .before .before .before .before .before .before .before .before .args .bytes)))
-    (now
-    (c .before .before .before .before .before .before .before .before .before .before .before .before .before .before .before .before .before .before .before .before .before .before .args .text))
-    (c .before .before .before .before .before .before .before .before .before .before .before .before .before .before .before .loop .inv .0)
-    (c .before .before .before .before .before .before .before .before .before .before .before .before .before .before .before .loop .inv .1)
-    (c .before .before .before .before .before .before .before .before .before .step .result)
-    (c .before .before .before .before .before .before .before .before .before .step .ensures) (c .before .stepped .given .1) in (
-      s .0,
-      s .1,
-      c .before .before .before .before .before .before .before .before .before .step .kept .1 .1 .1 .1 .1 .0
-          ∙ i .2,
-      c .before .before .before .before .before .before .before .before .before .step .kept .1 .1 .1 .1 .1 .1 .0
-          ∙ i .3,
-      c .before .before .before .before .before .before .before .before .before .step .kept .1 .1 .1 .1 .1 .1 .1 .0 ∙ i .4,
-    )
+    let c9 = c .before .before .before .before .before .before .before .before .before in
+    let c15 = c9 .before .before .before .before .before .before in
+    let c22 = c15 .before .before .before .before .before .before .before in
+    let a = c22 .args in
+    let i = c15 .loop .inv in
+    let s = on-step (bookIn (knownAt (now (a .description)) (a .items) (now (a .places))) (a .literals) (a .content) (now (a .rows)) (now (a .bytes)))
+    (now (a .text)) (c15 .loop .inv .0) (c15 .loop .inv .1) (c9 .step .result) (c9 .step .ensures) (c .before .stepped .given .1) in
+    (s .0, s .1, c9 .step .kept .1 .1 .1 .1 .1 .0 ∙ i .2, c9 .step .kept .1 .1 .1 .1 .1 .1 .0 ∙ i .3, c9 .step .kept .1 .1 .1 .1 .1 .1 .1 .0 ∙ i .4)
 
 enum-told : tie.Need-enum-told Inv-loop μ-loop
 enum-told c = search needs
@@ -121,23 +92,13 @@ same-length-3 c = c .before .before .before .before .before .before .before .bef
     ∙ c .before .before .before .before .before .before .before .before .before .before .before .before .before .before .before .loop .inv .4
 
 returns : tie.Need-returns Inv-loop μ-loop
-returns c = whole-end (bookIn (knownAt (now
-    (c .before .before .before .before .before .before .before .before .before .before .before .before .before .before .before .before .before .before .before .before .before .before .args .description))
-    (c .before .before .before .before .before .before .before .before .before .before .before .before .before .before .before .before .before .before .before .before .before .before .args .items)
-    (now
-    (c .before .before .before .before .before .before .before .before .before .before .before .before .before .before .before .before .before .before .before .before .before .before .args .places)))
-    (c .before .before .before .before .before .before .before .before .before .before .before .before .before .before .before .before .before .before .before .before .before .before .args .literals)
-    (c .before .before .before .before .before .before .before .before .before .before .before .before .before .before .before .before .before .before .before .before .before .before .args .content)
-    (now
-    (c .before .before .before .before .before .before .before .before .before .before .before .before .before .before .before .before .before .before .before .before .before .before .args .rows))
-    (now
-    (c .before .before .before .before .before .before .before .before .before .before .before .before .before .before .before .before .before .before .before .before .before .before .args .bytes)))
-    (now
-    (c .before .before .before .before .before .before .before .before .before .before .before .before .before .before .before .before .before .before .before .before .before .before .args .text))
-    (c .before .before .before .before .before .before .before .before .before .before .before .before .before .before .before .loop .inv .0)
-    (c .before .before .before .before .before .before .before .before .before .before .before .before .before .before .before .loop .inv .1)
-    (c .before .before .before .before .before .before .before .before .before .step .result)
-    (c .before .before .before .before .before .before .before .before .before .step .ensures) (c .before .enum-told .given .1) (c .if2 .taken)
+returns c =
+    let c9 = c .before .before .before .before .before .before .before .before .before in
+    let c15 = c9 .before .before .before .before .before .before in
+    let c22 = c15 .before .before .before .before .before .before .before in
+    let a = c22 .args in
+    whole-end (bookIn (knownAt (now (a .description)) (a .items) (now (a .places))) (a .literals) (a .content) (now (a .rows)) (now (a .bytes))) (now
+    (a .text)) (c15 .loop .inv .0) (c15 .loop .inv .1) (c9 .step .result) (c9 .step .ensures) (c .before .enum-told .given .1) (c .if2 .taken)
 
 same-length-4 : tie.Need-same-length-4 Inv-loop μ-loop
 same-length-4 c = c .before .before .before .before .before .before .before .before .before .step .kept .1 .1 .1 .1 .1 .0
@@ -152,23 +113,13 @@ same-length-6 c = c .before .before .before .before .before .before .before .bef
     ∙ c .before .before .before .before .before .before .before .before .before .before .before .before .before .before .before .loop .inv .4
 
 returns-2 : tie.Need-returns-2 Inv-loop μ-loop
-returns-2 c = long-end (bookIn (knownAt (now
-    (c .before .before .before .before .before .before .before .before .before .before .before .before .before .before .before .before .before .before .before .before .before .before .args .description))
-    (c .before .before .before .before .before .before .before .before .before .before .before .before .before .before .before .before .before .before .before .before .before .before .args .items)
-    (now
-    (c .before .before .before .before .before .before .before .before .before .before .before .before .before .before .before .before .before .before .before .before .before .before .args .places)))
-    (c .before .before .before .before .before .before .before .before .before .before .before .before .before .before .before .before .before .before .before .before .before .before .args .literals)
-    (c .before .before .before .before .before .before .before .before .before .before .before .before .before .before .before .before .before .before .before .before .before .before .args .content)
-    (now
-    (c .before .before .before .before .before .before .before .before .before .before .before .before .before .before .before .before .before .before .before .before .before .before .args .rows))
-    (now
-    (c .before .before .before .before .before .before .before .before .before .before .before .before .before .before .before .before .before .before .before .before .before .before .args .bytes)))
-    (now
-    (c .before .before .before .before .before .before .before .before .before .before .before .before .before .before .before .before .before .before .before .before .before .before .args .text))
-    (c .before .before .before .before .before .before .before .before .before .before .before .before .before .before .before .loop .inv .0)
-    (c .before .before .before .before .before .before .before .before .before .before .before .before .before .before .before .loop .inv .1)
-    (c .before .before .before .before .before .before .before .before .before .step .result)
-    (c .before .before .before .before .before .before .before .before .before .step .ensures) (c .before .enum-told .given .1) (c .if2 .left)
+returns-2 c =
+    let c9 = c .before .before .before .before .before .before .before .before .before in
+    let c15 = c9 .before .before .before .before .before .before in
+    let c22 = c15 .before .before .before .before .before .before .before in
+    let a = c22 .args in
+    long-end (bookIn (knownAt (now (a .description)) (a .items) (now (a .places))) (a .literals) (a .content) (now (a .rows)) (now (a .bytes))) (now
+    (a .text)) (c15 .loop .inv .0) (c15 .loop .inv .1) (c9 .step .result) (c9 .step .ensures) (c .before .enum-told .given .1) (c .if2 .left)
 
 enum-known-stepped-2 : tie.Need-enum-known-stepped-2 Inv-loop μ-loop
 enum-known-stepped-2 c = search needs
@@ -189,23 +140,13 @@ same-length-9 c = c .before .before .before .before .before .before .before .bef
     ∙ c .before .before .before .before .before .before .before .before .before .before .before .before .before .before .before .before .loop .inv .4
 
 returns-3 : tie.Need-returns-3 Inv-loop μ-loop
-returns-3 c = fault-end (bookIn (knownAt (now
-    (c .before .before .before .before .before .before .before .before .before .before .before .before .before .before .before .before .before .before .before .before .before .before .before .args .description))
-    (c .before .before .before .before .before .before .before .before .before .before .before .before .before .before .before .before .before .before .before .before .before .before .before .args .items)
-    (now
-    (c .before .before .before .before .before .before .before .before .before .before .before .before .before .before .before .before .before .before .before .before .before .before .before .args .places)))
-    (c .before .before .before .before .before .before .before .before .before .before .before .before .before .before .before .before .before .before .before .before .before .before .before .args .literals)
-    (c .before .before .before .before .before .before .before .before .before .before .before .before .before .before .before .before .before .before .before .before .before .before .before .args .content)
-    (now
-    (c .before .before .before .before .before .before .before .before .before .before .before .before .before .before .before .before .before .before .before .before .before .before .before .args .rows))
-    (now
-    (c .before .before .before .before .before .before .before .before .before .before .before .before .before .before .before .before .before .before .before .before .before .before .before .args .bytes)))
-    (now
-    (c .before .before .before .before .before .before .before .before .before .before .before .before .before .before .before .before .before .before .before .before .before .before .before .args .text))
-    (c .before .before .before .before .before .before .before .before .before .before .before .before .before .before .before .before .loop .inv .0)
-    (c .before .before .before .before .before .before .before .before .before .before .before .before .before .before .before .before .loop .inv .1)
-    (c .before .before .before .before .before .before .before .before .before .before .step .result)
-    (c .before .before .before .before .before .before .before .before .before .before .step .ensures) (c .early .result) (c .before .before .stepped2 .given .1)
+returns-3 c =
+    let c10 = c .before .before .before .before .before .before .before .before .before .before in
+    let c16 = c10 .before .before .before .before .before .before in
+    let c23 = c16 .before .before .before .before .before .before .before in
+    let a = c23 .args in
+    fault-end (bookIn (knownAt (now (a .description)) (a .items) (now (a .places))) (a .literals) (a .content) (now (a .rows)) (now (a .bytes))) (now
+    (a .text)) (c16 .loop .inv .0) (c16 .loop .inv .1) (c10 .step .result) (c10 .step .ensures) (c .early .result) (c .before .before .stepped2 .given .1)
     (c .early .ensures)
 
 same-length-10 : tie.Need-same-length-10 Inv-loop μ-loop

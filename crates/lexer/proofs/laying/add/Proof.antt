@@ -14,8 +14,10 @@ enum-known-met : tie.Need-enum-known-met
 enum-known-met c = search needs
 
 add-token-requires : tie.Need-add-token-requires
-add-token-requires c κs = omega
-    (arith, c .before .before .before .before .before .before .before .before .before .before .pre .0 .bounds .few-tokens, c .before .before .before .before .before .before .before .before .before .before .pre .0 .soon, c .before .before .before .before .before .before .before .before .before .before .pre .0 .rooms .tokens-room)
+add-token-requires c κs =
+    let c10 = c .before .before .before .before .before .before .before .before .before .before in
+    let p = c10 .pre in
+    omega (arith, p .0 .bounds .few-tokens, p .0 .soon, p .0 .rooms .tokens-room)
 
 enum-known-met-2 : tie.Need-enum-known-met-2
 enum-known-met-2 c = search needs
@@ -31,8 +33,9 @@ part-add-literal-start : tie.Need-part-add-literal-start
 part-add-literal-start c = omega (arith, c .before .before .before .before .before .before .before .before .before .before .before .pre .1 .some)
 
 part-add-literal-end : tie.Need-part-add-literal-end
-part-add-literal-end c = omega
-    (arith, c .before .before .before .before .before .before .before .before .before .before .before .pre .1 .inside, c .before .before .before .before .before .before .before .before .before .before .before .pre .1 .within)
+part-add-literal-end c =
+    let c11 = c .before .before .before .before .before .before .before .before .before .before .before in
+    omega (arith, c11 .pre .1 .inside, c11 .pre .1 .within)
 
 add-literal-requires : tie.Need-add-literal-requires
 add-literal-requires c κs = literal-room (c .before .before .before .before .before .before .before .before .before .before .before .before .before .before .before .pre .0)

@@ -68,21 +68,18 @@ same-length-3 : tie.Need-same-length-3
 same-length-3 c = search needs
 
 returns : tie.Need-returns
-returns c = record {
-  counts = ap (λ n. withLiteral (c .before .before .before .before .before .before .before .before .before .before .before .before .before .args .held) n
-      (c .before .before .before .before .before .before .before .before .before .before .before .before .before .args .past)) (c .wide .ensures);
-  token-laid = refl;
-  row-laid = c .before .before .before .before .before .before .before .lay-row .ensures;
-  bytes-laid =
-      bytes-over (c .before .before .before .before .before .before .before .before .before .before .before .before .before .args .held .bytes) (literalBy
-      (c .before .before .before .before .before .before .before .before .before .before .before .before .before .args .row .kind) (now
-      (c .before .before .before .before .before .before .before .before .before .before .before .before .before .args .word)) .bytes) (now
-      (c .before .before .before .before .before .before .before .before .before .before .before .before .before .args .bytes))
-      (c .before .before .before .copy-literal .last .1 .1 .0)
-      (omega
-      (arith, c .before .before .before .before .before .before .before .before .before .before .before .before .before .pre .size, c .before .before .before .before .before .before .before .before .before .before .before .before .before .pre .room))
-      (c .before .before .before .copy-literal .ensures);
-}
+returns c =
+    let c7 = c .before .before .before .before .before .before .before in
+    let c13 = c7 .before .before .before .before .before .before in
+    let a = c13 .args in
+    record {
+      counts = ap (λ n. withLiteral (a .held) n (a .past)) (c .wide .ensures);
+      token-laid = refl;
+      row-laid = c7 .lay-row .ensures;
+      bytes-laid =
+          bytes-over (a .held .bytes) (literalBy (a .row .kind) (now (a .word)) .bytes) (now (a .bytes)) (c .before .before .before .copy-literal .last .1 .1 .0)
+          (omega (arith, c13 .pre .size, c13 .pre .room)) (c .before .before .before .copy-literal .ensures);
+    }
 
 pub add-literal-spec : {M : Type 1} → statement M
 add-literal-spec =

@@ -2,7 +2,7 @@
 use denote.Ref.{now}
 use mathlib.Core.Path.{sym, _∙_}
 use native.Mathlib.Omega.{arith}
-use Rattle.words.proofs.Laws.{inked-le}
+use Rattle.text_bytes.proofs.Laws.{inked-le}
 use Rattle.literal_spans.proofs.Shapes.{span-none, span-end, span-ended, span-open, span-point, span-fault, span-some}
 use borrow.Author.Needs.{needs}
 use Rattle.literal_spans.proofs.spans.spelled_at.Statement.{statement}

@@ -35,7 +35,10 @@ part-copy-undoubled-end c = search needs
 
 -- src/copies.rt:66:9
 copy-undoubled-requires : tie.Need-copy-undoubled-requires
-copy-undoubled-requires c κs = rw (between-quotes (now (c .before .before .before .before .before .args .word)) (c .before .before .before .before .before .pre .0 (c .before .before .if1 .taken))) (rw (eq-eqb (c .before .before .before .before .before .args .row .kind) 2 (c .before .before .if1 .taken)) at (c .before .before .before .before .before .pre .1))
+copy-undoubled-requires c κs =
+    let c5 = c .before .before .before .before .before in
+    rw (between-quotes (now (c5 .args .word)) (c5 .pre .0 (c .before .before .if1 .taken))) (rw (eq-eqb (c5 .args .row .kind) 2 (c .before .before .if1 .taken))
+    at (c5 .pre .1))
 
 -- src/copies.rt:67:9
 same-length : tie.Need-same-length
@@ -43,8 +46,12 @@ same-length c = search needs
 
 -- src/copies.rt:67:9
 returns : tie.Need-returns
-returns c = rw (eq-eqb (c .before .before .before .before .before .before .before .before .args .row .kind) 2 (c .before .before .before .before .before .if1 .taken))
-    (c .before .before .copy-undoubled .ensures ∙ ap (λ (v : List ℕ). writtenOver (undoubled false v) (now (c .before .before .before .before .before .before .before .before .args .to))) (between-quotes (now (c .before .before .before .before .before .before .before .before .args .word)) (c .before .before .before .before .before .before .before .before .pre .0 (c .before .before .before .before .before .if1 .taken))))
+returns c =
+    let c5 = c .before .before .before .before .before in
+    let c8 = c5 .before .before .before in
+    let a = c8 .args in
+    rw (eq-eqb (a .row .kind) 2 (c5 .if1 .taken)) (c .before .before .copy-undoubled .ensures ∙ ap (λ (v : List ℕ). writtenOver (undoubled false v)
+    (now (a .to))) (between-quotes (now (a .word)) (c8 .pre .0 (c5 .if1 .taken))))
 
 -- src/copies.rt:69:5
 copy-number-requires : tie.Need-copy-number-requires

@@ -28,7 +28,9 @@ shared-slice-read-b c = search needs
 
 -- src/copies.rt:53:9
 slice-write-to : tie.Need-slice-write-to Inv-loop μ-loop
-slice-write-to c = omega (arith, copied-length (c .before .before .loop .inv .copied), kept-left (c .before .before .loop .inv) (c .before .loop-test .taken), c .before .before .before .before .before .pre)
+slice-write-to c =
+    let c5 = c .before .before .before .before .before in
+    omega (arith, copied-length (c .before .before .loop .inv .copied), kept-left (c .before .before .loop .inv) (c .before .loop-test .taken), c5 .pre)
 
 -- src/copies.rt:54:9
 add-n : tie.Need-add-n Inv-loop μ-loop
@@ -40,11 +42,15 @@ stride-requires c κs = search needs
 
 -- src/copies.rt:55:9
 add-i : tie.Need-add-i Inv-loop μ-loop
-add-i c = omega (arith, stride-some (isQuote (getD (now (c .before .before .before .before .before .before .args .from)) (c .before .before .before .loop .i) 0)) (c .stride .result) (c .stride .ensures))
+add-i c =
+    let c6 = c .before .before .before .before .before .before in
+    omega (arith, stride-some (isQuote (getD (now (c6 .args .from)) (c .before .before .before .loop .i) 0)) (c .stride .result) (c .stride .ensures))
 
 -- src/copies.rt:51:5
 loop-less : tie.Need-loop-less Inv-loop μ-loop
-loop-less c = omega (arith, stride-some (isQuote (getD (now (c .before .before .before .before .before .before .args .from)) (c .before .before .before .loop .i) 0)) (c .stride .result) (c .stride .ensures))
+loop-less c =
+    let c6 = c .before .before .before .before .before .before in
+    omega (arith, stride-some (isQuote (getD (now (c6 .args .from)) (c .before .before .before .loop .i) 0)) (c .stride .result) (c .stride .ensures))
 
 -- src/copies.rt:51:5
 loop-again : tie.Need-loop-again Inv-loop μ-loop

@@ -13,24 +13,44 @@ start-of-requires : tie.Need-start-of-requires
 start-of-requires c κs = search needs
 
 sub-all-digits : tie.Need-sub-all-digits
-sub-all-digits c = omega (arith, start-fits (now (c .before .before .args .word)) (c .before .before .args .p) (c .before .before .args .signed) (c .start-of .result) (c .before .before .pre .0) (c .before .before .pre .1) (c .start-of .ensures))
+sub-all-digits c =
+    omega (
+      arith,
+      start-fits (now (c .before .before .args .word)) (c .before .before .args .p) (c .before .before .args .signed) (c .start-of .result)
+          (c .before .before .pre .0) (c .before .before .pre .1) (c .start-of .ensures),
+    )
 
 part-all-digits-start : tie.Need-part-all-digits-start
-part-all-digits-start c = omega (arith, start-fits (now (c .before .before .args .word)) (c .before .before .args .p) (c .before .before .args .signed) (c .start-of .result) (c .before .before .pre .0) (c .before .before .pre .1) (c .start-of .ensures))
+part-all-digits-start c =
+    omega (
+      arith,
+      start-fits (now (c .before .before .args .word)) (c .before .before .args .p) (c .before .before .args .signed) (c .start-of .result)
+          (c .before .before .pre .0) (c .before .before .pre .1) (c .start-of .ensures),
+    )
 
 part-all-digits-end : tie.Need-part-all-digits-end
-part-all-digits-end c = omega (arith, start-fits (now (c .before .before .args .word)) (c .before .before .args .p) (c .before .before .args .signed) (c .start-of .result) (c .before .before .pre .0) (c .before .before .pre .1) (c .start-of .ensures))
+part-all-digits-end c =
+    omega (
+      arith,
+      start-fits (now (c .before .before .args .word)) (c .before .before .args .p) (c .before .before .args .signed) (c .start-of .result)
+          (c .before .before .pre .0) (c .before .before .pre .1) (c .start-of .ensures),
+    )
 
 all-digits-requires : tie.Need-all-digits-requires
 all-digits-requires c κs = search needs
 
 digits-after-requires : tie.Need-digits-after-requires
-digits-after-requires c κs = omega (arith, start-fits (now (c .before .before .before .before .args .word)) (c .before .before .before .before .args .p) (c .before .before .before .before .args .signed) (c .before .before .start-of .result) (c .before .before .before .before .pre .0) (c .before .before .before .before .pre .1) (c .before .before .start-of .ensures))
+digits-after-requires c κs =
+    let c4 = c .before .before .before .before in
+    let a = c4 .args in
+    omega (arith, start-fits (now (a .word)) (a .p) (a .signed) (c .before .before .start-of .result) (c4 .pre .0) (c4 .pre .1) (c .before .before .start-of .ensures))
 
 returns : tie.Need-returns
 returns c digits =
-    ap₂ _&&_ (c .before .all-digits .ensures) (c .digits-after .ensures)
-    ∙ content-here (now (c .before .before .before .before .before .args .word)) (c .before .before .before .before .before .args .p) (c .before .before .before .before .before .args .signed) (c .before .before .before .start-of .result) (c .before .before .before .before .before .pre .0) (c .before .before .before .before .before .pre .1) (c .before .before .before .start-of .ensures) digits
+    let c5 = c .before .before .before .before .before in
+    let a = c5 .args in
+    ap₂ _&&_ (c .before .all-digits .ensures) (c .digits-after .ensures) ∙ content-here (now (a .word)) (a .p) (a .signed) (c .before .before .before .start-of .result)
+    (c5 .pre .0) (c5 .pre .1) (c .before .before .before .start-of .ensures) digits
 
 pub number-content-spec : {M : Type 1} → statement M
 number-content-spec =

@@ -39,7 +39,10 @@ point-place-requires : tie.Need-point-place-requires
 point-place-requires c κs = search needs
 
 row-of-number-requires : tie.Need-row-of-number-requires
-row-of-number-requires c κs = omega (arith, place-within (now (c .before .before .before .before .before .before .before .before .args .word)), c .point-place .ensures, c .before .before .before .before .before .if2 .left)
+row-of-number-requires c κs =
+    let c5 = c .before .before .before .before .before in
+    let c8 = c5 .before .before .before in
+    omega (arith, place-within (now (c8 .args .word)), c .point-place .ensures, c5 .if2 .left)
 
 row-sound-requires : tie.Need-row-sound-requires
 row-sound-requires c κs = search needs
@@ -56,21 +59,23 @@ number-content-requires c κs = search needs
 
 returns-5 : tie.Need-returns-5
 returns-5 c =
-    let word = now (c .before .before .before .before .before .before .before .before .before .before .before .before .before .args .word) in
-    by-content word (c .before .before .before .before .row-of-number .result)
-    (c .before .before .before .before .row-of-number .ensures ∙ ap₂ (rowBy (length word)) (c .before .before .before .before .before .point-place .ensures) (c .before .before .before .before .before .before .is-sign .ensures))
-    false (c .before .before .before .before .before .before .before .before .if3 .left) (sym (c .before .before .before .row-sound .ensures) ∙ not-false _ (c .before .before .if4 .left))
-    (λ digits. sym (not-true _ (c .if5 .taken)) ∙ c .before .number-content .ensures digits
-    ∙ ap (λ (s : Bool). validContent (cond s 5 3) digits (withoutPoint word)) (c .before .before .before .before .before .before .is-sign .ensures))
+    let c4 = c .before .before .before .before in
+    let c8 = c4 .before .before .before .before in
+    let c13 = c8 .before .before .before .before .before in
+    let word = now (c13 .args .word) in
+    by-content word (c4 .row-of-number .result) (c4 .row-of-number .ensures ∙ ap₂ (rowBy (length word)) (c4 .before .point-place .ensures) (c4 .before .before .is-sign .ensures))
+    false (c8 .if3 .left) (sym (c .before .before .before .row-sound .ensures) ∙ not-false _ (c .before .before .if4 .left)) (λ digits. sym (not-true
+    _ (c .if5 .taken)) ∙ c .before .number-content .ensures digits ∙ ap (λ (s : Bool). validContent (cond s 5 3) digits (withoutPoint word)) (c4 .before .before .is-sign .ensures))
 
 returns-6 : tie.Need-returns-6
 returns-6 c =
-    let word = now (c .before .before .before .before .before .before .before .before .before .before .before .before .before .args .word) in
-    by-content word (c .before .before .before .before .row-of-number .result)
-    (c .before .before .before .before .row-of-number .ensures ∙ ap₂ (rowBy (length word)) (c .before .before .before .before .before .point-place .ensures) (c .before .before .before .before .before .before .is-sign .ensures))
-    true (c .before .before .before .before .before .before .before .before .if3 .left) (sym (c .before .before .before .row-sound .ensures) ∙ not-false _ (c .before .before .if4 .left))
-    (λ digits. sym (not-false _ (c .if5 .left)) ∙ c .before .number-content .ensures digits
-    ∙ ap (λ (s : Bool). validContent (cond s 5 3) digits (withoutPoint word)) (c .before .before .before .before .before .before .is-sign .ensures))
+    let c4 = c .before .before .before .before in
+    let c8 = c4 .before .before .before .before in
+    let c13 = c8 .before .before .before .before .before in
+    let word = now (c13 .args .word) in
+    by-content word (c4 .row-of-number .result) (c4 .row-of-number .ensures ∙ ap₂ (rowBy (length word)) (c4 .before .point-place .ensures) (c4 .before .before .is-sign .ensures))
+    true (c8 .if3 .left) (sym (c .before .before .before .row-sound .ensures) ∙ not-false _ (c .before .before .if4 .left)) (λ digits. sym (not-false
+    _ (c .if5 .left)) ∙ c .before .number-content .ensures digits ∙ ap (λ (s : Bool). validContent (cond s 5 3) digits (withoutPoint word)) (c4 .before .before .is-sign .ensures))
 
 pub read-number-spec : {M : Type 1} → statement M
 read-number-spec =

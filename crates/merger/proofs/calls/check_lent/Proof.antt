@@ -26,8 +26,10 @@ check-names-requires c κs = sym (c .before .before .check-tables .ensures) ∙ 
 
 returns-2 : tie.Need-returns-2
 returns-2 c =
-    let a = c .before .before .before .before .before .before .before .before .args in
-    names-tried (lendNames (now (a .items)) (now (a .literals)) (now (a .bytes)) (now (a .names))) (c .before .before .before .check-tables .ensures) (c .before .enum-told .given .1) (c .check-names .ensures)
+    let c8 = c .before .before .before .before .before .before .before .before in
+    let a = c8 .args in
+    names-tried (lendNames (now (a .items)) (now (a .literals)) (now (a .bytes)) (now (a .names))) (c .before .before .before .check-tables .ensures)
+    (c .before .enum-told .given .1) (c .check-names .ensures)
 
 pub check-lent-spec : {M : Type 1} → statement M
 check-lent-spec =

@@ -54,17 +54,19 @@ same-length-2 c = search needs
 
 returns-2 : tie.Need-returns-2
 returns-2 c =
-    let a = c .before .before .before .before .before .before .before .before .before .before .before .before .before .before .before .before .before .before .before .before .before .before .args in
+    let c4 = c .before .before .before .before in
+    let c7 = c4 .before .before .before in
+    let c11 = c7 .before .before .before .before in
+    let c22 = c11 .before .before .before .before .before .before .before .before .before .before .before in
+    let a = c22 .args in
     let lent = lendNames (now (a .items)) (now (a .literals)) (now (a .bytes)) (now (a .names)) in
     let lines = deskLines lent (now (a .plan)) (now (a .old)) (now (a .first)) (now (a .second)) in
-    let verdict = c .before .before .before .before .before .before .before .decide .result in
-    let fine = sym (c .before .before .before .before .before .before .before .before .before .before .before .check-desk .ensures) ∙ c .before .before .before .before .before .before .before .before .before .enum-told .given .1 in
-    let same =
-    lines-pass lines (copiesOf (now (a .items)) (now (a .old)) (now (a .first)) (now (a .second))) verdict (now (a .merged)) (now (a .contested)) fine
-    ∙ decided-as lent
-    (now (a .plan)) (now (a .old)) (now (a .first)) (now (a .second)) (a .switches) (c .before .before .before .before .before .before .before .before .count-apart .result) verdict
-    (c .before .before .before .before .before .before .before .before .count-apart .ensures) (c .before .before .before .before .before .before .before .decide .ensures) lines (now (a .merged)) (now (a .contested)) in
-    leaves-as same (c .before .before .before .before .merge-decided .ensures)
+    let verdict = c7 .decide .result in
+    let fine = sym (c11 .check-desk .ensures) ∙ c7 .before .before .enum-told .given .1 in
+    let same = lines-pass lines (copiesOf (now (a .items)) (now (a .old)) (now (a .first)) (now (a .second))) verdict (now (a .merged)) (now (a .contested))
+    fine ∙ decided-as lent (now (a .plan)) (now (a .old)) (now (a .first)) (now (a .second)) (a .switches) (c7 .before .count-apart .result) verdict
+    (c7 .before .count-apart .ensures) (c7 .decide .ensures) lines (now (a .merged)) (now (a .contested)) in
+    leaves-as same (c4 .merge-decided .ensures)
 
 pub merge-spec : {M : Type 1} → statement M
 merge-spec =

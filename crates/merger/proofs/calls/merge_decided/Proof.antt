@@ -82,15 +82,17 @@ same-length-2 c = search needs
 
 returns-2 : tie.Need-returns-2
 returns-2 c =
-    let start = c .before .before .before .before .before .before .before .before .before .before .before .before .before .before .before .before .before .before in
+    let c6 = c .before .before .before .before .before .before in
+    let c10 = c6 .before .before .before .before in
+    let c18 = c10 .before .before .before .before .before .before .before .before in
+    let start = c18 in
     let a = start .args in
     let copies = copiesOf (now (a .items)) (now (a .old)) (now (a .first)) (now (a .second)) in
-    let rows = c .before .before .before .before .before .before .before .before .before .before .before .contested-count .result in
-    let counted = c .before .before .before .before .before .before .before .before .before .before .before .contested-count .ensures ∙ contested-count copies (a .verdict) (a .apart) (start .pre .2) in
-    let room = c .before .before .before .before .before .before .before .before .before .before .check-rooms .ensures in
-    both-written copies (a .verdict) rows counted (now (a .merged)) (now (a .contested)) room (c .before .before .before .before .before .before .before .before .enum-told .given .1)
-    (ap (λ (l : List ℕ). l ++ drop (length (now (a .old))) (now (a .merged))) (c .before .before .before .before .before .before .write-merged .ensures))
-    (c .before .before .write-contested .ensures)
+    let rows = c10 .before .contested-count .result in
+    let counted = c10 .before .contested-count .ensures ∙ contested-count copies (a .verdict) (a .apart) (start .pre .2) in
+    let room = c10 .check-rooms .ensures in
+    both-written copies (a .verdict) rows counted (now (a .merged)) (now (a .contested)) room (c6 .before .before .enum-told .given .1) (ap (λ (l :
+    List ℕ). l ++ drop (length (now (a .old))) (now (a .merged))) (c6 .write-merged .ensures)) (c .before .before .write-contested .ensures)
 
 pub merge-decided-spec : {M : Type 1} → statement M
 merge-decided-spec =

@@ -7,7 +7,7 @@ use lib.ListN.{length, getD, drop, length-drop, drop-of-length-le}
 use denote.Ref.{now}
 use borrow.Author.Needs.{needs}
 use borrow.Author.Tests.{not-true, not-false}
-use Rattle.words.proofs.Laws.{part-from}
+use Rattle.text_bytes.proofs.Laws.{part-from}
 use borrow.Author.Needs.{needs}
 use Rattle.naming.proofs.parts.rest_from.Statement.{statement}
 use Rattle.naming.proofs.parts.rest_from.Tie as tie

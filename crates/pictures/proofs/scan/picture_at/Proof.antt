@@ -3,7 +3,7 @@ use Prim.Native.Nat.{_-_, _+_, _≤_}
 use native.Mathlib.Omega.{arith}
 use lib.ListN.{length, take, drop}
 use denote.Ref.{now}
-use Rattle.words.proofs.Laws.{inked-le}
+use Rattle.text_bytes.proofs.Laws.{inked-le}
 use Rattle.pictures.proofs.Caps.{picture-none, picture-some, sketch-small, sketch-le}
 use borrow.Author.Needs.{needs}
 use Rattle.pictures.proofs.scan.picture_at.Statement.{statement}

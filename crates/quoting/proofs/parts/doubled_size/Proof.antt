@@ -27,7 +27,14 @@ stride-requires : tie.Need-stride-requires Inv-loop μ-loop
 stride-requires c κs = search needs
 
 add-n : tie.Need-add-n Inv-loop μ-loop
-add-n c = omega (arith, size-on (now (c .before .before .before .before .before .args .part)) (c .before .before .before .loop .i) (c .stride .result) (c .before .before .loop-test .taken) (c .stride .ensures) .1, c .before .before .before .loop .inv .1, c .before .before .before .before .before .pre)
+add-n c =
+    let c5 = c .before .before .before .before .before in
+    omega (
+      arith,
+      size-on (now (c5 .args .part)) (c .before .before .before .loop .i) (c .stride .result) (c .before .before .loop-test .taken) (c .stride .ensures) .1,
+      c .before .before .before .loop .inv .1,
+      c5 .pre,
+    )
 
 add-i : tie.Need-add-i Inv-loop μ-loop
 add-i c = search needs
@@ -36,7 +43,11 @@ loop-less : tie.Need-loop-less Inv-loop μ-loop
 loop-less c = search needs
 
 loop-again : tie.Need-loop-again Inv-loop μ-loop
-loop-again c = let s = size-on (now (c .before .before .before .before .before .args .part)) (c .before .before .before .loop .i) (c .stride .result) (c .before .before .loop-test .taken) (c .stride .ensures) in (omega arith, omega (arith, s .1, c .before .before .before .loop .inv .1), omega (arith, s .0, c .before .before .before .loop .inv .2))
+loop-again c =
+    let c5 = c .before .before .before .before .before in
+    let s = size-on (now (c5 .args .part)) (c .before .before .before .loop .i) (c .stride .result) (c .before .before .loop-test .taken) (c .stride .ensures)
+    in
+    (omega arith, omega (arith, s .1, c .before .before .before .loop .inv .1), omega (arith, s .0, c .before .before .before .loop .inv .2))
 
 returns : tie.Need-returns Inv-loop μ-loop
 returns c = omega (arith, c .before .loop .inv .2, size-end (now (c .before .before .before .args .part)) (c .before .loop .i) (c .loop-test .left))

@@ -25,19 +25,39 @@ shared-slice-read-b : tie.Need-shared-slice-read-b Inv-loop μ-loop
 shared-slice-read-b c = search needs
 
 slice-write-out : tie.Need-slice-write-out Inv-loop μ-loop
-slice-write-out c = omega (arith, doubles-left (c .before .before .loop .inv .0) (c .before .loop-test .taken) _ refl, copied-length (c .before .before .loop .inv .0 .copied), c .before .before .before .before .before .pre)
+slice-write-out c =
+    let c5 = c .before .before .before .before .before in
+    omega (
+      arith,
+      doubles-left (c .before .before .loop .inv .0) (c .before .loop-test .taken) _ refl,
+      copied-length (c .before .before .loop .inv .0 .copied),
+      c5 .pre,
+    )
 
 stride-requires : tie.Need-stride-requires Inv-loop μ-loop
 stride-requires c κs = search needs
 
 add-n : tie.Need-add-n Inv-loop μ-loop
-add-n c = omega (arith, doubles-left (c .before .before .before .loop .inv .0) (c .before .before .loop-test .taken) (c .stride .result) (c .stride .ensures), c .before .before .before .before .before .before .pre)
+add-n c =
+    let c6 = c .before .before .before .before .before .before in
+    omega (
+      arith,
+      doubles-left (c .before .before .before .loop .inv .0) (c .before .before .loop-test .taken) (c .stride .result) (c .stride .ensures),
+      c6 .pre,
+    )
 
 sub-out : tie.Need-sub-out Inv-loop μ-loop
 sub-out c = omega (arith, doubles-left (c .before .before .before .loop .inv .0) (c .before .before .loop-test .taken) (c .stride .result) (c .stride .ensures))
 
 slice-write-out-2 : tie.Need-slice-write-out-2 Inv-loop μ-loop
-slice-write-out-2 c = simp length-set (omega (arith, doubles-left (c .before .before .before .loop .inv .0) (c .before .before .loop-test .taken) (c .stride .result) (c .stride .ensures), copied-length (c .before .before .before .loop .inv .0 .copied), c .before .before .before .before .before .before .pre))
+slice-write-out-2 c =
+    let c6 = c .before .before .before .before .before .before in
+    simp length-set (omega (
+      arith,
+      doubles-left (c .before .before .before .loop .inv .0) (c .before .before .loop-test .taken) (c .stride .result) (c .stride .ensures),
+      copied-length (c .before .before .before .loop .inv .0 .copied),
+      c6 .pre,
+    ))
 
 add-i : tie.Need-add-i Inv-loop μ-loop
 add-i c = search needs

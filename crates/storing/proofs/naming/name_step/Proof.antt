@@ -4,7 +4,7 @@ use native.Mathlib.Omega.{arith}
 use lib.ListN.{length, length-set}
 use Prim.Native.Nat.{_*_, _+_, _-_}
 use mathlib.Core.Path.{refl, sym, ap, _∙_}
-use Rattle.words.proofs.Laws.{inked-le}
+use Rattle.text_bytes.proofs.Laws.{inked-le}
 use Rattle.description.proofs.Bytes.{apart}
 use Rattle.storing.proofs.Steps.{ready, below, named-step, named-fault}
 use borrow.Author.Needs.{needs}

@@ -66,13 +66,12 @@ same-length-3 : tie.Need-same-length-3
 same-length-3 c = search needs
 
 returns : tie.Need-returns
-returns c = as-reading (named-reading
-    (c .before .before .before .before .before .before .before .before .before .before .before .before .before .before .before .before .before .before .before .before .before .book-of .result)
-    (c .before .before .before .before .before .before .before .before .before .before .before .before .before .before .before .before .before .before .before .before .before .book-of .ensures)
-    (now
-    (c .before .before .before .before .before .before .before .before .before .before .before .before .before .before .before .before .before .before .before .before .before .before .before .before .before .before .before .before .before .before .args .condition))
-    (c .before .before .before .before .before .before .before .before .before .before .before .before .before .before .before .before .named .given .1))
-    (c .before .before .before .before .before .before .before .before .read-named .ensures)
+returns c =
+    let c8 = c .before .before .before .before .before .before .before .before in
+    let c16 = c8 .before .before .before .before .before .before .before .before in
+    let c21 = c16 .before .before .before .before .before in
+    let c30 = c21 .before .before .before .before .before .before .before .before .before in
+    as-reading (named-reading (c21 .book-of .result) (c21 .book-of .ensures) (now (c30 .args .condition)) (c16 .named .given .1)) (c8 .read-named .ensures)
 
 returns-2 : tie.Need-returns-2
 returns-2 c = refused-reading (undescribed-reading (c .before .before .before .before .before .before .book-of .result)

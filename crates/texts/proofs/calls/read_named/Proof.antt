@@ -14,7 +14,9 @@ slice-aggregate-gather c = search needs
 
 gather-requires : tie.Need-gather-requires
 gather-requires c κs =
-    (c .before .before .before .before .before .before .before .before .before .before .before .pre .0, record { tokens-room = omega arith; rows-room = c .before .before .before .before .before .before .before .before .before .before .before .pre .1; bytes-room = c .before .before .before .before .before .before .before .before .before .before .before .pre .2 }, c .before .before .before .before .before .before .before .before .before .before .before .pre .3, c .before .before .before .before .before .before .before .before .before .before .before .pre .4)
+    let c11 = c .before .before .before .before .before .before .before .before .before .before .before in
+    let p = c11 .pre in
+    (p .0, record { tokens-room = omega arith; rows-room = p .1; bytes-room = p .2 }, p .3, p .4)
 
 enum-known-lexed : tie.Need-enum-known-lexed
 enum-known-lexed c = search needs
@@ -23,10 +25,12 @@ slice-aggregate-give : tie.Need-slice-aggregate-give
 slice-aggregate-give c = search needs
 
 give-requires : tie.Need-give-requires
-give-requires c κs = let s = whole-sizes (c .before .before .before .before .before .before .before .before .before .before .before .before .before .before .gather .result)
-    (c .before .before .before .before .before .before .before .before .before .before .before .before .before .before .gather .ensures)
-    (c .before .before .before .before .before .before .before .lexed .given .1) in omega
-    (arith, s .0, s .1, s .2, c .before .before .before .before .before .before .before .before .before .before .before .before .before .before .before .before .before .before .before .before .before .before .before .before .before .before .pre .1, c .before .before .before .before .before .before .before .before .before .before .before .before .before .before .before .before .before .before .before .before .before .before .before .before .before .before .pre .2, c .before .before .before .before .before .before .before .before .before .before .before .before .before .before .gather .kept)
+give-requires c κs =
+    let c7 = c .before .before .before .before .before .before .before in
+    let c14 = c7 .before .before .before .before .before .before .before in
+    let c26 = c14 .before .before .before .before .before .before .before .before .before .before .before .before in
+    let s = whole-sizes (c14 .gather .result) (c14 .gather .ensures) (c7 .lexed .given .1) in
+    omega (arith, s .0, s .1, s .2, c26 .pre .1, c26 .pre .2, c14 .gather .kept)
 
 enum-known-lexed-2 : tie.Need-enum-known-lexed-2
 enum-known-lexed-2 c = search needs

@@ -25,13 +25,30 @@ start-of-requires-2 : tie.Need-start-of-requires-2
 start-of-requires-2 c κs = search needs
 
 copy-part-requires : tie.Need-copy-part-requires
-copy-part-requires c κs = let f = fits (c .before .before .before .before .before .args .k) (c .before .before .before .before .before .pre .0) (c .before .before .start-of .result) (c .before .start-of2 .result) (c .before .before .start-of .ensures) (c .before .start-of2 .ensures) in (f .0, f .1, omega (arith, size-is (c .before .before .before .before .before .args .k) (c .before .before .before .before .before .pre .0) (c .before .before .start-of .result) (c .before .start-of2 .result) (c .before .before .start-of .ensures) (c .before .start-of2 .ensures), c .before .before .before .before .before .pre .1))
+copy-part-requires c κs =
+    let c5 = c .before .before .before .before .before in
+    let p = c5 .pre in
+    let f = fits (c5 .args .k) (p .0) (c .before .before .start-of .result) (c .before .start-of2 .result) (c .before .before .start-of .ensures) (c .before .start-of2 .ensures)
+    in (
+      f .0,
+      f .1,
+      omega (
+        arith,
+        size-is (c5 .args .k) (p .0) (c .before .before .start-of .result) (c .before .start-of2 .result) (c .before .before .start-of .ensures)
+            (c .before .start-of2 .ensures),
+        p .1,
+      ),
+    )
 
 same-length : tie.Need-same-length
 same-length c = search needs
 
 returns : tie.Need-returns
-returns c = c .before .before .copy-part .ensures ∙ ap (λ (v : List ℕ). writtenOver v (now (c .before .before .before .before .before .before .before .before .args .out))) (part-is (c .before .before .before .before .before .before .before .before .args .k) (c .before .before .before .before .before .before .before .before .pre .0) (c .before .before .before .before .before .start-of .result) (c .before .before .before .before .start-of2 .result) (c .before .before .before .before .before .start-of .ensures) (c .before .before .before .before .start-of2 .ensures))
+returns c =
+    let c4 = c .before .before .before .before in
+    let c8 = c4 .before .before .before .before in
+    c .before .before .copy-part .ensures ∙ ap (λ (v : List ℕ). writtenOver v (now (c8 .args .out))) (part-is (c8 .args .k) (c8 .pre .0) (c4 .before .start-of .result)
+    (c4 .start-of2 .result) (c4 .before .start-of .ensures) (c4 .start-of2 .ensures))
 
 pub copy-word-spec : {M : Type 1} → statement M
 copy-word-spec =

@@ -25,10 +25,15 @@ start-of-requires-2 : tie.Need-start-of-requires-2
 start-of-requires-2 c κs = search needs
 
 is-part-requires : tie.Need-is-part-requires
-is-part-requires c κs = fits (c .before .before .before .before .args .k) (c .before .before .before .before .pre) (c .before .start-of .result) (c .start-of2 .result) (c .before .start-of .ensures) (c .start-of2 .ensures)
+is-part-requires c κs =
+    let c4 = c .before .before .before .before in
+    fits (c4 .args .k) (c4 .pre) (c .before .start-of .result) (c .start-of2 .result) (c .before .start-of .ensures) (c .start-of2 .ensures)
 
 returns : tie.Need-returns
-returns c = c .is-part .ensures ∙ ap (same (now (c .before .before .before .before .before .args .w))) (part-is (c .before .before .before .before .before .args .k) (c .before .before .before .before .before .pre) (c .before .before .start-of .result) (c .before .start-of2 .result) (c .before .before .start-of .ensures) (c .before .start-of2 .ensures))
+returns c =
+    let c5 = c .before .before .before .before .before in
+    c .is-part .ensures ∙ ap (same (now (c5 .args .w))) (part-is (c5 .args .k) (c5 .pre) (c .before .before .start-of .result) (c .before .start-of2 .result)
+    (c .before .before .start-of .ensures) (c .before .start-of2 .ensures))
 
 pub is-word-spec : {M : Type 1} → statement M
 is-word-spec =

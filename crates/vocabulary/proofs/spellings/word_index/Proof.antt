@@ -25,7 +25,14 @@ is-word-requires : tie.Need-is-word-requires Inv-loop μ-loop
 is-word-requires c κs = search needs
 
 returns : tie.Need-returns Inv-loop μ-loop
-returns c = omega (arith, c .before .before .before .loop .inv .1, word-here (c .before .before .before .loop .k) (c .before .before .loop-test .taken) (now (c .before .before .before .before .before .args .w)) (sym (c .before .is-word .ensures) ∙ c .if1 .taken))
+returns c =
+    let c5 = c .before .before .before .before .before in
+    omega (
+      arith,
+      c .before .before .before .loop .inv .1,
+      word-here (c .before .before .before .loop .k) (c .before .before .loop-test .taken) (now
+          (c5 .args .w)) (sym (c .before .is-word .ensures) ∙ c .if1 .taken),
+    )
 
 add-k : tie.Need-add-k Inv-loop μ-loop
 add-k c = search needs
@@ -34,7 +41,16 @@ loop-less : tie.Need-loop-less Inv-loop μ-loop
 loop-less c = search needs
 
 loop-again : tie.Need-loop-again Inv-loop μ-loop
-loop-again c = (omega arith, omega (arith, c .before .before .before .loop .inv .1, word-later (c .before .before .before .loop .k) (c .before .before .loop-test .taken) (now (c .before .before .before .before .before .args .w)) (sym (c .before .is-word .ensures) ∙ c .if1 .left)))
+loop-again c =
+    let c5 = c .before .before .before .before .before in (
+      omega arith,
+      omega (
+        arith,
+        c .before .before .before .loop .inv .1,
+        word-later (c .before .before .before .loop .k) (c .before .before .loop-test .taken)
+            (now (c5 .args .w)) (sym (c .before .is-word .ensures) ∙ c .if1 .left),
+      ),
+    )
 
 returns-2 : tie.Need-returns-2 Inv-loop μ-loop
 returns-2 c = omega (arith, c .before .loop .inv .1, word-none (c .before .loop .k) (c .loop-test .left) (now (c .before .before .before .args .w)))

@@ -3,7 +3,8 @@ use native.Mathlib.Omega.{arith}
 use denote.Ref.{now}
 use mathlib.Core.Path.{sym, _∙_}
 use lib.ListN.{length-drop}
-use Rattle.words.proofs.Laws.{inked-le, common-le, part-from, literal-none, literal-word, literal-fault}
+use Rattle.text_bytes.proofs.Laws.{inked-le, part-from}
+use Rattle.words.proofs.Laws.{common-le, literal-none, literal-word, literal-fault}
 use lib.ListN.{length, take, drop, length-take}
 use Prim.Native.Nat.{_-_}
 use borrow.Author.Needs.{needs}

@@ -5,7 +5,7 @@ use mathlib.Core.Path.{_≡_, refl, sym, ap, _∙_}
 use lib.ListN.{length, take, drop}
 use denote.Ref.{now}
 use borrow.Author.Tests.{not-true, not-false}
-use Rattle.words.proofs.Laws.{inked-le}
+use Rattle.text_bytes.proofs.Laws.{inked-le}
 use Rattle.words.proofs.Reaches.{name-none, name-end, name-fault, name-group, name-item}
 use borrow.Author.Needs.{needs}
 use Rattle.words.proofs.names.name_at.Statement.{statement}

@@ -18,7 +18,7 @@ pub fn is_digit(b: u8) -> bool
     content::marks::is_digit(&marks, b)
 }
 
-pub(crate) fn is_letter(b: u8) -> bool
+pub fn is_letter(b: u8) -> bool
     ensures { λ r. ⌜ r ≡ isLetter b ⌝ }
 {
     let marks = marks();

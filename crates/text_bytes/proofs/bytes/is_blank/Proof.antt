@@ -3,8 +3,8 @@ use mathlib.Core.Path.{ap}
 use mathlib.Core.Bool.{Bool, _||_}
 use lib.Dec.{eqb}
 use borrow.Author.Needs.{needs}
-use Rattle.words.proofs.bytes.is_blank.Statement.{statement}
-use Rattle.words.proofs.bytes.is_blank.Tie as tie
+use Rattle.text_bytes.proofs.bytes.is_blank.Statement.{statement}
+use Rattle.text_bytes.proofs.bytes.is_blank.Tie as tie
 
 marks-requires : tie.Need-marks-requires
 marks-requires c κs = search needs

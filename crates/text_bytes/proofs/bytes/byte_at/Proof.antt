@@ -1,9 +1,9 @@
 -- `byte_at` meets its contract: from the laws of proofs/ and what its callees ensure. Assumes nothing.
 use denote.Ref.{now}
-use Rattle.words.proofs.Laws.{no-byte}
+use Rattle.text_bytes.proofs.Laws.{no-byte}
 use borrow.Author.Needs.{needs}
-use Rattle.words.proofs.bytes.byte_at.Statement.{statement}
-use Rattle.words.proofs.bytes.byte_at.Tie as tie
+use Rattle.text_bytes.proofs.bytes.byte_at.Statement.{statement}
+use Rattle.text_bytes.proofs.bytes.byte_at.Tie as tie
 
 returns : tie.Need-returns
 returns c = no-byte (now (c .before .args .text)) (c .before .args .k) (c .if1 .taken)

@@ -7,9 +7,9 @@ use denote.Ref.{now}
 use borrow.Author.Needs.{needs}
 use borrow.Author.Tests.{not-true, not-false}
 use Rattle.description.specs.Stages.{inked}
-use Rattle.words.proofs.Laws.{blank-more, blank-stop, blank-end}
-use Rattle.words.proofs.blanks.next_ink.Statement.{statement}
-use Rattle.words.proofs.blanks.next_ink.Tie as tie
+use Rattle.text_bytes.proofs.Laws.{blank-more, blank-stop, blank-end}
+use Rattle.text_bytes.proofs.blanks.next_ink.Statement.{statement}
+use Rattle.text_bytes.proofs.blanks.next_ink.Tie as tie
 
 abbrev Inv-loop : tie.InvT-loop
 Inv-loop text n k₀ k = inked text n ≡ inked text k

@@ -2,8 +2,8 @@
 use mathlib.Core.Path.{sym, ap, ap₂, _∙_}
 use mathlib.Core.Bool.{_||_}
 use borrow.Author.Needs.{needs}
-use Rattle.words.proofs.bytes.is_name_byte.Statement.{statement}
-use Rattle.words.proofs.bytes.is_name_byte.Tie as tie
+use Rattle.text_bytes.proofs.bytes.is_name_byte.Statement.{statement}
+use Rattle.text_bytes.proofs.bytes.is_name_byte.Tie as tie
 
 is-letter-requires : tie.Need-is-letter-requires
 is-letter-requires c κs = search needs
