@@ -50,9 +50,10 @@ pub fn run_rows<'a>(
     requires { ⌜ Runnable (lendNames (now items) (now literals) (now bytes) (now names)) (now plan) (now «record») ⌝ }
     ensures { λ r. ⌜ r ≡ told (running (outcome (lendNames (now (items .entry)) (now (literals .entry)) (now (bytes .entry)) (now (names .entry))) (now («record» .entry)) switches) (now (plan .entry))) ⌝ }
 {
-    let mut at: usize = 0;
+    let mut target = Target::later(0);
     let mut count: usize = 0;
-    while at < wide(Target::FALSE) {
+    while target.number < Target::FALSE {
+        let at = wide(target.number);
         let row = plan_row(plan, at);
         let found = truth_of(
             items,
@@ -68,10 +69,10 @@ pub fn run_rows<'a>(
         count = count + 1;
         match found {
             Outcome::True => {
-                at = wide(row.holds);
+                target = Target { number: row.holds };
             }
             Outcome::False => {
-                at = wide(row.fails);
+                target = Target { number: row.fails };
             }
             Outcome::Stopped(stop) => {
                 return Judged {
@@ -81,7 +82,7 @@ pub fn run_rows<'a>(
             }
         }
     }
-    if at == wide(Target::TRUE) {
+    if target.number == Target::TRUE {
         return Judged {
             verdict: Verdict::True,
             count,
