@@ -3,6 +3,7 @@ use mathlib.Core.Path.{_≡_}
 use mathlib.Core.List.{List, [], _∷_, _++_}
 use Prim.Native.Nat.{ℕ, zero, suc, _+_, _-_, _*_, _≤_, _<_}
 use lib.ListN.{length, getD, take, drop}
+use Rattle.content.specs.declared.Row.{Row}
 use Rattle.entries.specs.declared.Noted.{Noted}
 use Rattle.literal_words.specs.Found.{literalBy}
 
@@ -14,6 +15,16 @@ namedOf x = x .named
 abbrev pub rowAt : List ℕ → ℕ → List ℕ
 rowAt notes i =
     getD notes (i * 7) 0 ∷ getD notes (i * 7 + 1) 0 ∷ getD notes (i * 7 + 2) 0 ∷ getD notes (i * 7 + 3) 0 ∷ getD notes (i * 7 + 4) 0 ∷ []
+
+abbrev pub notedRow : List ℕ → ℕ → Row
+notedRow notes i =
+    record {
+      kind = getD notes (i * 7) 0;
+      offset = getD notes (i * 7 + 1) 0;
+      size = getD notes (i * 7 + 2) 0;
+      scale = getD notes (i * 7 + 3) 0;
+      digits = getD notes (i * 7 + 4) 0;
+    }
 
 -- and from where to where its word stands
 abbrev pub wordAt : List ℕ → List ℕ → ℕ → List ℕ

@@ -2,10 +2,10 @@
 // ends.
 ghost use mathlib.Core.Path.{_≡_};
 ghost use mathlib.Core.List.{_++_};
-ghost use Prim.Native.Nat.{_*_, _≤_};
+ghost use Prim.Native.Nat.{_+_, _*_, _≤_, _<_};
 ghost use lib.ListN.{length, drop};
 ghost use Rattle.literal_words.specs.Found.{writtenOver};
-ghost use Rattle.outputs.specs.Noted.{rowsFrom, bytesFrom, Words};
+ghost use Rattle.outputs.specs.Noted.{notedRow, rowsFrom, bytesFrom, Words};
 ghost use Rattle.content.specs.Kinds.{rowWidth};
 use content::Row;
 use literal_words::copies::copy_literal;
@@ -33,6 +33,21 @@ fn wide(x: u32) -> usize
     x as usize
 }
 
+// The row of literal i.
+fn noted_row(notes: &[u32], i: usize) -> Row
+    requires { ⌜ i * 7 + 4 < length (now notes) ⌝ }
+    ensures { λ r. ⌜ r ≡ notedRow (now (notes .entry)) i ⌝ }
+{
+    let at = i * 7;
+    Row {
+        kind: notes[at],
+        offset: notes[at + 1],
+        size: notes[at + 2],
+        scale: notes[at + 3],
+        digits: notes[at + 4],
+    }
+}
+
 // The bytes of each literal, from its word.
 pub fn copy_words(text: &[u8], notes: &[u32], n: usize, to: &mut [u8])
     requires { ⌜ Words (now text) (now notes) n × (length (bytesFrom (now text) (now notes) 0 n) ≤ length (now to)) ⌝ }
@@ -44,7 +59,7 @@ pub fn copy_words(text: &[u8], notes: &[u32], n: usize, to: &mut [u8])
         let at = wide(notes[note + 1]);
         let from = wide(notes[note + 5]);
         let until = wide(notes[note + 6]);
-        copy_literal(notes[note], &text[from..until], &mut to[at..]);
+        copy_literal(noted_row(notes, i), &text[from..until], &mut to[at..]);
         i += 1;
     }
 }

@@ -78,15 +78,10 @@ shared-slice-read-wide-3 c =
 wide-requires-3 : tie.Need-wide-requires-3 Inv-loop μ-loop
 wide-requires-3 c κs = search needs
 
-mul-copy-literal : tie.Need-mul-copy-literal Inv-loop μ-loop
-mul-copy-literal c =
+noted-row-requires : tie.Need-noted-row-requires Inv-loop μ-loop
+noted-row-requires c κs =
     let p11 = c .before .before .before .before .before .before .before .before .before .before .before in
     omega (arith, p11 .pre .0 .long)
-
-shared-slice-read-copy-literal : tie.Need-shared-slice-read-copy-literal Inv-loop μ-loop
-shared-slice-read-copy-literal c =
-    let p12 = c .before .before .before .before .before .before .before .before .before .before .before .before in
-    omega (arith, p12 .pre .0 .long)
 
 sub-copy-literal : tie.Need-sub-copy-literal Inv-loop μ-loop
 sub-copy-literal c =
@@ -172,8 +167,9 @@ copy-literal-requires c κs =
     let s = p10 .before .before .before .before in
     let l = p10 .loop in
     let h = p9 .loop-test .taken in
-    bytes-asked _ _ _ (s .args .n) (l .i) (s .pre .0) h (s .pre .1) (l .inv .1) (p7 .wide .ensures) (p5 .wide2 .ensures)
-    (c .before .before .before .wide3 .ensures)
+    rw (c .before .before .noted-row .ensures)
+    (bytes-asked _ _ _ (s .args .n) (l .i) (s .pre .0) h (s .pre .1) (l .inv .1) (p7 .wide .ensures) (p5 .wide2 .ensures)
+    (c .before .before .before .wide3 .ensures))
 
 add-i : tie.Need-add-i Inv-loop μ-loop
 add-i c =
@@ -199,7 +195,7 @@ loop-again c =
     let h = p12 .loop-test .taken in (
       omega arith,
       bytes-more _ _ _ (s .args .n) (l .i) (s .pre .0) h (s .pre .1) (l .inv .1) (p10 .wide .ensures) (p8 .wide2 .ensures)
-          (p6 .wide3 .ensures) (c .before .before .copy-literal .ensures),
+          (p6 .wide3 .ensures) (rw (c .before .before .before .before .before .noted-row .ensures) at (c .before .before .copy-literal .ensures)),
     )
 
 same-length : tie.Need-same-length Inv-loop μ-loop
@@ -232,8 +228,7 @@ copy-words-spec =
     mul-wide-3
     shared-slice-read-wide-3
     wide-requires-3
-    mul-copy-literal
-    shared-slice-read-copy-literal
+    noted-row-requires
     sub-copy-literal
     part-copy-literal-start
     part-copy-literal-end

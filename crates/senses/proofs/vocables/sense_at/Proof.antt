@@ -30,10 +30,10 @@ returns-2 : tie.Need-returns-2
 returns-2 c = switch-is (c .before .before .args .k) (c .before .if1 .left) (c .if2 .taken)
 
 returns-3 : tie.Need-returns-3
-returns-3 c = search needs
+returns-3 c = rw (c .match .keys1)
 
 returns-4 : tie.Need-returns-4
-returns-4 c = search needs
+returns-4 c = rw (c .match .keys2)
 
 returns-5 : tie.Need-returns-5
 returns-5 c = search needs
