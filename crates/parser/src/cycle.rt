@@ -112,7 +112,7 @@ fn term(tokens: &[u32], at: usize, carry: Carried, row: usize, rows: &mut [u32])
     let inner = body(tokens, at + 1, carry, row, rows);
     match inner {
         Answer::Stuck(place) => Answer::Stuck(place),
-        Answer::Parsed(place, kept, next) => {
+        Answer::Parsed(place, left, next) => {
             retarget(
                 rows,
                 row,
@@ -120,7 +120,7 @@ fn term(tokens: &[u32], at: usize, carry: Carried, row: usize, rows: &mut [u32])
                 Target::verdict(false),
                 Target::verdict(true),
             );
-            Answer::Parsed(place, kept, next)
+            Answer::Parsed(place, left, next)
         }
     }
 }
