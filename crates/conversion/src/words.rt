@@ -5,7 +5,7 @@ ghost use Prim.Native.Nat.{_≤_};
 ghost use lib.ListN.{length, drop};
 ghost use Rattle.grammar.specs.Converted.{notIf, convertedTokens};
 ghost use Rattle.conversion.specs.Steps.{leads, onWord, step};
-use reader::words::NOT;
+use simples::words::NOT;
 
 // The on token of an off token; any other token as it is.
 fn on_word(token: u32) -> u32
