@@ -8,17 +8,17 @@ use native.Mathlib.Decide.{ℕ-discrete}
 use borrow.Author.Tests.{eqb-true, eqb-false, eq-eqb, ne-eqb}
 use lib.ListN.{drop}
 use lib.Dec.{eqb}
-use Rattle.reader.specs.declared.Carried.{Carried}
-use Rattle.reader.specs.declared.Single.the-variants.{Row}
+use Rattle.simples.specs.declared.Carried.{Carried}
+use Rattle.simples.specs.declared.Single.the-variants.{Row}
 use Rattle.grammar.specs.Grammar.{Class, opening, closing, not, and, or, other, Is, Carry, nothing, simple}
 use Rattle.grammar.specs.Parser.{parsed, object, short-ordered, parse-simple}
-use Rattle.reader.specs.Reads.{tok, carryOf, Reads}
+use Rattle.simples.specs.Reads.{tok, carryOf, Reads}
 use Rattle.expander.specs.Spelled.{copied, part}
 use Rattle.grammar.proofs.Sound.{Differ}
 use Rattle.grammar.proofs.Spelling.{opening-token, closing-token, not-token, and-token, or-token}
 use Rattle.grammar.proofs.Spelling.{is-opening, is-closing, is-not, is-and, is-or}
-use Rattle.reader.proofs.Looking.{stands, look, pass-on}
-use Rattle.reader.proofs.Resolving.{carries-none, reads-row, at-short, at-no-short}
+use Rattle.simples.proofs.Looking.{stands, look, pass-on}
+use Rattle.simples.proofs.Resolving.{carries-none, reads-row, at-short, at-no-short}
 
 -- one of two words, or neither
 second : (x a b : ℕ) → (eqb x a || eqb x b) ≡ true → (x ≡ a → ⊥) → x ≡ b

@@ -4,18 +4,18 @@ use mathlib.Core.List.{List, [], _∷_, _++_, append-nil, append-assoc}
 use Prim.Native.Nat.{ℕ, zero, suc, _+_, _-_, _*_, _≤_, _<_, _%_}
 use native.Mathlib.Omega.{arith}
 use lib.ListN.{length, drop, length-append, drop-of-length-le}
-use Rattle.reader.specs.declared.Carried.{Carried}
-use Rattle.reader.specs.declared.Single.{Single}
-use Rattle.reader.specs.declared.Single.the-variants.{Row, Stuck}
+use Rattle.simples.specs.declared.Carried.{Carried}
+use Rattle.simples.specs.declared.Single.{Single}
+use Rattle.simples.specs.declared.Single.the-variants.{Row, Stuck}
 use Rattle.grammar.specs.Grammar.{Class, operand, switch, opening, closing, not, and, or, order, bound, test, name, Class-discrete, class, Is}
 use Rattle.grammar.specs.Grammar.{Carry, nothing, carried, simple}
 use Rattle.grammar.specs.Parser.{Result, parsed, stuck, Parser, on, object, alone, short-bounded, short-ordered, parse-simple}
-use Rattle.reader.specs.Reads.{carryOf, Found, Reads}
+use Rattle.simples.specs.Reads.{carryOf, Found, Reads}
 use Rattle.grammar.specs.Expanded.{full-form, expanded}
 use Rattle.expander.specs.Spelled.{part, spelled-from, spelled}
 use Rattle.grammar.proofs.Spelling.{order-token, bound-token, test-token}
 use Rattle.grammar.proofs.Size.{stated-width, full-width}
-use Rattle.reader.proofs.Resolving.{carries-none}
+use Rattle.simples.proofs.Resolving.{carries-none}
 use Rattle.expander.proofs.Spelled.{none-left}
 
 -- A relation is below 64, read or carried: a word's number, plus 32 where NOT belongs to it.

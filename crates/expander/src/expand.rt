@@ -4,19 +4,19 @@ ghost use mathlib.Core.List.{_++_};
 ghost use Prim.Native.Nat.{_≤_, _<_};
 ghost use lib.ListN.{length, drop};
 ghost use Rattle.grammar.specs.Expanded.{stated, full-form};
-ghost use Rattle.reader.specs.Reads.{carryOf, Reads};
+ghost use Rattle.simples.specs.Reads.{carryOf, Reads};
 ghost use Rattle.expander.specs.Spelled.{part, spelled};
-use reader::Carried;
-use reader::Single;
-use reader::simple::read_object;
-use reader::simple::read_simple;
-use reader::words::AND;
-use reader::words::CLOSE;
-use reader::words::NOT;
-use reader::words::OPEN;
-use reader::words::OR;
-use reader::words::is_order;
-use reader::words::peek;
+use simples::Carried;
+use simples::Single;
+use simples::simple::read_object;
+use simples::simple::read_simple;
+use simples::words::AND;
+use simples::words::CLOSE;
+use simples::words::NOT;
+use simples::words::OPEN;
+use simples::words::OR;
+use simples::words::is_order;
+use simples::words::peek;
 
 // The words of a relation, at the start of the output; and how many there are.
 fn write_relation(out: &mut [u32], relation: u32) -> usize

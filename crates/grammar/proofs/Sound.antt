@@ -28,8 +28,8 @@ operand-tabled : (x : ℕ) → Is operand x → Tabled x
 operand-tabled x i =
     let none : ltb (x % 65536) 0 ≡ false = le-ltb (x % 65536) 0 (omega arith) in
     elim (ℕ-discrete (x / 65536) 0) [
-      | yes e ↦ rw (e, none)
-      | no n ↦ let e : x / 65536 ≡ 1 = omega (arith, spelled x i) in rw (e, none)
+      | yes e ↦ simp (e, none)
+      | no n ↦ let e : x / 65536 ≡ 1 = omega (arith, spelled x i) in simp (e, none)
     ]
 
 -- A carried subject is an operand that has been seen: it can serve as an object.

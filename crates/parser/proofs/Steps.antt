@@ -6,9 +6,9 @@ use Prim.Native.Nat.{ℕ, zero, suc, _+_, _*_, _-_, _≤_, _<_}
 use native.Mathlib.Omega.{arith}
 use lib.ListN.{length, take, drop, length-drop, drop-of-length-le, take-append-drop}
 use lib.Seq.{length-take-le, take-take, take-at}
-use Rattle.reader.specs.declared.Carried.{Carried}
-use Rattle.reader.specs.declared.Single.{Single}
-use Rattle.reader.specs.declared.Single.the-variants.{Row, Stuck as Lost}
+use Rattle.simples.specs.declared.Carried.{Carried}
+use Rattle.simples.specs.declared.Single.{Single}
+use Rattle.simples.specs.declared.Single.the-variants.{Row, Stuck as Lost}
 use Rattle.parser.specs.declared.Answer.{Answer}
 use Rattle.parser.specs.declared.Answer.the-variants.{Parsed, Stuck}
 use Rattle.parser.specs.declared.Parse.the-variants.{Accepted, Refused}
@@ -16,7 +16,7 @@ use Rattle.grammar.specs.Grammar.{Class, other, not, and, or, opening, closing,
 use Rattle.grammar.specs.Parser.{Result, Parser, _then_, continue, done, fail, on, object, parse-simple, read, parse-condition, parse-chain, parse-term, parse-body}
 use Rattle.grammar.specs.Judging.{leaves}
 use Rattle.grammar.specs.Plan.{onTrue, onFalse, rowsOf, flat, planned}
-use Rattle.reader.specs.Reads.{tok, carryOf, Reads}
+use Rattle.simples.specs.Reads.{tok, carryOf, Reads}
 use Rattle.plans.specs.Rows.{retargeted, Turned}
 use Rattle.parser.specs.Parses.{Placeable, Placed, Laid, Told, placeOf, Partly, Fits, Room, Plans, Whole, Parses}
 use Rattle.grammar.proofs.Sound.{Differ}
@@ -24,8 +24,8 @@ use Rattle.grammar.proofs.Spelling.{is-or, is-and, is-not, is-opening, is-closi
 use Rattle.plans.proofs.Retarget.{rows-bracketed, rows-negated, rows-both, rows-either}
 use Rattle.grammar.proofs.Segment.{rows-count}
 use Rattle.plans.proofs.Buffer.{flat-append, earlier-front, later-rest, added-parts, turned-rows}
-use Rattle.reader.proofs.Looking.{stands, from-here, take-on, pass-on}
-use Rattle.reader.proofs.Resolving.{at-short, at-no-short}
+use Rattle.simples.proofs.Looking.{stands, from-here, take-on, pass-on}
+use Rattle.simples.proofs.Resolving.{at-short, at-no-short}
 
 -- each level takes one unit of fuel
 plans : {parser : ℕ → Carry → Parser} {level at row : ℕ} {tokens before after : List ℕ} {c : Carried} {r : Answer} →

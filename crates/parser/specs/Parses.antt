@@ -4,10 +4,10 @@ use mathlib.Core.Path.{_≡_}
 use mathlib.Core.List.{List, _++_}
 use Prim.Native.Nat.{ℕ, _+_, _*_, _-_, _≤_, _<_}
 use lib.ListN.{length, take, drop}
-use Rattle.reader.specs.declared.Carried.{Carried}
-use Rattle.reader.specs.declared.Single.{Single}
-use Rattle.reader.specs.declared.Single.the-variants.{Row, Stuck as Lost}
-use Rattle.reader.specs.Reads.{carryOf}
+use Rattle.simples.specs.declared.Carried.{Carried}
+use Rattle.simples.specs.declared.Single.{Single}
+use Rattle.simples.specs.declared.Single.the-variants.{Row, Stuck as Lost}
+use Rattle.simples.specs.Reads.{carryOf}
 use Rattle.parser.specs.declared.Answer.{Answer}
 use Rattle.parser.specs.declared.Answer.the-variants.{Parsed, Stuck}
 use Rattle.parser.specs.declared.Parse.{Parse}

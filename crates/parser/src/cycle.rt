@@ -10,17 +10,17 @@ use crate::Parse;
 use plans::Target;
 use plans::rows::put_row;
 use plans::rows::retarget;
-use reader::Carried;
-use reader::Single;
-use reader::simple::read_object;
-use reader::simple::read_simple;
-use reader::words::AND;
-use reader::words::CLOSE;
-use reader::words::NOT;
-use reader::words::OPEN;
-use reader::words::OR;
-use reader::words::is_order;
-use reader::words::peek;
+use simples::Carried;
+use simples::Single;
+use simples::simple::read_object;
+use simples::simple::read_simple;
+use simples::words::AND;
+use simples::words::CLOSE;
+use simples::words::NOT;
+use simples::words::OPEN;
+use simples::words::OR;
+use simples::words::is_order;
+use simples::words::peek;
 
 fn condition(
     tokens: &[u32],
@@ -112,7 +112,7 @@ fn term(tokens: &[u32], at: usize, carry: Carried, row: usize, rows: &mut [u32])
     let inner = body(tokens, at + 1, carry, row, rows);
     match inner {
         Answer::Stuck(place) => Answer::Stuck(place),
-        Answer::Parsed(place, kept, next) => {
+        Answer::Parsed(place, left, next) => {
             retarget(
                 rows,
                 row,
@@ -120,7 +120,7 @@ fn term(tokens: &[u32], at: usize, carry: Carried, row: usize, rows: &mut [u32])
                 Target::verdict(false),
                 Target::verdict(true),
             );
-            Answer::Parsed(place, kept, next)
+            Answer::Parsed(place, left, next)
         }
     }
 }

@@ -1,5 +1,5 @@
 // Reading a condition: its tree, as the rows of its plan.
-use reader::Carried;
+use simples::Carried;
 
 pub mod cycle; // condition, chain, term and body
 

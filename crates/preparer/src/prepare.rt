@@ -16,8 +16,8 @@ use name_tables::check_names;
 use parser::Parse;
 use parser::cycle::parse;
 use plan_checks::check_typing;
-use reader::depth::check_depth;
 use refusal_numbers::place_of;
+use simples::depth::check_depth;
 use tables::Check;
 use tables::Refusal;
 

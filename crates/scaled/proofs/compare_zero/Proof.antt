@@ -1,5 +1,5 @@
 -- Rests on the laws of a signed value against zero.
-use mathlib.Core.Path.{sym}
+use mathlib.Core.Path.{_≡_, sym}
 use mathlib.Core.Bool.{false}
 use native.Mathlib.Omega.{arith}
 use Rattle.compare.proofs.OrderLaws.{order-gt}
@@ -8,7 +8,7 @@ use Rattle.scaled.proofs.compare_zero.Statement.{statement}
 use Rattle.scaled.proofs.compare_zero.Tie as tie
 
 returns : tie.Need-returns
-returns c = rw (c .if1 .taken) (sym (zero-zero (c .before .args .minus) false))
+returns c = let zero : c .before .args .d ≡ 0 = omega arith in rw zero (sym (zero-zero (c .before .args .minus) false))
 
 returns-2 : tie.Need-returns-2
 returns-2 c = rw (c .if2 .taken) (sym (minus-plus (c .before .before .args .d) 0 (omega arith)))

@@ -3,8 +3,8 @@ use mathlib.Core.Path.{_≡_, _∙_}
 use Prim.Native.Nat.{_+_}
 use native.Mathlib.Omega.{arith}
 use borrow.Author.Needs.{needs}
-use Rattle.reader.proofs.Classes.{order-within}
-use Rattle.reader.proofs.Resolving.{Here, short-here, no-short, reads-on}
+use Rattle.simples.proofs.Classes.{order-within}
+use Rattle.simples.proofs.Resolving.{Here, short-here, no-short, reads-on}
 use Rattle.expander.proofs.Parting.{reads-bracket, reads-joint, reads-logical, part-not, part-short, part-other}
 use Rattle.expander.proofs.expand.read_part.Statement.{statement}
 use Rattle.expander.proofs.expand.read_part.Tie as tie

@@ -8,9 +8,9 @@ use borrow.Author.Needs.{needs}
 use borrow.Fn.Kinds.{In}
 use borrow.Fn.PlainCycle.{Measures, is, falls, and}
 use Rattle.grammar.specs.Parser.{parse-condition, parse-chain}
-use Rattle.reader.proofs.Looking.{inside}
-use Rattle.reader.proofs.Classes.{order-within}
-use Rattle.reader.proofs.Resolving.{Here, short-here, no-short}
+use Rattle.simples.proofs.Looking.{inside}
+use Rattle.simples.proofs.Classes.{order-within}
+use Rattle.simples.proofs.Resolving.{Here, short-here, no-short}
 use Rattle.parser.proofs.Steps.{Continues, continues, conditions, chains, joins-stuck, joins-part, joins-on, placeable, single}
 use Rattle.parser.proofs.Steps.{term-order, term-plain, term-not-order, term-not-stuck, term-not-row, body-simple, body-stuck, body-shut, body-not-shut}
 use Rattle.parser.proofs.cycle.body.Reads as body
@@ -28,11 +28,11 @@ use Rattle.parser.proofs.cycle.+body+chain+condition+term.Lts-term as t
 use Rattle.plans.proofs.Target.later.Reads as later-reads
 use Rattle.plans.proofs.Target.verdict.Reads as verdict-reads
 use Rattle.parser.proofs.cycle.put_single.Reads as put-single-reads
-use Rattle.reader.proofs.simple.read_object.Reads as read-object-reads
-use Rattle.reader.proofs.simple.read_simple.Reads as read-simple-reads
+use Rattle.simples.proofs.simple.read_object.Reads as read-object-reads
+use Rattle.simples.proofs.simple.read_simple.Reads as read-simple-reads
 use Rattle.plans.proofs.rows.retarget.Reads as retarget-reads
-use Rattle.reader.proofs.words.is_order.Reads as is-order-reads
-use Rattle.reader.proofs.words.peek.Reads as peek-reads
+use Rattle.simples.proofs.words.is_order.Reads as is-order-reads
+use Rattle.simples.proofs.words.peek.Reads as peek-reads
 use Rattle.parser.proofs.cycle.+body+chain+condition+term.{statement}
 use Rattle.parser.proofs.cycle.+body+chain+condition+term.Tie.{close}
 
