@@ -6,17 +6,19 @@ ghost use lib.ListN.{length, drop};
 ghost use Rattle.grammar.specs.Expanded.{stated, full-form};
 ghost use Rattle.simples.specs.Reads.{carryOf, Reads};
 ghost use Rattle.expander.specs.Spelled.{part, spelled};
+use content::relations::NEGATED;
 use simples::Carried;
 use simples::Single;
 use simples::simple::read_object;
 use simples::simple::read_simple;
-use simples::words::AND;
-use simples::words::CLOSE;
-use simples::words::NOT;
-use simples::words::OPEN;
-use simples::words::OR;
 use simples::words::is_order;
 use simples::words::peek;
+use tables::tokens::FIRST_WORD;
+use tables::words::AND;
+use tables::words::CLOSE;
+use tables::words::NOT;
+use tables::words::OPEN;
+use tables::words::OR;
 
 // The words of a relation, at the start of the output; and how many there are.
 fn write_relation(out: &mut [u32], relation: u32) -> usize
@@ -24,12 +26,12 @@ fn write_relation(out: &mut [u32], relation: u32) -> usize
     ensures { λ r. ⌜ r ≡ length (stated relation) ⌝ }
     ensures { λ r. ⌜ now (out .exit) ≡ stated relation ++ drop r (now (out .entry)) ⌝ }
 {
-    if relation < 32 {
-        out[0] = 262144 + relation;
+    if relation < NEGATED {
+        out[0] = FIRST_WORD + relation;
         return 1;
     }
     out[0] = NOT;
-    out[1] = 262144 + (relation - 32);
+    out[1] = FIRST_WORD + (relation - NEGATED);
     2
 }
 
@@ -84,12 +86,12 @@ fn read_part(tokens: &[u32], at: usize, carry: Carried) -> Single
     if here == NOT {
         let after = peek(tokens, at + 1);
         if is_order(after) & (relation != 0) {
-            return read_object(tokens, at + 2, carry.subject, after - 262144 + 32);
+            return read_object(tokens, at + 2, carry.subject, after - FIRST_WORD + NEGATED);
         }
         return copied(here, at + 1, carry);
     }
     if is_order(here) & (relation != 0) {
-        return read_object(tokens, at + 1, carry.subject, here - 262144);
+        return read_object(tokens, at + 1, carry.subject, here - FIRST_WORD);
     }
     read_simple(tokens, at, carry)
 }

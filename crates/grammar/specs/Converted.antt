@@ -4,6 +4,7 @@ use mathlib.Core.List.{List, [], _∷_, _++_}
 use Prim.Native.Nat.{ℕ, zero, suc, _-_}
 use lib.Dec.{eqb}
 use Rattle.tables.specs.Tokens.{isOff}
+use Rattle.tables.specs.Words.{NOT}
 use Rattle.grammar.specs.declared.PlanRow.{PlanRow}
 use Rattle.grammar.specs.Grammar.{Tree, simple, negated, bracketed, both, either}
 use Rattle.grammar.specs.Judging.{Visit, visit}
@@ -15,7 +16,7 @@ onToken token = token - 65536
 
 -- the word NOT, or nothing
 abbrev pub notIf : Bool → List ℕ
-notIf true = 262146 ∷ []
+notIf true = NOT ∷ []
 notIf false = []
 
 -- "NOT before an off token becomes the on token alone, a bare off token becomes NOT and the on token": the tokens that come after a
@@ -24,7 +25,7 @@ unfoldable pub onlyOn : Bool → List ℕ → List ℕ
 onlyOn waits [] = notIf waits
 onlyOn waits (x ∷ tokens) =
     cond (isOff x) (notIf (not waits) ++ onToken x ∷ onlyOn false tokens)
-    (cond (eqb x 262146) (notIf waits ++ onlyOn true tokens)
+    (cond (eqb x NOT) (notIf waits ++ onlyOn true tokens)
     (notIf waits ++ x ∷ onlyOn false tokens))
 
 abbrev pub convertedTokens : List ℕ → List ℕ

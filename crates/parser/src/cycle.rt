@@ -7,6 +7,7 @@ ghost use Rattle.grammar.specs.Parser.{parse-condition, parse-chain, parse-term
 ghost use Rattle.parser.specs.Parses.{Room, Plans, Placeable, Placed, Parses};
 use crate::Answer;
 use crate::Parse;
+use content::relations::NEGATED;
 use plans::Target;
 use plans::rows::put_row;
 use plans::rows::retarget;
@@ -14,13 +15,14 @@ use simples::Carried;
 use simples::Single;
 use simples::simple::read_object;
 use simples::simple::read_simple;
-use simples::words::AND;
-use simples::words::CLOSE;
-use simples::words::NOT;
-use simples::words::OPEN;
-use simples::words::OR;
 use simples::words::is_order;
 use simples::words::peek;
+use tables::tokens::FIRST_WORD;
+use tables::words::AND;
+use tables::words::CLOSE;
+use tables::words::NOT;
+use tables::words::OPEN;
+use tables::words::OR;
 
 fn condition(
     tokens: &[u32],
@@ -94,7 +96,7 @@ fn term(tokens: &[u32], at: usize, carry: Carried, row: usize, rows: &mut [u32])
     let relation = carry.relation;
     if is_order(here) & (relation != 0) {
         return put_single(
-            read_object(tokens, at + 1, carry.subject, here - 262144),
+            read_object(tokens, at + 1, carry.subject, here - FIRST_WORD),
             row,
             rows,
         );
@@ -104,7 +106,7 @@ fn term(tokens: &[u32], at: usize, carry: Carried, row: usize, rows: &mut [u32])
     }
     if is_order(after) & (relation != 0) {
         return put_single(
-            read_object(tokens, at + 2, carry.subject, after - 262144 + 32),
+            read_object(tokens, at + 2, carry.subject, after - FIRST_WORD + NEGATED),
             row,
             rows,
         );

@@ -10,6 +10,7 @@ use Rattle.tables.specs.declared.Verdict.{Verdict}
 use Rattle.tables.specs.declared.Judged.{Judged}
 use Rattle.tables.specs.declared.Verdict.the-variants.{True, False}
 use Rattle.tables.specs.Operands.{Lent}
+use Rattle.tables.specs.Words.{OPEN, CLOSE, NOT, AND, OR, GREATER, LESS, EQUAL, GREATER-OR-EQUAL, NUMERIC, ZERO, switchToken}
 use Rattle.values.specs.Comparison.{sideOf, valueOf}
 use Rattle.rules.specs.Calls.{Gives, expandGives, planGives, judgeGives, runGives}
 use Rattle.rules.specs.Numbers.{ofWritten, ofVerdict}
@@ -77,49 +78,16 @@ abbrev d : ℕ
 d = 3
 
 abbrev p : ℕ
-p = 131072
+p = switchToken 0
 
 abbrev q : ℕ
-q = 131073
+q = switchToken 1
 
 abbrev r : ℕ
-r = 131074
+r = switchToken 2
 
 abbrev s : ℕ
-s = 131075
-
-abbrev LEFT : ℕ
-LEFT = 262144
-
-abbrev RIGHT : ℕ
-RIGHT = 262145
-
-abbrev NOT : ℕ
-NOT = 262146
-
-abbrev AND : ℕ
-AND = 262147
-
-abbrev OR : ℕ
-OR = 262148
-
-abbrev GREATER : ℕ
-GREATER = 262149
-
-abbrev LESS : ℕ
-LESS = 262150
-
-abbrev EQUAL : ℕ
-EQUAL = 262151
-
-abbrev GREATER-OR-EQUAL : ℕ
-GREATER-OR-EQUAL = 262152
-
-abbrev NUMERIC : ℕ
-NUMERIC = 262154
-
-abbrev ZERO : ℕ
-ZERO = 262160
+s = switchToken 3
 
 abbrev items : List ℕ → Lent
 items rows = record { off = false; items = rows; literals = []; bytes = []; names = [] }
@@ -177,12 +145,12 @@ sixteen =
     ∷ case digits (a ∷ EQUAL ∷ b ∷ AND ∷ NOT ∷ GREATER-OR-EQUAL ∷ c ∷ OR ∷ d ∷ [])
     (expands (a ∷ EQUAL ∷ b ∷ AND ∷ NOT ∷ a ∷ GREATER-OR-EQUAL ∷ c ∷ OR ∷ a ∷ GREATER-OR-EQUAL ∷ d ∷ []))
     -- 4. "NOT ( a NOT > b AND c AND NOT d ): NOT ( a NOT > b AND a NOT > c AND NOT a NOT > d )."
-    ∷ case digits (NOT ∷ LEFT ∷ a ∷ NOT ∷ GREATER ∷ b ∷ AND ∷ c ∷ AND ∷ NOT ∷ d ∷ RIGHT ∷ [])
-    (expands (NOT ∷ LEFT ∷ a ∷ NOT ∷ GREATER ∷ b ∷ AND ∷ a ∷ NOT ∷ GREATER ∷ c ∷ AND ∷ NOT ∷ a ∷ NOT ∷ GREATER ∷ d ∷ RIGHT ∷ []))
+    ∷ case digits (NOT ∷ OPEN ∷ a ∷ NOT ∷ GREATER ∷ b ∷ AND ∷ c ∷ AND ∷ NOT ∷ d ∷ CLOSE ∷ [])
+    (expands (NOT ∷ OPEN ∷ a ∷ NOT ∷ GREATER ∷ b ∷ AND ∷ a ∷ NOT ∷ GREATER ∷ c ∷ AND ∷ NOT ∷ a ∷ NOT ∷ GREATER ∷ d ∷ CLOSE ∷ []))
     -- 5. "a = b AND ( c OR d ): refusal 7 at 6."
-    ∷ case digits (a ∷ EQUAL ∷ b ∷ AND ∷ LEFT ∷ c ∷ OR ∷ d ∷ RIGHT ∷ []) (refuses 7 6)
+    ∷ case digits (a ∷ EQUAL ∷ b ∷ AND ∷ OPEN ∷ c ∷ OR ∷ d ∷ CLOSE ∷ []) (refuses 7 6)
     -- 6. "( a = b OR c ) AND d: 7 at 9."
-    ∷ case digits (LEFT ∷ a ∷ EQUAL ∷ b ∷ OR ∷ c ∷ RIGHT ∷ AND ∷ d ∷ []) (refuses 7 9)
+    ∷ case digits (OPEN ∷ a ∷ EQUAL ∷ b ∷ OR ∷ c ∷ CLOSE ∷ AND ∷ d ∷ []) (refuses 7 9)
     -- 7. "a NOT >= b: 7 at 2."
     ∷ case digits (a ∷ NOT ∷ GREATER-OR-EQUAL ∷ b ∷ []) (refuses 7 2)
     -- 8. "a = b OR NOT NOT = c: 7 at 5."
@@ -190,7 +158,7 @@ sixteen =
     -- 9. "a alone: 7 at 1."
     ∷ case digits (a ∷ []) (refuses 7 1)
     -- 10. "Four switches, kind 2, as ( p OR NOT q ) AND r AND s: target pairs 2 1, 65534 2, 3 65534, 65535 65534."
-    ∷ case (items []) (LEFT ∷ p ∷ OR ∷ NOT ∷ q ∷ RIGHT ∷ AND ∷ r ∷ AND ∷ s ∷ [])
+    ∷ case (items []) (OPEN ∷ p ∷ OR ∷ NOT ∷ q ∷ CLOSE ∷ AND ∷ r ∷ AND ∷ s ∷ [])
     (plans
     (p ∷ 0 ∷ 0 ∷ 2 ∷ 1 ∷ q ∷ 0 ∷ 0 ∷ 65534 ∷ 2 ∷ r ∷ 0 ∷ 0 ∷ 3 ∷ 65534 ∷ s ∷ 0 ∷ 0 ∷ 65535 ∷ 65534 ∷ []))
     -- 11. "is −12345; equal to alphanumeric 12345 and to group 1234E."

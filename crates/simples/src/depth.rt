@@ -4,15 +4,16 @@ ghost use mathlib.Core.Bool.{cond};
 ghost use Prim.Native.Nat.{suc, pred, _<_};
 ghost use lib.Dec.{eqb};
 ghost use Rattle.grammar.specs.Depth.{depthCheck};
-use crate::words::CLOSE;
-use crate::words::OPEN;
+ghost use Rattle.tables.specs.Words.{OPEN as LEFT, CLOSE as RIGHT};
 use tables::Check;
 use tables::Refusal;
+use tables::words::CLOSE;
+use tables::words::OPEN;
 
 // How many brackets are open after a token. A ")" too many opens nothing.
 fn opened_after(opened: usize, token: u32) -> usize
     requires { ⌜ opened < 4096 ⌝ }
-    ensures { λ r. ⌜ r ≡ cond (eqb token 262144) (suc opened) (cond (eqb token 262145) (pred opened) opened) ⌝ }
+    ensures { λ r. ⌜ r ≡ cond (eqb token LEFT) (suc opened) (cond (eqb token RIGHT) (pred opened) opened) ⌝ }
 {
     if token == OPEN {
         return opened + 1;

@@ -6,7 +6,6 @@ ghost use Rattle.grammar.specs.Parser.{object, after-operand, parse-simple};
 ghost use Rattle.simples.specs.Reads.{carryOf, Reads, Settled};
 use crate::Carried;
 use crate::Single;
-use crate::words::NOT;
 use crate::words::is_bound;
 use crate::words::is_name;
 use crate::words::is_operand;
@@ -14,6 +13,9 @@ use crate::words::is_order;
 use crate::words::is_switch;
 use crate::words::is_test;
 use crate::words::peek;
+use content::relations::NEGATED;
+use tables::tokens::FIRST_WORD;
+use tables::words::NOT;
 
 // The object of a relation that has been read: the full relation, or the one that is stated, is carried on.
 pub fn read_object(tokens: &[u32], at: usize, subject: u32, relation: u32) -> Single
@@ -58,18 +60,18 @@ fn after_operand(tokens: &[u32], at: usize, carry: Carried, operand: u32) -> Sin
 {
     let word = peek(tokens, at);
     if is_order(word) | is_bound(word) {
-        return read_object(tokens, at + 1, operand, word - 262144);
+        return read_object(tokens, at + 1, operand, word - FIRST_WORD);
     }
     if is_test(word) {
-        return tested(operand, word - 262144, at + 1);
+        return tested(operand, word - FIRST_WORD, at + 1);
     }
     if word == NOT {
         let stated = peek(tokens, at + 1);
         if is_order(stated) {
-            return read_object(tokens, at + 2, operand, stated - 262144 + 32);
+            return read_object(tokens, at + 2, operand, stated - FIRST_WORD + NEGATED);
         }
         if is_test(stated) {
-            return tested(operand, stated - 262144 + 32, at + 2);
+            return tested(operand, stated - FIRST_WORD + NEGATED, at + 2);
         }
         return Single::Stuck(at + 1);
     }
@@ -104,7 +106,7 @@ pub fn read_simple(tokens: &[u32], at: usize, carry: Carried) -> Single
     }
     let relation = carry.relation;
     if is_bound(token) & (relation != 0) {
-        return read_object(tokens, at + 1, carry.subject, token - 262144);
+        return read_object(tokens, at + 1, carry.subject, token - FIRST_WORD);
     }
     Single::Stuck(at)
 }

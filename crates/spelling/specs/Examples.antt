@@ -6,7 +6,7 @@ use Prim.Native.String.{String}
 use Rattle.description.specs.Grammar.{bytes}
 use Rattle.spelling.specs.Names.{Book, book, knownBy}
 use Rattle.spelling.specs.Reading.{Reading, read, refused, reading}
-use Rattle.tables.specs.Words.{ALPHABETIC-LOWER, AND, CLOSE, EQUAL, GREATER, GREATER-OR-EQUAL, LESS, LESS-OR-EQUAL, NOT, OPEN, OR, literalToken, nameToken, onToken}
+use Rattle.tables.specs.Words.{ALPHABETIC-LOWER, AND, CLOSE, EQUAL, GREATER, GREATER-OR-EQUAL, LESS, LESS-OR-EQUAL, NOT, OPEN, OR, literalToken, nameToken, switchToken}
 
 pub record Example : Type 0 where
   pub text : String
@@ -37,7 +37,7 @@ examples =
     ∷ example "A > OR = B" (read (0 ∷ GREATER ∷ OR ∷ EQUAL ∷ 1 ∷ []) [] [])
     ∷ example "A LESS OR EQUAL B" (read (0 ∷ LESS-OR-EQUAL ∷ 1 ∷ []) [] [])
     ∷ example "A => B" (read (0 ∷ EQUAL ∷ GREATER ∷ 1 ∷ []) [] [])
-    ∷ example "(UPSI-0 OR NOT UPSI-7)" (read (OPEN ∷ onToken 0 ∷ OR ∷ NOT ∷ onToken 7 ∷ CLOSE ∷ []) [] [])
+    ∷ example "(UPSI-0 OR NOT UPSI-7)" (read (OPEN ∷ switchToken 0 ∷ OR ∷ NOT ∷ switchToken 7 ∷ CLOSE ∷ []) [] [])
     ∷ example "A IS ALPHABETIC-LOWER" (read (0 ∷ ALPHABETIC-LOWER ∷ []) [] [])
     ∷ example "" (refused 5 0)
     ∷ example "A IS IS B" (refused 15 5)

@@ -3,7 +3,7 @@ use mathlib.Core.List.{List, [], _∷_}
 use Prim.Native.Nat.{ℕ, _+_}
 use Rattle.description.specs.Grammar.{bytes}
 use Rattle.spelling.specs.Literals.{Literal}
-use Rattle.tables.specs.Words.{GREATER, LESS, GREATER-OR-EQUAL, LESS-OR-EQUAL, wordToken, onToken}
+use Rattle.tables.specs.Words.{GREATER, LESS, GREATER-OR-EQUAL, LESS-OR-EQUAL, wordToken, switchToken}
 
 -- What a word adds to what is read: a token, a literal, or a refusal's number.
 pub data Piece : Type 0 where
@@ -44,7 +44,7 @@ abbrev pub word : List ℕ → ℕ → Keyword
 word bytes v = keyword bytes (alone (wordToken v))
 
 abbrev pub switch : ℕ → Keyword
-switch v = keyword (UPSI v) (alone (onToken v))
+switch v = keyword (UPSI v) (alone (switchToken v))
 
 -- The words that mean something by themselves. Keywords of a) that are not among them (IS, FILLER, PIC and so on) are faulty words, where no
 -- other word takes them.

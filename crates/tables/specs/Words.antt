@@ -60,8 +60,8 @@ ZERO = 262160
 abbrev pub literalToken : ℕ → ℕ
 literalToken v = 65536 + v
 
-abbrev pub onToken : ℕ → ℕ
-onToken v = 131072 + v
+abbrev pub switchToken : ℕ → ℕ
+switchToken v = 131072 + v
 
 abbrev pub wordToken : ℕ → ℕ
 wordToken v = 262144 + v
