@@ -23,7 +23,7 @@ use Rattle.values.specs.Truth.{outcome}
 use Rattle.grammar.specs.Grammar.{Tree}
 use Rattle.grammar.specs.Parser.{read}
 use Rattle.grammar.specs.Expanded.{expanded}
-use Rattle.grammar.specs.Judging.{leaves}
+use Rattle.grammar.specs.Judging.{simpleCount}
 use Rattle.grammar.specs.Plan.{planned, planCheck, running}
 use Rattle.grammar.proofs.Lent.{plan-lent}
 use Rattle.grammar.proofs.Segment.{planned-length}
@@ -37,7 +37,7 @@ use Rattle.rules.proofs.Passing.{Passes, passed, read-as, tables-pass, few-toke
 use Rattle.rules.proofs.Answers.{leaves-as, writes-over, lacks-room, judges-as, few-leaves, plan-passes, run-judges, refuses, after-tables, after-plan}
 use Rattle.preparer.specs.declared.Prepared.{Prepared}
 use Rattle.preparer.specs.declared.Prepared.the-variants.{Rows, Refused as Unprepared}
-use Rattle.preparer.specs.Prepared.{Stands, Prepares}
+use Rattle.preparer.specs.Prepared.{RowsStand, Prepares}
 use Rattle.preparer.proofs.Preparing.{stands-rows}
 use Rattle.runner.specs.Runs.{Runnable}
 
@@ -105,17 +105,17 @@ module _ {lent : Lent} {tokens : List ℕ} {r : Prepared} {before after : List �
 pub record Ready (lent : Lent) (tokens : List ℕ) (count : ℕ) (after : List ℕ) : Type 0 where
   pub tree : Tree
   pub passes : Passes lent tokens tree
-  pub counted : count ≡ leaves tree
+  pub counted : count ≡ simpleCount tree
   pub rows : take (count * 5) after ≡ planned tree
 
 -- what is prepared is rows
 module _ {lent : Lent} {tokens : List ℕ} {r : Prepared} {before after : List ℕ} (p : Prepares lent tokens r before after) {count : ℕ} (e : r ≡ Rows count) where
   pub ready : Ready lent tokens count after
   ready =
-      let h : (firstOf (conditionLines lent tokens) ≡ Sound) × Stands (read tokens) count before after = rw e at (p .readied) in
+      let h : (firstOf (conditionLines lent tokens) ≡ Sound) × RowsStand (read tokens) count before after = rw e at (p .readied) in
       let (t, q) = passed lent tokens (h .0) in
       let z : h .1 .tree ≡ t = cc (h .1 .read-as, read-as q) in
-      record { tree = t; passes = q; counted = h .1 .counted ∙ ap leaves z; rows = stands-rows (h .1) ∙ ap planned z }
+      record { tree = t; passes = q; counted = h .1 .counted ∙ ap simpleCount z; rows = stands-rows (h .1) ∙ ap planned z }
 
   pub few-prepared : count ≤ 128
   few-prepared = let y = ready in rw (y .counted) (few-leaves (y .passes))

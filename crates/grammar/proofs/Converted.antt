@@ -12,7 +12,7 @@ use Rattle.grammar.specs.declared.PlanRow.{PlanRow}
 use Rattle.grammar.specs.Grammar.{operand, switch, test, name, Is, Carry, nothing, carried, Tree, simple, negated, bracketed, both, either}
 use Rattle.grammar.specs.Grammar.{Stated, plain, with-not, Relation, ordered, bounded, Simple, full, tested, switched, named, short, bare}
 use Rattle.grammar.specs.Grammar.{Logical, Condition, chain, ors, Chain, term, ands, Term, body, negation, Body, one, brackets, Derives}
-use Rattle.grammar.specs.Judging.{leaves}
+use Rattle.grammar.specs.Judging.{simpleCount}
 use Rattle.grammar.specs.Plan.{onTrue, onFalse, rowsOf, flat, planned, planRow}
 use Rattle.grammar.specs.Converted.{onToken, notIf, onlyOn, convertedTokens, negatedIf, treeOn, convertedTree, onRow, onRows, rowsFrom, convertedPlan}
 use Rattle.grammar.proofs.Spelling.{operand-token, opening-token, closing-token, not-token, and-token, or-token}
@@ -189,22 +189,22 @@ pub converted-derives : {ts : List ℕ} {t : Tree} → Derives ts t → Derives 
 converted-derives h = record { carry = h .carry; derivation = converts (h .derivation) tt .0 }
 
 -- the rows of the converted tree are the converted rows
-leaves-if : (w : Bool) (t : Tree) → leaves (negatedIf w t) ≡ leaves t
-unfolding leaves
-leaves-if true t = refl
-leaves-if false t = refl
+simpleCount-if : (w : Bool) (t : Tree) → simpleCount (negatedIf w t) ≡ simpleCount t
+unfolding simpleCount
+simpleCount-if true t = refl
+simpleCount-if false t = refl
 
-pub leaves-on : (w : Bool) (t : Tree) → leaves (treeOn w t) ≡ leaves t
-unfolding leaves treeOn
-leaves-on w (simple a r b) = go (isOff a)
+pub simpleCount-on : (w : Bool) (t : Tree) → simpleCount (treeOn w t) ≡ simpleCount t
+unfolding simpleCount treeOn
+simpleCount-on w (simple a r b) = go (isOff a)
   where
-    go : (f : Bool) → leaves (cond f (negatedIf (not w) (simple (onToken a) r b)) (negatedIf w (simple a r b))) ≡ 1
-    go true = leaves-if (not w) _
-    go false = leaves-if w _
-leaves-on w (negated t) = leaves-if w (treeOn true t) ∙ leaves-on true t
-leaves-on w (bracketed t) = leaves-if w (bracketed (treeOn false t)) ∙ leaves-on false t
-leaves-on w (both t u) = leaves-if w (both (treeOn false t) (treeOn false u)) ∙ ap₂ (λ x y. x + y) (leaves-on false t) (leaves-on false u)
-leaves-on w (either t u) = leaves-if w (either (treeOn false t) (treeOn false u)) ∙ ap₂ (λ x y. x + y) (leaves-on false t) (leaves-on false u)
+    go : (f : Bool) → simpleCount (cond f (negatedIf (not w) (simple (onToken a) r b)) (negatedIf w (simple a r b))) ≡ 1
+    go true = simpleCount-if (not w) _
+    go false = simpleCount-if w _
+simpleCount-on w (negated t) = simpleCount-if w (treeOn true t) ∙ simpleCount-on true t
+simpleCount-on w (bracketed t) = simpleCount-if w (bracketed (treeOn false t)) ∙ simpleCount-on false t
+simpleCount-on w (both t u) = simpleCount-if w (both (treeOn false t) (treeOn false u)) ∙ ap₂ (λ x y. x + y) (simpleCount-on false t) (simpleCount-on false u)
+simpleCount-on w (either t u) = simpleCount-if w (either (treeOn false t) (treeOn false u)) ∙ ap₂ (λ x y. x + y) (simpleCount-on false t) (simpleCount-on false u)
 
 on-append : (a b : List PlanRow) → onRows (a ++ b) ≡ onRows a ++ onRows b
 unfolding onRows
@@ -230,14 +230,14 @@ rows-on n y f (simple a r b) = (go (isOff a), back (isOff a))
 rows-on n y f (negated t) = (rows-on n y f t .1, rows-on n f y t .1)
 rows-on n y f (bracketed t) = (rows-on n y f t .0, rows-on n f y t .0)
 rows-on n y f (both t u) =
-    rw (leaves-on false t) (
-      sym (on-append (rowsOf n (n + leaves t) f t) (rowsOf (n + leaves t) y f u) ∙ ap₂ (λ a b. a ++ b) (sym (rows-on n (n + leaves t) f t .0)) (sym (rows-on (n + leaves t) y f u .0))),
-      sym (on-append (rowsOf n (n + leaves t) y t) (rowsOf (n + leaves t) f y u) ∙ ap₂ (λ a b. a ++ b) (sym (rows-on n (n + leaves t) y t .0)) (sym (rows-on (n + leaves t) f y u .0))),
+    rw (simpleCount-on false t) (
+      sym (on-append (rowsOf n (n + simpleCount t) f t) (rowsOf (n + simpleCount t) y f u) ∙ ap₂ (λ a b. a ++ b) (sym (rows-on n (n + simpleCount t) f t .0)) (sym (rows-on (n + simpleCount t) y f u .0))),
+      sym (on-append (rowsOf n (n + simpleCount t) y t) (rowsOf (n + simpleCount t) f y u) ∙ ap₂ (λ a b. a ++ b) (sym (rows-on n (n + simpleCount t) y t .0)) (sym (rows-on (n + simpleCount t) f y u .0))),
     )
 rows-on n y f (either t u) =
-    rw (leaves-on false t) (
-      sym (on-append (rowsOf n y (n + leaves t) t) (rowsOf (n + leaves t) y f u) ∙ ap₂ (λ a b. a ++ b) (sym (rows-on n y (n + leaves t) t .0)) (sym (rows-on (n + leaves t) y f u .0))),
-      sym (on-append (rowsOf n f (n + leaves t) t) (rowsOf (n + leaves t) f y u) ∙ ap₂ (λ a b. a ++ b) (sym (rows-on n f (n + leaves t) t .0)) (sym (rows-on (n + leaves t) f y u .0))),
+    rw (simpleCount-on false t) (
+      sym (on-append (rowsOf n y (n + simpleCount t) t) (rowsOf (n + simpleCount t) y f u) ∙ ap₂ (λ a b. a ++ b) (sym (rows-on n y (n + simpleCount t) t .0)) (sym (rows-on (n + simpleCount t) y f u .0))),
+      sym (on-append (rowsOf n f (n + simpleCount t) t) (rowsOf (n + simpleCount t) f y u) ∙ ap₂ (λ a b. a ++ b) (sym (rows-on n f (n + simpleCount t) t .0)) (sym (rows-on (n + simpleCount t) f y u .0))),
     )
 
 -- rows that stand in a plan are read out of it again

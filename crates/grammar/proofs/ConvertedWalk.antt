@@ -12,14 +12,14 @@ use Rattle.tables.specs.declared.Verdict.the-variants.{True, False, Refused}
 use Rattle.tables.specs.Tokens.{isOff}
 use Rattle.grammar.specs.declared.PlanRow.{PlanRow}
 use Rattle.grammar.specs.Grammar.{Tree, simple, negated, bracketed, both, either}
-use Rattle.grammar.specs.Judging.{Outcomes, leaves, when, at, judged, Visit, visit, visited}
+use Rattle.grammar.specs.Judging.{Outcomes, simpleCount, when, at, judged, Visit, visit, visited}
 use Rattle.grammar.specs.Plan.{onTrue, onFalse, follow, reached}
 use Rattle.grammar.specs.Converted.{onToken, negatedIf, treeOn, convertedTree, onVisits, onRow}
 use Rattle.grammar.proofs.Judging.{when-not}
 use Rattle.grammar.proofs.Segment.{follow-row, follow-true, follow-false, reached-row, reached-true, reached-false}
 use Rattle.grammar.proofs.Sure.{Later}
 use Rattle.grammar.proofs.Planned.{Each}
-use Rattle.grammar.proofs.Converted.{leaves-on}
+use Rattle.grammar.proofs.Converted.{simpleCount-on}
 
 -- the visits by on switches
 visits-append : (a b : List Visit) → onVisits (a ++ b) ≡ onVisits a ++ onVisits b
@@ -101,16 +101,16 @@ module _ (out : Outcomes) where
       go w true = visited-if (not w) n (simple (onToken a) r b)
       go w false = visited-if w n (simple a r b)
 
-  module _ (n : ℕ) (t u : Tree) (p : On n t) (q : On (n + leaves t) u) where
+  module _ (n : ℕ) (t u : Tree) (p : On n t) (q : On (n + simpleCount t) u) where
     both-judged : judged out n (both (treeOn false t) (treeOn false u)) ≡ judged out n (both t u)
     unfolding judged
-    both-judged = rw (leaves-on false t, p .plain, q .plain)
+    both-judged = rw (simpleCount-on false t, p .plain, q .plain)
 
     both-visited : visited out n (both (treeOn false t) (treeOn false u)) ≡ onVisits (visited out n (both t u))
     unfolding visited onVisits
     both-visited =
-        rw (leaves-on false t, p .plain, p .visits false, q .visits false)
-        (sym (visits-append (visited out n t) _ ∙ ap (λ l. onVisits (visited out n t) ++ l) (visits-when (judged out n t) (visited out (n + leaves t) u) [])))
+        rw (simpleCount-on false t, p .plain, p .visits false, q .visits false)
+        (sym (visits-append (visited out n t) _ ∙ ap (λ l. onVisits (visited out n t) ++ l) (visits-when (judged out n t) (visited out (n + simpleCount t) u) [])))
 
     both-on : On n (both t u)
     unfolding treeOn
@@ -118,13 +118,13 @@ module _ (out : Outcomes) where
 
     either-judged : judged out n (either (treeOn false t) (treeOn false u)) ≡ judged out n (either t u)
     unfolding judged
-    either-judged = rw (leaves-on false t, p .plain, q .plain)
+    either-judged = rw (simpleCount-on false t, p .plain, q .plain)
 
     either-visited : visited out n (either (treeOn false t) (treeOn false u)) ≡ onVisits (visited out n (either t u))
     unfolding visited onVisits
     either-visited =
-        rw (leaves-on false t, p .plain, p .visits false, q .visits false)
-        (sym (visits-append (visited out n t) _ ∙ ap (λ l. onVisits (visited out n t) ++ l) (visits-when (judged out n t) [] (visited out (n + leaves t) u))))
+        rw (simpleCount-on false t, p .plain, p .visits false, q .visits false)
+        (sym (visits-append (visited out n t) _ ∙ ap (λ l. onVisits (visited out n t) ++ l) (visits-when (judged out n t) [] (visited out (n + simpleCount t) u))))
 
     either-on : On n (either t u)
     unfolding treeOn
@@ -142,8 +142,8 @@ module _ (out : Outcomes) where
   on n (simple a r b) h = on-simple n a r b h
   on n (negated t) h = on-negated n t (on n t h)
   on n (bracketed t) h = on-bracketed n t (on n t h)
-  on n (both t u) h = both-on n t u (on n t (h .0)) (on (n + leaves t) u (h .1))
-  on n (either t u) h = either-on n t u (on n t (h .0)) (on (n + leaves t) u (h .1))
+  on n (both t u) h = both-on n t u (on n t (h .0)) (on (n + simpleCount t) u (h .1))
+  on n (either t u) h = either-on n t u (on n t (h .0)) (on (n + simpleCount t) u (h .1))
 
   pub converted-judged : (t : Tree) → Each Opposite t → judged out 0 (convertedTree t) ≡ judged out 0 t
   converted-judged t h = on 0 t h .plain

@@ -8,7 +8,7 @@ use Rattle.tables.specs.declared.Verdict.{Verdict}
 use Rattle.tables.specs.declared.Verdict.the-variants.{True, False, Refused}
 use Rattle.tables.specs.declared.Refusal.{Refusal}
 use Rattle.grammar.specs.Grammar.{Tree, simple, negated, bracketed, both, either}
-use Rattle.grammar.specs.Judging.{Outcomes, leaves, when, judged, Visit, visited, chain-of, condition-of, judged-terms, judged-chains}
+use Rattle.grammar.specs.Judging.{Outcomes, simpleCount, when, judged, Visit, visited, chain-of, condition-of, judged-terms, judged-chains}
 
 pub when-same : (v : Verdict) → v ≡ when v True False Refused
 unfolding when
@@ -27,15 +27,15 @@ when-not (Refused refusal) a b s = refl
 pub chain-judges : (out : Outcomes) (n : ℕ) (t : Tree) (ts : List Tree) → judged out n (chain-of t ts) ≡ judged-terms out n (t ∷ ts)
 unfolding judged chain-of judged-terms
 chain-judges out n t [] = when-same (judged out n t)
-chain-judges out n t (u ∷ us) = ap (λ w. when (judged out n t) w False Refused) (chain-judges out (n + leaves t) u us)
+chain-judges out n t (u ∷ us) = ap (λ w. when (judged out n t) w False Refused) (chain-judges out (n + simpleCount t) u us)
 
 pub condition-judges : (out : Outcomes) (n : ℕ) (t : Tree) (ts : List Tree) → judged out n (condition-of t ts) ≡ judged-chains out n (t ∷ ts)
 unfolding judged condition-of judged-chains
 condition-judges out n t [] = when-same (judged out n t)
-condition-judges out n t (u ∷ us) = ap (λ w. when (judged out n t) True w Refused) (condition-judges out (n + leaves t) u us)
+condition-judges out n t (u ∷ us) = ap (λ w. when (judged out n t) True w Refused) (condition-judges out (n + simpleCount t) u us)
 
-pub some-leaf : (t : Tree) → 0 < leaves t
-unfolding leaves
+pub some-leaf : (t : Tree) → 0 < simpleCount t
+unfolding simpleCount
 some-leaf (simple a r b) = omega arith
 some-leaf (negated t) = some-leaf t
 some-leaf (bracketed t) = some-leaf t
@@ -56,19 +56,19 @@ when-le False a b m p q = q
 when-le (Refused refusal) a b m p q = omega arith
 
 -- at most the simple conditions that there are, and at least one
-pub visited-le : (out : Outcomes) (n : ℕ) (t : Tree) → length (visited out n t) ≤ leaves t
-unfolding leaves visited
+pub visited-le : (out : Outcomes) (n : ℕ) (t : Tree) → length (visited out n t) ≤ simpleCount t
+unfolding simpleCount visited
 visited-le out n (simple a r b) = omega arith
 visited-le out n (negated t) = visited-le out n t
 visited-le out n (bracketed t) = visited-le out n t
 visited-le out n (both t u) =
-    let h = visited-le out (n + leaves t) u in
+    let h = visited-le out (n + simpleCount t) u in
     rw (length-append, when-length)
-    (omega (arith, visited-le out n t, when-le (judged out n t) (length (visited out (n + leaves t) u)) 0 (leaves u) h (omega arith)))
+    (omega (arith, visited-le out n t, when-le (judged out n t) (length (visited out (n + simpleCount t) u)) 0 (simpleCount u) h (omega arith)))
 visited-le out n (either t u) =
-    let h = visited-le out (n + leaves t) u in
+    let h = visited-le out (n + simpleCount t) u in
     rw (length-append, when-length)
-    (omega (arith, visited-le out n t, when-le (judged out n t) 0 (length (visited out (n + leaves t) u)) (leaves u) (omega arith) h))
+    (omega (arith, visited-le out n t, when-le (judged out n t) 0 (length (visited out (n + simpleCount t) u)) (simpleCount u) (omega arith) h))
 
 pub some-visit : (out : Outcomes) (n : ℕ) (t : Tree) → 1 ≤ length (visited out n t)
 unfolding visited

@@ -11,7 +11,7 @@ use Rattle.tables.proofs.Lines.{failing-same}
 use Rattle.typing.proofs.Lending.{shape-lent, typed-lent}
 use Rattle.grammar.specs.declared.PlanRow.{PlanRow}
 use Rattle.grammar.specs.Grammar.{Tree, simple, negated, bracketed, both, either}
-use Rattle.grammar.specs.Judging.{leaves}
+use Rattle.grammar.specs.Judging.{simpleCount}
 use Rattle.grammar.specs.Typed.{typingFrom}
 use Rattle.grammar.specs.Plan.{planRow, planRows, planRowSound, planCheck}
 
@@ -42,5 +42,5 @@ module _ (off : Bool) (items literals bytes names : List ℕ) where
   typing-lent n (simple a r b) = rw (typed-lent off items literals bytes names a r b)
   typing-lent n (negated t) = typing-lent n t
   typing-lent n (bracketed t) = typing-lent n t
-  typing-lent n (both t u) = rw (typing-lent n t, typing-lent (n + leaves t) u)
-  typing-lent n (either t u) = rw (typing-lent n t, typing-lent (n + leaves t) u)
+  typing-lent n (both t u) = rw (typing-lent n t, typing-lent (n + simpleCount t) u)
+  typing-lent n (either t u) = rw (typing-lent n t, typing-lent (n + simpleCount t) u)

@@ -14,17 +14,17 @@ use Rattle.tables.specs.declared.Verdict.{Verdict}
 use Rattle.tables.specs.declared.Verdict.the-variants.{True, False, Refused}
 use Rattle.grammar.specs.declared.PlanRow.{PlanRow}
 use Rattle.grammar.specs.Grammar.{Tree, simple, negated, bracketed, both, either}
-use Rattle.grammar.specs.Judging.{Outcomes, leaves, when, at, judged, Visit, visit, visited}
+use Rattle.grammar.specs.Judging.{Outcomes, simpleCount, when, at, judged, Visit, visit, visited}
 use Rattle.grammar.specs.Plan.{onFalse, onTrue, rowsOf, flat, planned, planRow, planRows, follow, run, reached, runVisits}
 use Rattle.grammar.proofs.Judging.{when-same, when-not, when-length, visited-le}
 
-pub rows-count : (n y f : ℕ) (t : Tree) → length (rowsOf n y f t) ≡ leaves t
-unfolding leaves rowsOf
+pub rows-count : (n y f : ℕ) (t : Tree) → length (rowsOf n y f t) ≡ simpleCount t
+unfolding simpleCount rowsOf
 rows-count n y f (simple a r b) = refl
 rows-count n y f (negated t) = rows-count n f y t
 rows-count n y f (bracketed t) = rows-count n y f t
-rows-count n y f (both t u) = rw length-append (omega (arith, rows-count n (n + leaves t) f t, rows-count (n + leaves t) y f u))
-rows-count n y f (either t u) = rw length-append (omega (arith, rows-count n y (n + leaves t) t, rows-count (n + leaves t) y f u))
+rows-count n y f (both t u) = rw length-append (omega (arith, rows-count n (n + simpleCount t) f t, rows-count (n + simpleCount t) y f u))
+rows-count n y f (either t u) = rw length-append (omega (arith, rows-count n y (n + simpleCount t) t, rows-count (n + simpleCount t) y f u))
 
 -- no row: what a lookup past the end gives
 abbrev pub blank : PlanRow
@@ -51,12 +51,12 @@ stands-right row n m a b h e =
 pub stands-one : (row : ℕ → PlanRow) (n : ℕ) (r : PlanRow) → Stands row n (r ∷ []) → row n ≡ r
 stands-one row n r h = rw add-zero at (h .stands 0 (omega arith))
 
-pub stands-parts : (row : ℕ → PlanRow) (n y f z g : ℕ) (t u : Tree) → Stands row n (rowsOf n y f t ++ rowsOf (n + leaves t) z g u) →
-    Stands row n (rowsOf n y f t) × Stands row (n + leaves t) (rowsOf (n + leaves t) z g u)
+pub stands-parts : (row : ℕ → PlanRow) (n y f z g : ℕ) (t u : Tree) → Stands row n (rowsOf n y f t ++ rowsOf (n + simpleCount t) z g u) →
+    Stands row n (rowsOf n y f t) × Stands row (n + simpleCount t) (rowsOf (n + simpleCount t) z g u)
 stands-parts row n y f z g t u h =
     let a : List PlanRow = rowsOf n y f t in
-    let b : List PlanRow = rowsOf (n + leaves t) z g u in
-    (stands-left row n a b h, stands-right row n (leaves t) a b h (rows-count n y f t))
+    let b : List PlanRow = rowsOf (n + simpleCount t) z g u in
+    (stands-left row n a b h, stands-right row n (simpleCount t) a b h (rows-count n y f t))
 
 -- one row
 pub follow-row : (out : Outcomes) (row : ℕ → PlanRow) (m k : ℕ) → k < onFalse →
@@ -96,25 +96,25 @@ module _ (F : ℕ → ℕ → Verdict) where
 
 -- The rows of a tree, wherever they stand, are run as the tree is judged: with as many rows as the judging visits, and m more, the run
 -- comes to the exit of the verdict with m left, or stops with the same refusal.
-pub segment : (out : Outcomes) (row : ℕ → PlanRow) (t : Tree) (n y f m : ℕ) → n + leaves t ≤ onFalse → Stands row n (rowsOf n y f t) →
+pub segment : (out : Outcomes) (row : ℕ → PlanRow) (t : Tree) (n y f m : ℕ) → n + simpleCount t ≤ onFalse → Stands row n (rowsOf n y f t) →
     follow out row (length (visited out n t) + m) n ≡ when (judged out n t) (follow out row m y) (follow out row m f) Refused
-unfolding leaves rowsOf judged visited
+unfolding simpleCount rowsOf judged visited
 segment out row (simple a r b) n y f m l h =
     rw one-add (follow-row out row m n (omega arith) ∙ rw (stands-one row n (record { subject = a; relation = r; object = b; holds = y; fails = f }) h))
 segment out row (negated t) n y f m l h = segment out row t n f y m l h ∙ when-not (judged out n t) _ _ Refused
 segment out row (bracketed t) n y f m l h = segment out row t n y f m l h
 segment out row (both t u) n y f m l h =
-    let p = stands-parts row n (n + leaves t) f y f t u h in
+    let p = stands-parts row n (n + simpleCount t) f y f t u h in
     rw (length-append, when-length, add-assoc)
-    (segment out row t n (n + leaves t) f (when (judged out n t) (length (visited out (n + leaves t) u)) 0 (λ _. 0) + m) (omega arith) (p .0)
-    ∙ after-both (follow out row) (judged out n t) (judged out (n + leaves t) u) (length (visited out (n + leaves t) u)) m (n + leaves t) y f
-    (segment out row u (n + leaves t) y f m (omega arith) (p .1)))
+    (segment out row t n (n + simpleCount t) f (when (judged out n t) (length (visited out (n + simpleCount t) u)) 0 (λ _. 0) + m) (omega arith) (p .0)
+    ∙ after-both (follow out row) (judged out n t) (judged out (n + simpleCount t) u) (length (visited out (n + simpleCount t) u)) m (n + simpleCount t) y f
+    (segment out row u (n + simpleCount t) y f m (omega arith) (p .1)))
 segment out row (either t u) n y f m l h =
-    let p = stands-parts row n y (n + leaves t) y f t u h in
+    let p = stands-parts row n y (n + simpleCount t) y f t u h in
     rw (length-append, when-length, add-assoc)
-    (segment out row t n y (n + leaves t) (when (judged out n t) 0 (length (visited out (n + leaves t) u)) (λ _. 0) + m) (omega arith) (p .0)
-    ∙ after-either (follow out row) (judged out n t) (judged out (n + leaves t) u) (length (visited out (n + leaves t) u)) m (n + leaves t) y f
-    (segment out row u (n + leaves t) y f m (omega arith) (p .1)))
+    (segment out row t n y (n + simpleCount t) (when (judged out n t) 0 (length (visited out (n + simpleCount t) u)) (λ _. 0) + m) (omega arith) (p .0)
+    ∙ after-either (follow out row) (judged out n t) (judged out (n + simpleCount t) u) (length (visited out (n + simpleCount t) u)) m (n + simpleCount t) y f
+    (segment out row u (n + simpleCount t) y f m (omega arith) (p .1)))
 
 -- The rows reached, in the same way: those of the tree that judging visits, and then those reached from the exit.
 pub reached-row : (out : Outcomes) (row : ℕ → PlanRow) (m k : ℕ) → k < onFalse →
@@ -174,28 +174,28 @@ module _ (G : ℕ → ℕ → List Visit) where
   visits-either False w xs j m k y f h = h
   visits-either (Refused refusal) w xs j m k y f h = refl
 
-pub segment-visits : (out : Outcomes) (row : ℕ → PlanRow) (t : Tree) (n y f m : ℕ) → n + leaves t ≤ onFalse → Stands row n (rowsOf n y f t) →
+pub segment-visits : (out : Outcomes) (row : ℕ → PlanRow) (t : Tree) (n y f m : ℕ) → n + simpleCount t ≤ onFalse → Stands row n (rowsOf n y f t) →
     reached out row (length (visited out n t) + m) n ≡ visited out n t ++ when (judged out n t) (reached out row m y) (reached out row m f) (λ _. [])
-unfolding leaves rowsOf judged visited
+unfolding simpleCount rowsOf judged visited
 segment-visits out row (simple a r b) n y f m l h =
     rw one-add (reached-row out row m n (omega arith) ∙ rw (stands-one row n (record { subject = a; relation = r; object = b; holds = y; fails = f }) h))
 segment-visits out row (negated t) n y f m l h =
     segment-visits out row t n f y m l h ∙ ap (λ w. visited out n t ++ w) (when-not (judged out n t) _ _ (λ _. []))
 segment-visits out row (bracketed t) n y f m l h = segment-visits out row t n y f m l h
 segment-visits out row (both t u) n y f m l h =
-    let p = stands-parts row n (n + leaves t) f y f t u h in
+    let p = stands-parts row n (n + simpleCount t) f y f t u h in
     rw (length-append, when-length, add-assoc, append-assoc)
-    (segment-visits out row t n (n + leaves t) f (when (judged out n t) (length (visited out (n + leaves t) u)) 0 (λ _. 0) + m) (omega arith) (p .0)
+    (segment-visits out row t n (n + simpleCount t) f (when (judged out n t) (length (visited out (n + simpleCount t) u)) 0 (λ _. 0) + m) (omega arith) (p .0)
     ∙ ap (λ w. visited out n t ++ w)
-    (visits-both (reached out row) (judged out n t) (judged out (n + leaves t) u) (visited out (n + leaves t) u) (length (visited out (n + leaves t) u)) m (n + leaves t) y f
-    (segment-visits out row u (n + leaves t) y f m (omega arith) (p .1))))
+    (visits-both (reached out row) (judged out n t) (judged out (n + simpleCount t) u) (visited out (n + simpleCount t) u) (length (visited out (n + simpleCount t) u)) m (n + simpleCount t) y f
+    (segment-visits out row u (n + simpleCount t) y f m (omega arith) (p .1))))
 segment-visits out row (either t u) n y f m l h =
-    let p = stands-parts row n y (n + leaves t) y f t u h in
+    let p = stands-parts row n y (n + simpleCount t) y f t u h in
     rw (length-append, when-length, add-assoc, append-assoc)
-    (segment-visits out row t n y (n + leaves t) (when (judged out n t) 0 (length (visited out (n + leaves t) u)) (λ _. 0) + m) (omega arith) (p .0)
+    (segment-visits out row t n y (n + simpleCount t) (when (judged out n t) 0 (length (visited out (n + simpleCount t) u)) (λ _. 0) + m) (omega arith) (p .0)
     ∙ ap (λ w. visited out n t ++ w)
-    (visits-either (reached out row) (judged out n t) (judged out (n + leaves t) u) (visited out (n + leaves t) u) (length (visited out (n + leaves t) u)) m (n + leaves t) y f
-    (segment-visits out row u (n + leaves t) y f m (omega arith) (p .1))))
+    (visits-either (reached out row) (judged out n t) (judged out (n + simpleCount t) u) (visited out (n + simpleCount t) u) (length (visited out (n + simpleCount t) u)) m (n + simpleCount t) y f
+    (segment-visits out row u (n + simpleCount t) y f m (omega arith) (p .1))))
 
 when-none : (v : Verdict) → _≡_ {A = List Visit} (when v [] [] (λ _. [])) []
 unfolding when
@@ -203,7 +203,7 @@ when-none True = refl
 when-none False = refl
 when-none (Refused refusal) = refl
 
-pub plan-visits : (out : Outcomes) (row : ℕ → PlanRow) (t : Tree) (m : ℕ) → leaves t ≤ onFalse → leaves t ≤ m → Stands row 0 (rowsOf 0 onTrue onFalse t) →
+pub plan-visits : (out : Outcomes) (row : ℕ → PlanRow) (t : Tree) (m : ℕ) → simpleCount t ≤ onFalse → simpleCount t ≤ m → Stands row 0 (rowsOf 0 onTrue onFalse t) →
     reached out row m 0 ≡ visited out 0 t
 plan-visits out row t m l g h =
     let e : m ≡ length (visited out 0 t) + (m - length (visited out 0 t)) = omega (arith, visited-le out 0 t) in
@@ -212,7 +212,7 @@ plan-visits out row t m l g h =
     ∙ rw (reached-true, reached-false, when-none, append-nil)
 
 -- any plan that holds the rows of a tree from row 0 on, run through as many rows as the tree has or more
-pub plan-runs : (out : Outcomes) (row : ℕ → PlanRow) (t : Tree) (m : ℕ) → leaves t ≤ onFalse → leaves t ≤ m → Stands row 0 (rowsOf 0 onTrue onFalse t) →
+pub plan-runs : (out : Outcomes) (row : ℕ → PlanRow) (t : Tree) (m : ℕ) → simpleCount t ≤ onFalse → simpleCount t ≤ m → Stands row 0 (rowsOf 0 onTrue onFalse t) →
     follow out row m 0 ≡ judged out 0 t
 plan-runs out row t m l g h =
     let e : m ≡ length (visited out 0 t) + (m - length (visited out 0 t)) = omega (arith, visited-le out 0 t) in
@@ -246,11 +246,11 @@ row-of-flat (r ∷ rows) (suc k) l = next ∙ row-of-flat rows k (omega arith)
           fails = past (suc k * 5 + 4) (k * 5 + 4) (omega arith) i;
         }
 
-pub planned-length : (t : Tree) → length (planned t) ≡ leaves t * 5
+pub planned-length : (t : Tree) → length (planned t) ≡ simpleCount t * 5
 unfolding planned
 planned-length t = flat-length (rowsOf 0 onTrue onFalse t) ∙ ap (λ w. w * 5) (rows-count 0 onTrue onFalse t)
 
-pub planned-rows : (t : Tree) → planRows (planned t) ≡ leaves t
+pub planned-rows : (t : Tree) → planRows (planned t) ≡ simpleCount t
 planned-rows t = omega (arith, planned-length t)
 
 pub planned-stands : (t : Tree) → Stands (planRow (planned t)) 0 (rowsOf 0 onTrue onFalse t)
@@ -258,12 +258,12 @@ unfolding planned
 planned-stands t = record { stands = λ k l. rw zero-add (row-of-flat (rowsOf 0 onTrue onFalse t) k l) }
 
 -- whichever way a row was reached, the run goes on as the judging does
-pub run-is-judging : (out : Outcomes) (t : Tree) → leaves t < 65534 → run out (planned t) ≡ judged out 0 t
+pub run-is-judging : (out : Outcomes) (t : Tree) → simpleCount t < 65534 → run out (planned t) ≡ judged out 0 t
 unfolding run
 run-is-judging out t l = plan-runs out (planRow (planned t)) t (planRows (planned t)) (omega arith) (omega (arith, planned-length t)) (planned-stands t)
 
 -- Document 02, i): the rows that the run of a tree's plan reaches are the simple conditions that judging visits, number for number.
-pub run-visits : (out : Outcomes) (t : Tree) → leaves t < 65534 → runVisits out (planned t) ≡ visited out 0 t
+pub run-visits : (out : Outcomes) (t : Tree) → simpleCount t < 65534 → runVisits out (planned t) ≡ visited out 0 t
 unfolding runVisits
 run-visits out t l = plan-visits out (planRow (planned t)) t (planRows (planned t)) (omega arith) (omega (arith, planned-length t)) (planned-stands t)
 

@@ -23,7 +23,7 @@ use Rattle.tables.proofs.Lines.{every-sound}
 use Rattle.grammar.specs.Grammar.{operand, switch, test, name, Is, Carry, nothing, carried, Tree, simple}
 use Rattle.grammar.specs.Grammar.{Stated, plain, with-not, Relation, ordered, bounded, Simple, full, tested, switched, named, short, bare}
 use Rattle.grammar.specs.Grammar.{Condition, Chain, Term, Body, Derives}
-use Rattle.grammar.specs.Judging.{leaves}
+use Rattle.grammar.specs.Judging.{simpleCount}
 use Rattle.grammar.specs.Typed.{typingFrom}
 use Rattle.grammar.specs.Plan.{onFalse, onTrue, rowsOf, planned, planRow, planCheck}
 use Rattle.grammar.specs.Typed.{Shaped, typedRows}
@@ -175,26 +175,26 @@ row-of-take n rows k l =
     )
 
 -- a buffer that begins with the plan of a tree
-module _ (t : Tree) (rows : List ℕ) (e : take (leaves t * 5) rows ≡ planned t) where
+module _ (t : Tree) (rows : List ℕ) (e : take (simpleCount t * 5) rows ≡ planned t) where
   pub buffer-stands : Stands (planRow rows) 0 (rowsOf 0 onTrue onFalse t)
   buffer-stands =
       record {
         stands = λ k l.
-            sym (row-of-take (leaves t) rows (0 + k) (omega (arith, rows-count 0 onTrue onFalse t)))
+            sym (row-of-take (simpleCount t) rows (0 + k) (omega (arith, rows-count 0 onTrue onFalse t)))
             ∙ ap (λ w. planRow w (0 + k)) e
             ∙ planned-stands t .stands k l;
       }
 
   pub rows-shaped : (off : Bool) (items literals bytes names : List ℕ) → ShapedTree (under off (lendNames items literals bytes names)) t
-      → Shaped (lend items literals []) rows (leaves t)
+      → Shaped (lend items literals []) rows (simpleCount t)
   rows-shaped off items literals bytes names shapes =
       record {
-        inside = omega (arith, planned-length t, ap length e, length-take (leaves t * 5) rows);
+        inside = omega (arith, planned-length t, ap length e, length-take (simpleCount t * 5) rows);
         shape = λ k l.
             shape-operands off items literals bytes names (testOf (planRow rows k .relation)) (planRow rows k .subject) (planRow rows k .object)
             (each-row (λ a r b. shapeSound (under off (lendNames items literals bytes names)) (testOf r) a b ≡ true) (planRow rows) 0 onTrue onFalse t buffer-stands shapes k
             (omega arith) (omega arith));
       }
 
-  pub rows-typed : (lent : Lent) → typedRows lent rows (leaves t) ≡ typingFrom lent 0 t
+  pub rows-typed : (lent : Lent) → typedRows lent rows (simpleCount t) ≡ typingFrom lent 0 t
   rows-typed lent = sym (typing-of-rows lent (planRow rows) 0 onTrue onFalse t buffer-stands)

@@ -10,7 +10,7 @@ use lib.Dec.{eqb, ltb}
 use Rattle.grammar.specs.Grammar.{Carry, nothing, carried, Tree, simple, negated, bracketed, both, either}
 use Rattle.grammar.specs.Grammar.{Simple, full, tested, switched, named, short, bare, Condition, Chain, Term, Body, Derives}
 use Rattle.grammar.specs.Expanded.{stated, full-form, expanded}
-use Rattle.grammar.specs.Judging.{leaves}
+use Rattle.grammar.specs.Judging.{simpleCount}
 use Rattle.grammar.proofs.Expansion.{relation-worded, full-relation, full-test, full-switch}
 
 pub stated-width : (n : ℕ) → (1 ≤ length (stated n)) × (length (stated n) ≤ 2)
@@ -42,10 +42,10 @@ record Sized (c n l e d : ℕ) : Type 0 where
   carry : d + 2 * (e + 1) ≤ 5 * (n + 1) + c
 
 abbrev Sizes : Carry → List ℕ → Tree → Carry → Type 0
-Sizes c ts t d = Sized (spared c) (length ts) (leaves t) (length (expanded t)) (spared d)
+Sizes c ts t d = Sized (spared c) (length ts) (simpleCount t) (length (expanded t)) (spared d)
 
 sizes-simple : {c d : Carry} {ts : List ℕ} {t : Tree} → Simple c ts t d → Sizes c ts t d
-unfolding leaves expanded
+unfolding simpleCount expanded
 sizes-simple (full {a = a} {b = b} h s g) = rw (full-relation a b s, relation-worded s .says) (simp length-append (omega arith))
 sizes-simple (tested {a = a} h s) = rw (full-test a 0 s) (omega arith)
 sizes-simple (switched {s = s} h) = rw (full-switch s) (omega arith)
@@ -58,7 +58,7 @@ joined : {c n l e d m k f g : ℕ} → Sized c n l e d → Sized d m k f g → S
 joined p q = omega arith
 
 sizes : {c d : Carry} {ts : List ℕ} {t : Tree} → Condition c ts t d → Sizes c ts t d
-unfolding leaves expanded
+unfolding simpleCount expanded
 sizes derivation =
     elim derivation as
     (λ c ts t d h. Sizes c ts t d)
@@ -75,11 +75,11 @@ sizes derivation =
       | Body.brackets i (h → p) j ↦ simp length-append (omega arith)
     ]
 
-pub rows-bound : {ts : List ℕ} {t : Tree} → Derives ts t → 2 * leaves t ≤ length ts + 1
+pub rows-bound : {ts : List ℕ} {t : Tree} → Derives ts t → 2 * simpleCount t ≤ length ts + 1
 rows-bound h = sizes (h .derivation) .rows
 
 -- "One row of five numbers for each simple condition": so a condition of 256 tokens fits in 128 rows.
-pub few-rows : {ts : List ℕ} {t : Tree} → Derives ts t → length ts ≤ 256 → leaves t ≤ 128
+pub few-rows : {ts : List ℕ} {t : Tree} → Derives ts t → length ts ≤ 256 → simpleCount t ≤ 128
 few-rows h l = omega (arith, rows-bound h)
 
 -- 634 is reached by a NOT > b and 126 times AND c.

@@ -28,11 +28,11 @@ abbrev kinds : ℕ → List Class
 kinds w = operand ∷ operand ∷ switch ∷ switch ∷ getD words w other ∷ name ∷ []
 
 -- P holds of each of n numbers from `low` on, so of any number among them
-abbrev Each : (ℕ → Type 0) → ℕ → ℕ → Type 0
-Each P low zero = Unit {0}
-Each P low (suc n) = P low × Each P (suc low) n
+abbrev EachFrom : (ℕ → Type 0) → ℕ → ℕ → Type 0
+EachFrom P low zero = Unit {0}
+EachFrom P low (suc n) = P low × EachFrom P (suc low) n
 
-pub among : (P : ℕ → Type 0) (low n x : ℕ) → low ≤ x → x < low + n → Each P low n → P x
+pub among : (P : ℕ → Type 0) (low n x : ℕ) → low ≤ x → x < low + n → EachFrom P low n → P x
 among P low zero x h g ps = absurd (omega arith)
 among P low (suc n) x h g ps =
     elim (ℕ-discrete x low) [

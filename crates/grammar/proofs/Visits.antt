@@ -8,7 +8,7 @@ use Rattle.tables.specs.declared.Verdict.{Verdict}
 use Rattle.tables.specs.declared.Verdict.the-variants.{True, False, Refused}
 use Rattle.tables.specs.declared.Refusal.{Refusal}
 use Rattle.grammar.specs.Grammar.{Tree, simple, negated, bracketed, both, either}
-use Rattle.grammar.specs.Judging.{Outcomes, leaves, when, at, judged, Visit, visit, visited}
+use Rattle.grammar.specs.Judging.{Outcomes, simpleCount, when, at, judged, Visit, visit, visited}
 
 -- numbers from `low` on, each greater than the one before, all below `high`
 abbrev pub Rising : ℕ → ℕ → List Visit → Type 0
@@ -29,19 +29,19 @@ rising-when True low high a b l h g = h
 rising-when False low high a b l h g = g
 rising-when (Refused refusal) low high a b l h g = l
 
-pub visited-rising : (out : Outcomes) (n : ℕ) (t : Tree) → Rising n (n + leaves t) (visited out n t)
-unfolding leaves visited
+pub visited-rising : (out : Outcomes) (n : ℕ) (t : Tree) → Rising n (n + simpleCount t) (visited out n t)
+unfolding simpleCount visited
 visited-rising out n (simple a r b) = omega arith
 visited-rising out n (negated t) = visited-rising out n t
 visited-rising out n (bracketed t) = visited-rising out n t
 visited-rising out n (both t u) =
-    rw (← add-assoc n (leaves t) (leaves u))
-    (rising-append n (n + leaves t) (n + leaves t + leaves u) (visited out n t) _ (visited-rising out n t)
-    (rising-when (judged out n t) (n + leaves t) (n + leaves t + leaves u) (visited out (n + leaves t) u) [] (omega arith) (visited-rising out (n + leaves t) u) (omega arith)))
+    rw (← add-assoc n (simpleCount t) (simpleCount u))
+    (rising-append n (n + simpleCount t) (n + simpleCount t + simpleCount u) (visited out n t) _ (visited-rising out n t)
+    (rising-when (judged out n t) (n + simpleCount t) (n + simpleCount t + simpleCount u) (visited out (n + simpleCount t) u) [] (omega arith) (visited-rising out (n + simpleCount t) u) (omega arith)))
 visited-rising out n (either t u) =
-    rw (← add-assoc n (leaves t) (leaves u))
-    (rising-append n (n + leaves t) (n + leaves t + leaves u) (visited out n t) _ (visited-rising out n t)
-    (rising-when (judged out n t) (n + leaves t) (n + leaves t + leaves u) [] (visited out (n + leaves t) u) (omega arith) (omega arith) (visited-rising out (n + leaves t) u)))
+    rw (← add-assoc n (simpleCount t) (simpleCount u))
+    (rising-append n (n + simpleCount t) (n + simpleCount t + simpleCount u) (visited out n t) _ (visited-rising out n t)
+    (rising-when (judged out n t) (n + simpleCount t) (n + simpleCount t + simpleCount u) [] (visited out (n + simpleCount t) u) (omega arith) (omega arith) (visited-rising out (n + simpleCount t) u)))
 
 -- the last of the visits is the one that stops
 pub record Stops (out : Outcomes) (visits : List Visit) (refusal : Refusal) : Type 0 where
@@ -86,5 +86,5 @@ module _ (out : Outcomes) (refusal : Refusal) where
   stop-last n (simple a r b) e = record { before = []; last = visit n a r b; split = refl; stops = e }
   stop-last n (negated t) e = stop-last n t (stops-not (judged out n t) e)
   stop-last n (bracketed t) e = stop-last n t e
-  stop-last n (both t u) e = stops-both (judged out n t) (judged out (n + leaves t) u) _ _ (stop-last n t) (stop-last (n + leaves t) u) e
-  stop-last n (either t u) e = stops-either (judged out n t) (judged out (n + leaves t) u) _ _ (stop-last n t) (stop-last (n + leaves t) u) e
+  stop-last n (both t u) e = stops-both (judged out n t) (judged out (n + simpleCount t) u) _ _ (stop-last n t) (stop-last (n + simpleCount t) u) e
+  stop-last n (either t u) e = stops-either (judged out n t) (judged out (n + simpleCount t) u) _ _ (stop-last n t) (stop-last (n + simpleCount t) u) e

@@ -9,7 +9,7 @@ use Rattle.tables.specs.declared.Verdict.{Verdict}
 use Rattle.tables.specs.declared.Verdict.the-variants.{True, False, Refused}
 use Rattle.grammar.specs.declared.PlanRow.{PlanRow}
 use Rattle.grammar.specs.Grammar.{Tree, simple, negated, bracketed, both, either}
-use Rattle.grammar.specs.Judging.{Outcomes, leaves, when, at, judged, Visit, visit, visited}
+use Rattle.grammar.specs.Judging.{Outcomes, simpleCount, when, at, judged, Visit, visit, visited}
 use Rattle.grammar.specs.Plan.{onTrue, onFalse, planRow, planRows, follow, run, reached, runVisits}
 
 module _ (out other : Outcomes) where
@@ -33,15 +33,15 @@ module _ (out other : Outcomes) where
   judged-alike n (bracketed t) h = judged-alike n t h
   judged-alike n (both t u) h =
       let p = judged-alike n t (λ v m. h v (Memᴰ·append-left _ m)) in
-      let q = goes-on (judged out n t) (judged out (n + leaves t) u) (judged other (n + leaves t) u) False False
-      (visited out (n + leaves t) u) (visited other (n + leaves t) u) [] []
-      (judged-alike (n + leaves t) u) (λ _. (refl, refl)) (λ v m. h v (Memᴰ·append-right (visited out n t) m)) in
+      let q = goes-on (judged out n t) (judged out (n + simpleCount t) u) (judged other (n + simpleCount t) u) False False
+      (visited out (n + simpleCount t) u) (visited other (n + simpleCount t) u) [] []
+      (judged-alike (n + simpleCount t) u) (λ _. (refl, refl)) (λ v m. h v (Memᴰ·append-right (visited out n t) m)) in
       (rw (← p .0) (q .0), rw (← p .0, ← p .1, q .1))
   judged-alike n (either t u) h =
       let p = judged-alike n t (λ v m. h v (Memᴰ·append-left _ m)) in
-      let q = goes-on (judged out n t) True True (judged out (n + leaves t) u) (judged other (n + leaves t) u)
-      [] [] (visited out (n + leaves t) u) (visited other (n + leaves t) u)
-      (λ _. (refl, refl)) (judged-alike (n + leaves t) u) (λ v m. h v (Memᴰ·append-right (visited out n t) m)) in
+      let q = goes-on (judged out n t) True True (judged out (n + simpleCount t) u) (judged other (n + simpleCount t) u)
+      [] [] (visited out (n + simpleCount t) u) (visited other (n + simpleCount t) u)
+      (λ _. (refl, refl)) (judged-alike (n + simpleCount t) u) (λ v m. h v (Memᴰ·append-right (visited out n t) m)) in
       (rw (← p .0) (q .0), rw (← p .0, ← p .1, q .1))
 
   pub follow-alike : (row : ℕ → PlanRow) (m k : ℕ) → Alike (reached out row m k) →

@@ -16,12 +16,12 @@ abbrev pub Outcomes : Type 0
 Outcomes = ℕ → ℕ → ℕ → Outcome
 
 -- how many simple conditions a tree has
-unfoldable pub leaves : Tree → ℕ
-leaves (simple a n b) = 1
-leaves (negated t) = leaves t
-leaves (bracketed t) = leaves t
-leaves (both t u) = leaves t + leaves u
-leaves (either t u) = leaves t + leaves u
+unfoldable pub simpleCount : Tree → ℕ
+simpleCount (simple a n b) = 1
+simpleCount (negated t) = simpleCount t
+simpleCount (bracketed t) = simpleCount t
+simpleCount (both t u) = simpleCount t + simpleCount u
+simpleCount (either t u) = simpleCount t + simpleCount u
 
 -- the first answer where the verdict is true, the second where it is false, the third where judging has stopped
 unfoldable pub when : {A : Type 0} → Verdict → A → A → (Refusal → A) → A
@@ -48,8 +48,8 @@ unfoldable pub judged : Outcomes → ℕ → Tree → Verdict
 judged out n (simple a r b) = at n (out a r b)
 judged out n (negated t) = when (judged out n t) False True Refused
 judged out n (bracketed t) = judged out n t
-judged out n (both t u) = when (judged out n t) (judged out (n + leaves t) u) False Refused
-judged out n (either t u) = when (judged out n t) True (judged out (n + leaves t) u) Refused
+judged out n (both t u) = when (judged out n t) (judged out (n + simpleCount t) u) False Refused
+judged out n (either t u) = when (judged out n t) True (judged out (n + simpleCount t) u) Refused
 
 -- A simple condition that is judged: its number, subject, relation and object.
 pub record Visit : Type 0 where
@@ -67,8 +67,8 @@ unfoldable pub visited : Outcomes → ℕ → Tree → List Visit
 visited out n (simple a r b) = visit n a r b ∷ []
 visited out n (negated t) = visited out n t
 visited out n (bracketed t) = visited out n t
-visited out n (both t u) = visited out n t ++ when (judged out n t) (visited out (n + leaves t) u) [] (λ _. [])
-visited out n (either t u) = visited out n t ++ when (judged out n t) [] (visited out (n + leaves t) u) (λ _. [])
+visited out n (both t u) = visited out n t ++ when (judged out n t) (visited out (n + simpleCount t) u) [] (λ _. [])
+visited out n (either t u) = visited out n t ++ when (judged out n t) [] (visited out (n + simpleCount t) u) (λ _. [])
 
 -- what a walk comes to: its verdict, and the simple conditions judged
 pub record Walk : Type 0 where
@@ -93,8 +93,8 @@ condition-of t (u ∷ us) = either t (condition-of u us)
 
 unfoldable pub judged-terms : Outcomes → ℕ → List Tree → Verdict
 judged-terms out n [] = True
-judged-terms out n (t ∷ ts) = when (judged out n t) (judged-terms out (n + leaves t) ts) False Refused
+judged-terms out n (t ∷ ts) = when (judged out n t) (judged-terms out (n + simpleCount t) ts) False Refused
 
 unfoldable pub judged-chains : Outcomes → ℕ → List Tree → Verdict
 judged-chains out n [] = False
-judged-chains out n (t ∷ ts) = when (judged out n t) True (judged-chains out (n + leaves t) ts) Refused
+judged-chains out n (t ∷ ts) = when (judged out n t) True (judged-chains out (n + simpleCount t) ts) Refused

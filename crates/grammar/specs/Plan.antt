@@ -15,7 +15,7 @@ use Rattle.typing.specs.Shape.{shapeSound}
 use Rattle.typing.specs.Typing.{typed}
 use Rattle.grammar.specs.declared.PlanRow.{PlanRow}
 use Rattle.grammar.specs.Grammar.{Tree, simple, negated, bracketed, both, either}
-use Rattle.grammar.specs.Judging.{Outcomes, leaves, when, at, Visit, visit, Walk, walk}
+use Rattle.grammar.specs.Judging.{Outcomes, simpleCount, when, at, Visit, visit, Walk, walk}
 
 -- "Verdicts stand as 65,534 for false and 65,535 for true."
 abbrev pub onFalse : ℕ
@@ -31,8 +31,8 @@ unfoldable pub rowsOf : ℕ → ℕ → ℕ → Tree → List PlanRow
 rowsOf n y f (simple a r b) = record { subject = a; relation = r; object = b; holds = y; fails = f } ∷ []
 rowsOf n y f (negated t) = rowsOf n f y t
 rowsOf n y f (bracketed t) = rowsOf n y f t
-rowsOf n y f (both t u) = rowsOf n (n + leaves t) f t ++ rowsOf (n + leaves t) y f u
-rowsOf n y f (either t u) = rowsOf n y (n + leaves t) t ++ rowsOf (n + leaves t) y f u
+rowsOf n y f (both t u) = rowsOf n (n + simpleCount t) f t ++ rowsOf (n + simpleCount t) y f u
+rowsOf n y f (either t u) = rowsOf n y (n + simpleCount t) t ++ rowsOf (n + simpleCount t) y f u
 
 -- the numbers of rows
 unfoldable pub flat : List PlanRow → List ℕ

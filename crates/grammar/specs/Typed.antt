@@ -12,7 +12,7 @@ use Rattle.typing.specs.Tests.{testOf}
 use Rattle.typing.specs.Shape.{operandsSound}
 use Rattle.typing.specs.Typing.{typed}
 use Rattle.grammar.specs.Grammar.{Tree, simple, negated, bracketed, both, either}
-use Rattle.grammar.specs.Judging.{leaves}
+use Rattle.grammar.specs.Judging.{simpleCount}
 use Rattle.grammar.specs.Plan.{planRow}
 
 -- the simple conditions of the tree are numbered from n on
@@ -20,8 +20,8 @@ unfoldable pub typingFrom : Lent → ℕ → Tree → Check
 typingFrom lent n (simple a r b) = unless (typed lent a r b) (Typing n)
 typingFrom lent n (negated t) = typingFrom lent n t
 typingFrom lent n (bracketed t) = typingFrom lent n t
-typingFrom lent n (both t u) = firstOf (typingFrom lent n t ∷ typingFrom lent (n + leaves t) u ∷ [])
-typingFrom lent n (either t u) = firstOf (typingFrom lent n t ∷ typingFrom lent (n + leaves t) u ∷ [])
+typingFrom lent n (both t u) = firstOf (typingFrom lent n t ∷ typingFrom lent (n + simpleCount t) u ∷ [])
+typingFrom lent n (either t u) = firstOf (typingFrom lent n t ∷ typingFrom lent (n + simpleCount t) u ∷ [])
 
 -- the operands of each of so many rows in the buffer are within their tables
 pub record Shaped (lent : Lent) (rows : List ℕ) (count : ℕ) : Type 0 where

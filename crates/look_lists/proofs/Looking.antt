@@ -30,7 +30,7 @@ use Rattle.tables.specs.Rows.{rowCount}
 use Rattle.typing.specs.Tests.{testOf}
 use Rattle.grammar.specs.declared.PlanRow.{PlanRow}
 use Rattle.grammar.specs.Grammar.{Tree, simple, negated, bracketed, both, either}
-use Rattle.grammar.specs.Judging.{leaves, Walk}
+use Rattle.grammar.specs.Judging.{simpleCount, Walk}
 use Rattle.grammar.specs.Parser.{read}
 use Rattle.grammar.specs.Plan.{onTrue, onFalse, planRow, planRows, planCheck, rowsOf, planned, runVisits, running}
 use Rattle.grammar.proofs.Segment.{Stands, stands-one, stands-parts, planned-stands, planned-rows}
@@ -86,29 +86,29 @@ module _ (lent : Lent) (row : ℕ → PlanRow) where
   abbrev asked : ℕ → List ℕ
   asked k = rowsAsked lent (testOf (row k .relation)) (row k .subject) (row k .object)
 
-  segment-named : (t : Tree) (n y f : ℕ) → Stands row n (rowsOf n y f t) → listed asked (n + leaves t) ≡ listed asked n ++ namedRows lent t
-  unfolding leaves rowsOf namedRows
+  segment-named : (t : Tree) (n y f : ℕ) → Stands row n (rowsOf n y f t) → listed asked (n + simpleCount t) ≡ listed asked n ++ namedRows lent t
+  unfolding simpleCount rowsOf namedRows
   segment-named (simple a r b) n y f h =
       listed-more asked n ∙ rw (stands-one row n (record { subject = a; relation = r; object = b; holds = y; fails = f }) h)
   segment-named (negated t) n y f h = segment-named t n f y h
   segment-named (bracketed t) n y f h = segment-named t n y f h
   segment-named (both t u) n y f h =
-      let p = stands-parts row n (n + leaves t) f y f t u h in
-      ap (listed asked) (sym (add-assoc n (leaves t) (leaves u)))
-      ∙ segment-named u (n + leaves t) y f (p .1)
-      ∙ ap (λ rows. rows ++ namedRows lent u) (segment-named t n (n + leaves t) f (p .0))
+      let p = stands-parts row n (n + simpleCount t) f y f t u h in
+      ap (listed asked) (sym (add-assoc n (simpleCount t) (simpleCount u)))
+      ∙ segment-named u (n + simpleCount t) y f (p .1)
+      ∙ ap (λ rows. rows ++ namedRows lent u) (segment-named t n (n + simpleCount t) f (p .0))
       ∙ append-assoc (listed asked n) (namedRows lent t) (namedRows lent u)
   segment-named (either t u) n y f h =
-      let p = stands-parts row n y (n + leaves t) y f t u h in
-      ap (listed asked) (sym (add-assoc n (leaves t) (leaves u)))
-      ∙ segment-named u (n + leaves t) y f (p .1)
-      ∙ ap (λ rows. rows ++ namedRows lent u) (segment-named t n y (n + leaves t) (p .0))
+      let p = stands-parts row n y (n + simpleCount t) y f t u h in
+      ap (listed asked) (sym (add-assoc n (simpleCount t) (simpleCount u)))
+      ∙ segment-named u (n + simpleCount t) y f (p .1)
+      ∙ ap (λ rows. rows ++ namedRows lent u) (segment-named t n y (n + simpleCount t) (p .0))
       ∙ append-assoc (listed asked n) (namedRows lent t) (namedRows lent u)
 
 pub plan-named : (lent : Lent) (t : Tree) → listed (rowsAt (lentNames (lent .names)) (planned t)) (planRows (planned t)) ≡ namedRows lent t
 plan-named lent t =
     listed-same (rowsAt (lentNames (lent .names)) (planned t)) (rowsAt lent (planned t)) (planRows (planned t)) (λ k l. by-names lent (testOf (planRow (planned t) k .relation)) _ _)
-    ∙ ap (listed (rowsAt lent (planned t))) (planned-rows t ∙ sym (zero-add (leaves t)))
+    ∙ ap (listed (rowsAt lent (planned t))) (planned-rows t ∙ sym (zero-add (simpleCount t)))
     ∙ segment-named lent (planRow (planned t)) t 0 onTrue onFalse (planned-stands t)
     ∙ ap (λ rows. rows ++ namedRows lent t) (listed-none (rowsAt lent (planned t)))
 

@@ -28,7 +28,7 @@ use Rattle.values.specs.Names.{lentLines}
 use Rattle.values.specs.Truth.{outcome}
 use Rattle.grammar.specs.Grammar.{Tree, simple, negated, bracketed, both, either}
 use Rattle.grammar.specs.Parser.{Reading, accepted, read}
-use Rattle.grammar.specs.Judging.{Outcomes, leaves, when, judged, Visit, visit, visited, Walk}
+use Rattle.grammar.specs.Judging.{Outcomes, simpleCount, when, judged, Visit, visit, visited, Walk}
 use Rattle.grammar.specs.Plan.{onTrue, onFalse, planRow, planRows, planCheck, planned, reached, runVisits, running}
 use Rattle.grammar.proofs.Sure.{some-rows}
 use Rattle.grammar.proofs.Segment.{run-visits}
@@ -220,18 +220,18 @@ module _ (lent : Lent) (out : Outcomes) where
   visited-named n (negated t) row m = visited-named n t row m
   visited-named n (bracketed t) row m = visited-named n t row m
   visited-named n (both t u) row m =
-      ⊎-elim (λ h. Memᴰ·append-left _ (visited-named n t row h)) (λ h. Memᴰ·append-right (namedRows lent t) (visited-named (n + leaves t) u row (second (judged out n t) h)))
+      ⊎-elim (λ h. Memᴰ·append-left _ (visited-named n t row h)) (λ h. Memᴰ·append-right (namedRows lent t) (visited-named (n + simpleCount t) u row (second (judged out n t) h)))
       (List·Memᴰ·append-cases (footprint lent (visited out n t)) (rw footprint-append at m))
     where
-      second : (v : Verdict) → List·Memᴰ row (footprint lent (when v (visited out (n + leaves t) u) [] (λ _. []))) → List·Memᴰ row (footprint lent (visited out (n + leaves t) u))
+      second : (v : Verdict) → List·Memᴰ row (footprint lent (when v (visited out (n + simpleCount t) u) [] (λ _. []))) → List·Memᴰ row (footprint lent (visited out (n + simpleCount t) u))
       second True h = h
       second False h = absurd (not-in-none lent h)
       second (Stops refusal) h = absurd (not-in-none lent h)
   visited-named n (either t u) row m =
-      ⊎-elim (λ h. Memᴰ·append-left _ (visited-named n t row h)) (λ h. Memᴰ·append-right (namedRows lent t) (visited-named (n + leaves t) u row (second (judged out n t) h)))
+      ⊎-elim (λ h. Memᴰ·append-left _ (visited-named n t row h)) (λ h. Memᴰ·append-right (namedRows lent t) (visited-named (n + simpleCount t) u row (second (judged out n t) h)))
       (List·Memᴰ·append-cases (footprint lent (visited out n t)) (rw footprint-append at m))
     where
-      second : (v : Verdict) → List·Memᴰ row (footprint lent (when v [] (visited out (n + leaves t) u) (λ _. []))) → List·Memᴰ row (footprint lent (visited out (n + leaves t) u))
+      second : (v : Verdict) → List·Memᴰ row (footprint lent (when v [] (visited out (n + simpleCount t) u) (λ _. []))) → List·Memᴰ row (footprint lent (visited out (n + simpleCount t) u))
       second True h = absurd (not-in-none lent h)
       second False h = h
       second (Stops refusal) h = absurd (not-in-none lent h)

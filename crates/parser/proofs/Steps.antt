@@ -14,7 +14,7 @@ use Rattle.parser.specs.declared.Answer.the-variants.{Parsed, Stuck}
 use Rattle.parser.specs.declared.Parse.the-variants.{Accepted, Refused}
 use Rattle.grammar.specs.Grammar.{Class, other, not, and, or, opening, closing, Is, Carry, nothing, Tree, simple, negated, bracketed, both, either}
 use Rattle.grammar.specs.Parser.{Result, Parser, _then_, continue, done, fail, on, object, parse-simple, read, parse-condition, parse-chain, parse-term, parse-body}
-use Rattle.grammar.specs.Judging.{leaves}
+use Rattle.grammar.specs.Judging.{simpleCount}
 use Rattle.grammar.specs.Plan.{onTrue, onFalse, rowsOf, flat, planned}
 use Rattle.simples.specs.Reads.{tok, carryOf, Reads}
 use Rattle.plans.specs.Rows.{retargeted, Turned}
@@ -45,17 +45,17 @@ pub record Joins (k : Class) (w : ℕ) (join : Tree → Tree → Tree) (y n : �
   pub token : (x : ℕ) → Is k x → x ≡ w
   pub step : (f : ℕ) (c : Carry) (ts : List ℕ) →
       self (suc f) c ts ≡ (lower f c then λ t d. on k (λ _. self f d then λ u e. done (join t u) e) (done t d)) ts
-  pub rows : (r : ℕ) (t u : Tree) → r + leaves t ≤ onFalse →
+  pub rows : (r : ℕ) (t u : Tree) → r + simpleCount t ≤ onFalse →
       rowsOf r onTrue onFalse (join t u)
-      ≡ map (retargeted (y (r + leaves t)) (n (r + leaves t))) (rowsOf r onTrue onFalse t) ++ rowsOf (r + leaves t) onTrue onFalse u
-  pub size : (t u : Tree) → leaves (join t u) ≡ leaves t + leaves u
+      ≡ map (retargeted (y (r + simpleCount t)) (n (r + simpleCount t))) (rowsOf r onTrue onFalse t) ++ rowsOf (r + simpleCount t) onTrue onFalse u
+  pub size : (t u : Tree) → simpleCount (join t u) ≡ simpleCount t + simpleCount u
 
 pub conditions : Joins or 262148 either (λ _. onTrue) (λ r. r) parse-chain parse-condition
-unfolding parse-condition leaves
+unfolding parse-condition simpleCount
 conditions = record { word = tt; is = is-or; token = or-token; step = λ f c ts. refl; rows = rows-either; size = λ t u. refl }
 
 pub chains : Joins and 262147 both (λ r. r) (λ _. onFalse) parse-term parse-chain
-unfolding parse-condition leaves
+unfolding parse-condition simpleCount
 chains = record { word = tt; is = is-and; token = and-token; step = λ f c ts. refl; rows = rows-both; size = λ t u. refl }
 
 row-room : {tokens before : List ℕ} {at row : ℕ} → Room tokens at row before → row * 5 ≤ length before
@@ -139,7 +139,7 @@ module _ {k : Class} {w : ℕ} {join : Tree → Tree → Tree} {y n : ℕ → �
       (h .fits)
 
   -- the rest is told of its own rows: those of the part, retargeted, stand before them
-  joined : (tokens before between after : List ℕ) (row next : ℕ) (t : Tree) → next ≡ row + leaves t → next ≤ onFalse →
+  joined : (tokens before between after : List ℕ) (row next : ℕ) (t : Tree) → next ≡ row + simpleCount t → next ≤ onFalse →
       take (next * 5) between ≡ take (row * 5) before ++ flat (map (retargeted (y next) (n next)) (rowsOf row onTrue onFalse t)) →
       drop (next * 5) between ≡ drop (next * 5) before →
       (r : Answer) (o : Result) → Told tokens next between after r o → Told tokens row before after r (continue o (λ u e. done (join t u) e))
@@ -197,7 +197,7 @@ placeable (Lost p) room h l = tt
 pub single : {parser : ℕ → Carry → Parser} {q : Parser} {level at from row : ℕ} {tokens before after : List ℕ} {c : Carried} {r : Answer} (s : Single) →
     Room tokens at row before → Reads q 1 tokens from s → Placed s row before r after → at ≤ from →
     ((f : ℕ) → parser (suc f) (carryOf c) (drop at tokens) ≡ q (drop from tokens)) → Plans parser level tokens at c row before r after
-unfolding leaves
+unfolding simpleCount
 single (Row a n b p d) room h placed l step =
     rw (placed .0)
     (plans (λ f _. let (front, rest) = added-parts _ _ _ _ _ (row-room room) (placed .1) in
@@ -247,7 +247,7 @@ module _ (tokens : List ℕ) (at : ℕ) (c : Carried) {x : ℕ} (e : x ≡ tok t
       pub term-not-row : {row p next : ℕ} {before middle after : List ℕ} {k : Carried} → Room tokens at row before →
           Plans parse-body 0 tokens (at + 1) c row before (Parsed p k next) middle → Turned onFalse onTrue next after middle row →
           Plans parse-term 1 tokens at c row before (Parsed p k next) after
-      unfolding leaves
+      unfolding simpleCount
       term-not-row {row} room h turned =
           plans
           (λ f l.
@@ -292,7 +292,7 @@ module _ (tokens : List ℕ) (at : ℕ) (c : Carried) {x : ℕ} (e : x ≡ tok t
     module _ {row p next z : ℕ} {before after : List ℕ} {d : Carried}
         (h : Plans parse-condition 3 tokens (at + 1) none row before (Parsed p d next) after) (y : z ≡ tok tokens p) where
       pub body-shut : z ≡ 262145 → Plans parse-body 0 tokens at c row before (Parsed (p + 1) none next) after
-      unfolding carryOf leaves
+      unfolding carryOf simpleCount
       body-shut k =
           plans
           (λ f l.
@@ -336,7 +336,7 @@ module _ {tokens before after : List ℕ} where
     unfolding read carryOf Whole planned
     whole-read g =
         let t = h .told (4 * length tokens + 4) (omega arith) in
-        let m : n ≡ leaves (t .tree) = omega (arith, t .count) in
+        let m : n ≡ simpleCount (t .tree) = omega (arith, t .count) in
         let l : length tokens ≤ p = omega arith in
         rw (t .gives, drop-of-length-le tokens l, ← m)
         (refl, sym (take-append-drop (n * 5) after) ∙ ap (λ w. w ++ drop (n * 5) after) (t .rows) ∙ ap (λ w. flat (rowsOf 0 onTrue onFalse (t .tree)) ++ w) (t .rest))

@@ -14,7 +14,7 @@ use Rattle.parser.specs.declared.Parse.{Parse}
 use Rattle.parser.specs.declared.Parse.the-variants.{Accepted, Refused}
 use Rattle.grammar.specs.Grammar.{Carry, Tree}
 use Rattle.grammar.specs.Parser.{Result, parsed, stuck, Parser, Reading, accepted, refused, read}
-use Rattle.grammar.specs.Judging.{leaves}
+use Rattle.grammar.specs.Judging.{simpleCount}
 use Rattle.grammar.specs.Plan.{onTrue, onFalse, rowsOf, flat, planned}
 use Rattle.plans.specs.Rows.{Added}
 
@@ -39,7 +39,7 @@ pub record Room (tokens : List ℕ) (at row : ℕ) (before : List ℕ) : Type 0 
 pub record Laid (tokens : List ℕ) (row : ℕ) (before after : List ℕ) (p : ℕ) (c : Carried) (n : ℕ) (result : Result) : Type 0 where
   pub tree : Tree
   pub gives : result ≡ parsed tree (carryOf c) (drop p tokens)
-  pub count : n ≡ row + leaves tree
+  pub count : n ≡ row + simpleCount tree
   pub rows : take (n * 5) after ≡ take (row * 5) before ++ flat (rowsOf row onTrue onFalse tree)
   pub rest : drop (n * 5) after ≡ drop (n * 5) before
 
@@ -78,7 +78,7 @@ pub record Plans (parser : ℕ → Carry → Parser) (level : ℕ) (tokens : Lis
 -- The whole sequence is read, and the buffer is its plan and then as it was. A sequence that is refused leaves at most the rows
 -- of what stands before its place.
 unfoldable pub Whole : Parse → List ℕ → List ℕ → Reading → Type 0
-Whole r before after (accepted t) = (r ≡ Accepted (leaves t)) × (after ≡ planned t ++ drop (leaves t * 5) before)
+Whole r before after (accepted t) = (r ≡ Accepted (simpleCount t)) × (after ≡ planned t ++ drop (simpleCount t * 5) before)
 Whole r before after (refused n) = (r ≡ Refused n) × Partly 0 n before after
 
 abbrev pub Parses : List ℕ → Parse → List ℕ → List ℕ → Type 0

@@ -22,7 +22,7 @@ use Rattle.parser.specs.declared.Parse.{Parse}
 use Rattle.parser.specs.declared.Parse.the-variants.{Accepted}
 use Rattle.grammar.specs.Parser.{Reading, accepted, refused, read}
 use Rattle.grammar.specs.Depth.{depthCheck}
-use Rattle.grammar.specs.Judging.{leaves}
+use Rattle.grammar.specs.Judging.{simpleCount}
 use Rattle.grammar.specs.Plan.{planned}
 use Rattle.grammar.specs.Typed.{Shaped, typedRows}
 use Rattle.parser.specs.Parses.{Whole, Parses}
@@ -37,7 +37,7 @@ use Rattle.grammar.proofs.Shapes.{shaped, rows-shaped, rows-typed}
 use Rattle.preparer.specs.declared.Prepared.{Prepared}
 use Rattle.preparer.specs.declared.Prepared.the-variants.{Rows, Refused as Unprepared}
 use Rattle.rules.specs.Calls.{grammarCheck, earlier, typingCheck, tokenLines, grammarLines, conditionLines}
-use Rattle.preparer.specs.Prepared.{parseCheck, parsedTokens, There, Stands, Readies, Resolves, Prepares}
+use Rattle.preparer.specs.Prepared.{parseCheck, parsedTokens, There, RowsStand, Readies, Resolves, Prepares}
 
 -- 1 to 6
 module _ (lent : Lent) (tokens : List ℕ) {t : Check} (tables : t ≡ firstOf (lentLines lent)) where
@@ -67,14 +67,14 @@ seven r before after (accepted t) w = ap parseCheck (w .0)
 seven r before after (refused at) w = ap parseCheck (w .0)
 
 -- the rows of an accepted sequence
-lies : (count : ℕ) (before after : List ℕ) (reading : Reading) → Whole (Accepted count) before after reading → Stands reading count before after
+lies : (count : ℕ) (before after : List ℕ) (reading : Reading) → Whole (Accepted count) before after reading → RowsStand reading count before after
 unfolding Whole
 lies count before after (accepted t) w =
-    let e : count ≡ leaves t = cc (w .0) in
+    let e : count ≡ simpleCount t = cc (w .0) in
     record { tree = t; read-as = refl; counted = e; rows = rw e (w .1) }
 lies count before after (refused at) w = let z : _≡_ {A = ℕ} 0 1 = cc (w .0) in absurd (omega arith)
 
-pub stands-rows : {reading : Reading} {count : ℕ} {before after : List ℕ} (s : Stands reading count before after) → take (count * 5) after ≡ planned (s .tree)
+pub stands-rows : {reading : Reading} {count : ℕ} {before after : List ℕ} (s : RowsStand reading count before after) → take (count * 5) after ≡ planned (s .tree)
 stands-rows {count = count} {before = before} s =
     rw (s .rows) (take-at (planned (s .tree)) (drop (count * 5) before) (count * 5) (planned-length (s .tree) ∙ ap (λ n. n * 5) (sym (s .counted))))
 
@@ -86,8 +86,8 @@ spared tokens r before after l w = go (read tokens) refl w
     go : (reading : Reading) → read tokens ≡ reading → Whole r before after reading → drop 640 after ≡ drop 640 before
     go (refused at) e w = later-rest after before (w .1 .upto * 5) 640 (omega (arith, w .1 .most)) (w .1 .rest)
     go (accepted t) e w =
-        later-rest after before (leaves t * 5) 640 (omega (arith, few-rows (sound tokens t e) l))
-        (rw (w .1) (drop-at (planned t) (drop (leaves t * 5) before) (leaves t * 5) (planned-length t)))
+        later-rest after before (simpleCount t * 5) 640 (omega (arith, few-rows (sound tokens t e) l))
+        (rw (w .1) (drop-at (planned t) (drop (simpleCount t * 5) before) (simpleCount t * 5) (planned-length t)))
 
 -- the tokens that are parsed tell as much of 7 and 8 as all do
 pub eight-inside : (tokens : List ℕ) {depth : Check} {eight : Refusal} → depth ≡ depthCheck tokens → depth ≡ Refused eight → place eight < length tokens
@@ -138,12 +138,12 @@ module _ (items literals tokens before after : List ℕ) (count : ℕ) {depth : 
   parses = all-parsed tokens before after (Accepted count) depth (sym e ∙ f) (rw n at parsed)
 
   -- 9 is tried of the rows in the buffer
-  typing-of : (reading : Reading) → Stands reading count before after → typingCheck lent reading ≡ typedRows lent after count
+  typing-of : (reading : Reading) → RowsStand reading count before after → typingCheck lent reading ≡ typedRows lent after count
   typing-of reading s =
       ap (typingCheck lent) (s .read-as)
       ∙ sym (ap (typedRows lent after) (s .counted) ∙ rows-typed (s .tree) after (rw (s .counted) at (stands-rows s)) lent)
 
-  shaped-of : Stands (read tokens) count before after → Shaped lent after count
+  shaped-of : RowsStand (read tokens) count before after → Shaped lent after count
   shaped-of s =
       rw (s .counted)
       (rows-shaped (s .tree) after (rw (s .counted) at (stands-rows s)) (there .off) items literals [] (there .names)

@@ -16,7 +16,7 @@ use Rattle.parser.specs.declared.Parse.{Parse}
 use Rattle.parser.specs.declared.Parse.the-variants.{Accepted, Refused as Unparsed}
 use Rattle.grammar.specs.Grammar.{Tree}
 use Rattle.grammar.specs.Parser.{Reading, accepted, read}
-use Rattle.grammar.specs.Judging.{leaves}
+use Rattle.grammar.specs.Judging.{simpleCount}
 use Rattle.grammar.specs.Plan.{planned}
 use Rattle.preparer.specs.declared.Prepared.{Prepared}
 use Rattle.preparer.specs.declared.Prepared.the-variants.{Rows, Refused as Unprepared}
@@ -39,17 +39,17 @@ parsedTokens tokens Sound = length tokens
 parsedTokens tokens (Refused eight) = suc (place eight)
 
 -- the buffer is so many rows of a tree, and then as it was
-pub record Stands (reading : Reading) (count : ℕ) (before after : List ℕ) : Type 0 where
+pub record RowsStand (reading : Reading) (count : ℕ) (before after : List ℕ) : Type 0 where
   pub tree : Tree
   pub read-as : reading ≡ accepted tree
-  pub counted : count ≡ leaves tree
+  pub counted : count ≡ simpleCount tree
   pub rows : after ≡ planned tree ++ drop (count * 5) before
 
 -- What is prepared: the refusal of the lines, or the rows. Of a condition that is refused the first 640 numbers of the buffer,
 -- 128 rows, are free: there may stand rows of what was parsed.
 abbrev pub Readies : Check → Reading → Prepared → List ℕ → List ℕ → Type 0
 Readies check reading (Unprepared refusal) before after = (check ≡ Refused refusal) × (drop 640 after ≡ drop 640 before)
-Readies check reading (Rows count) before after = (check ≡ Sound) × Stands reading count before after
+Readies check reading (Rows count) before after = (check ≡ Sound) × RowsStand reading count before after
 
 -- 7 to 9
 pub record Resolves (lent : Lent) (tokens : List ℕ) (r : Prepared) (before after : List ℕ) : Type 0 where

@@ -21,13 +21,13 @@ use Rattle.values.specs.Truth.{outcome}
 use Rattle.grammar.specs.Grammar.{Tree}
 use Rattle.grammar.specs.Parser.{read}
 use Rattle.grammar.specs.Expanded.{expanded}
-use Rattle.grammar.specs.Judging.{leaves, Walk, walk, judging}
+use Rattle.grammar.specs.Judging.{simpleCount, Walk, walk, judging}
 use Rattle.grammar.specs.Plan.{planned, planCheck, planRows, running}
 use Rattle.grammar.proofs.Size.{few-rows}
 use Rattle.grammar.proofs.Segment.{run-is-judging, run-visits, run-count}
 use Rattle.grammar.proofs.Shapes.{planned-plan-sound}
-use Rattle.rules.specs.Calls.{Gives, Leaves, conditionLines, roomCheck, numbersOf, writing, expandGives, planGives, answers, told, judgeWalk, runWalk, runGives}
-use Rattle.rules.specs.Demands.{writtenOver, rulesWalk, Refuses}
+use Rattle.rules.specs.Calls.{writtenOver, Gives, Leaves, conditionLines, roomCheck, numbersOf, writing, expandGives, planGives, answers, told, judgeWalk, runWalk, runGives}
+use Rattle.rules.specs.Demands.{rulesWalk, Refuses}
 use Rattle.rules.proofs.Passing.{typing-passes, after-lines, Passes, read-as, condition-passes, tables-pass, few-tokens, tokens-exist}
 
 -- a call leaves what it gives
@@ -57,7 +57,7 @@ module _ {lent : Lent} {tokens : List ℕ} {t : Tree} (p : Passes lent tokens t)
   judges-as content switches =
       rw (after-lines (conditionLines lent tokens) (recordCheck lent content ∷ []) (condition-passes p), line-last, read-as p)
 
-  pub few-leaves : leaves t ≤ 128
+  pub few-leaves : simpleCount t ≤ 128
   few-leaves = few-rows (p .accepts .derives) (few-tokens p)
 
   pub plan-passes : planCheck lent (planned t) ≡ Sound

@@ -17,8 +17,8 @@ use Rattle.grammar.specs.Grammar.{Tree}
 use Rattle.grammar.specs.Parser.{read}
 use Rattle.grammar.specs.Expanded.{expanded}
 use Rattle.grammar.specs.Plan.{planned}
-use Rattle.rules.specs.Calls.{conditionLines, roomCheck, Gives, writes, numbersOf, writing, expandGives, planGives, answers, told, treeAnswer, judgeWalk, judgeGives}
-use Rattle.rules.specs.Demands.{Accepted, writtenOver, Writes, Judges, DemandTwo, Demand3, DemandThree}
+use Rattle.rules.specs.Calls.{writtenOver, conditionLines, roomCheck, Gives, writes, numbersOf, writing, expandGives, planGives, answers, told, treeAnswer, judgeWalk, judgeGives}
+use Rattle.rules.specs.Demands.{Accepted, Writes, Judges, DemandTwo, Demand3, DemandThree}
 use Rattle.rules.proofs.Passing.{both-sound, Passes, passed, read-as, passes-again, Nine, condition-nine, underived-refused, ill-typed-refused}
 use Rattle.rules.proofs.Answers.{writes-over, judges-as, runs-as, refuses, run-few}
 

@@ -31,7 +31,7 @@ use Rattle.values.specs.Comparison.{Side, side, sideOf, comparison, wrongByte, 
 use Rattle.values.specs.Names.{some, itemSide, literalSide, comparable, nameHolds, lentLines}
 use Rattle.values.proofs.Names.{PairFacts, name-lines, item-there, some-pairs, pair-at}
 use Rattle.values.specs.Truth.{truth, orStop, stopOf, relationOutcome, nameOutcome, outcome}
-use Rattle.grammar.specs.Judging.{Outcomes, leaves, when, at, judged}
+use Rattle.grammar.specs.Judging.{Outcomes, simpleCount, when, at, judged}
 use Rattle.rules.specs.Demands.{WellTyped}
 use Rattle.rules.specs.Names.{pairTree, pairsTree, nameTree, Means, NamesMean}
 
@@ -64,7 +64,7 @@ stop-when n (Letters byte) x y = refl
 module _ (out : Outcomes) (item : ℕ) (low high : ℕ → ℕ) (m : ℕ) where
   module _ (a b : ℕ → Bool) (lows : (k : ℕ) → k ≤ m → out item 8 (low k) ≡ truth (a k)) (highs : (k : ℕ) → k ≤ m → out item 9 (high k) ≡ truth (b k)) where
     pair-judged : (k n : ℕ) → k ≤ m → judged out n (pairTree item (low k) (high k)) ≡ told (a k && b k)
-    unfolding judged leaves
+    unfolding judged simpleCount
     pair-judged k n l = rw (lows k l, highs k l, at-truth n (a k), at-truth (n + 1) (b k)) (told-and (a k) (b k))
 
     pairs-judged : (k n : ℕ) → k ≤ m → judged out n (pairsTree item low high k) ≡ told (some (λ j. a j && b j) (suc k))

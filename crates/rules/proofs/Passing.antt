@@ -23,7 +23,7 @@ use Rattle.grammar.specs.Parser.{Reading, accepted, refused, read}
 use Rattle.grammar.specs.Depth.{depthCheck}
 use Rattle.grammar.specs.Typed.{typingFrom}
 use Rattle.grammar.specs.Expanded.{expanded}
-use Rattle.grammar.specs.Judging.{leaves}
+use Rattle.grammar.specs.Judging.{simpleCount}
 use Rattle.grammar.proofs.Reading.{sound, complete, one-place, place as grammar-place}
 use Rattle.grammar.proofs.Expansion.{rederives}
 use Rattle.grammar.proofs.Again.{expanded-some, expanded-tokens, expanded-depth}
@@ -37,19 +37,19 @@ well-typed lent n (simple a r b) e = test-sound (typed lent a r b) (Typing n) e
 well-typed lent n (negated t) e = well-typed lent n t e
 well-typed lent n (bracketed t) e = well-typed lent n t e
 well-typed lent n (both t u) e =
-    let l = lines-sound (typingFrom lent n t ∷ typingFrom lent (n + leaves t) u ∷ []) e in
-    (well-typed lent n t (l .0), well-typed lent (n + leaves t) u (l .1 .0))
+    let l = lines-sound (typingFrom lent n t ∷ typingFrom lent (n + simpleCount t) u ∷ []) e in
+    (well-typed lent n t (l .0), well-typed lent (n + simpleCount t) u (l .1 .0))
 well-typed lent n (either t u) e =
-    let l = lines-sound (typingFrom lent n t ∷ typingFrom lent (n + leaves t) u ∷ []) e in
-    (well-typed lent n t (l .0), well-typed lent (n + leaves t) u (l .1 .0))
+    let l = lines-sound (typingFrom lent n t ∷ typingFrom lent (n + simpleCount t) u ∷ []) e in
+    (well-typed lent n t (l .0), well-typed lent (n + simpleCount t) u (l .1 .0))
 
 pub typing-passes : (lent : Lent) (n : ℕ) (t : Tree) → WellTyped lent t → typingFrom lent n t ≡ Sound
 unfolding typingFrom firstOf
 typing-passes lent n (simple a r b) e = rw e
 typing-passes lent n (negated t) e = typing-passes lent n t e
 typing-passes lent n (bracketed t) e = typing-passes lent n t e
-typing-passes lent n (both t u) e = rw (typing-passes lent n t (e .0), typing-passes lent (n + leaves t) u (e .1))
-typing-passes lent n (either t u) e = rw (typing-passes lent n t (e .0), typing-passes lent (n + leaves t) u (e .1))
+typing-passes lent n (both t u) e = rw (typing-passes lent n t (e .0), typing-passes lent (n + simpleCount t) u (e .1))
+typing-passes lent n (either t u) e = rw (typing-passes lent n t (e .0), typing-passes lent (n + simpleCount t) u (e .1))
 
 -- lines before others: where none of them applies, the others decide
 pub after-lines : (lines others : List Check) → firstOf lines ≡ Sound → firstOf (lines ++ others) ≡ firstOf others
@@ -141,8 +141,8 @@ typing-nine lent n (simple a r b) = go (typed lent a r b)
     go false = omega arith
 typing-nine lent n (negated t) = typing-nine lent n t
 typing-nine lent n (bracketed t) = typing-nine lent n t
-typing-nine lent n (both t u) = first-nine _ _ (typing-nine lent n t) (typing-nine lent (n + leaves t) u)
-typing-nine lent n (either t u) = first-nine _ _ (typing-nine lent n t) (typing-nine lent (n + leaves t) u)
+typing-nine lent n (both t u) = first-nine _ _ (typing-nine lent n t) (typing-nine lent (n + simpleCount t) u)
+typing-nine lent n (either t u) = first-nine _ _ (typing-nine lent n t) (typing-nine lent (n + simpleCount t) u)
 
 -- where refusals 1 to 6 and 8 do not apply, 7 and 9 are left
 module _ (lent : Lent) (tokens : List ℕ) (f : firstOf (tokenLines lent tokens) ≡ Sound) (d : depthCheck tokens ≡ Sound) where

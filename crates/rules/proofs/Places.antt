@@ -33,7 +33,7 @@ use Rattle.grammar.specs.Grammar.{Tree, Derives, simple, negated, bracketed, bo
 use Rattle.grammar.specs.Parser.{Result, parsed, stuck, Reading, accepted, refused, reading, read}
 use Rattle.grammar.specs.Depth.{depthFrom, depthCheck}
 use Rattle.grammar.specs.Typed.{typingFrom}
-use Rattle.grammar.specs.Judging.{Outcomes, leaves, when, at, Walk, judging}
+use Rattle.grammar.specs.Judging.{Outcomes, simpleCount, when, at, Walk, judging}
 use Rattle.grammar.proofs.Reading.{sound, place as grammar-place}
 use Rattle.grammar.proofs.Judging.{visited-le}
 use Rattle.grammar.proofs.Size.{few-rows, expanded-bound}
@@ -135,15 +135,15 @@ low-depth at opened (x ∷ tokens) l = pick (eqb x 262144) (eqb opened 16) (λ n
     pick false c later = later (cond (eqb x 262145) (pred opened) opened)
 
 -- 9
-low-typing : (lent : Lent) (n : ℕ) (t : Tree) → n + leaves t ≤ 640 → Low (typingFrom lent n t)
-unfolding typingFrom leaves
+low-typing : (lent : Lent) (n : ℕ) (t : Tree) → n + simpleCount t ≤ 640 → Low (typingFrom lent n t)
+unfolding typingFrom simpleCount
 low-typing lent n (simple a r b) l = low-unless (typed lent a r b) (Typing n) (omega arith, refl)
 low-typing lent n (negated t) l = low-typing lent n t l
 low-typing lent n (bracketed t) l = low-typing lent n t l
 low-typing lent n (chained t u) l =
-    low-first (typingFrom lent n t) _ (low-typing lent n t (omega arith)) (λ _. low-last _ (low-typing lent (n + leaves t) u (omega arith)))
+    low-first (typingFrom lent n t) _ (low-typing lent n t (omega arith)) (λ _. low-last _ (low-typing lent (n + simpleCount t) u (omega arith)))
 low-typing lent n (either t u) l =
-    low-first (typingFrom lent n t) _ (low-typing lent n t (omega arith)) (λ _. low-last _ (low-typing lent (n + leaves t) u (omega arith)))
+    low-first (typingFrom lent n t) _ (low-typing lent n t (omega arith)) (λ _. low-last _ (low-typing lent (n + simpleCount t) u (omega arith)))
 
 few-tokens : (tokens : List ℕ) → tokenCountCheck tokens ≡ Sound → length tokens ≤ 256
 few-tokens tokens e = leb-true _ _ (both (leb 1 (length tokens)) (leb (length tokens) 256) (test-sound _ TokenCount e) .1)

@@ -33,7 +33,7 @@ use Rattle.values.specs.Truth.{truth, turned, stopOf, orStop, relationOutcome, 
 use Rattle.values.proofs.Reading.{fit-near, tables-sound, read-name, read-relation, read-sign}
 use Rattle.values.proofs.Names.{item-fit, item-there}
 use Rattle.grammar.specs.Grammar.{Tree, simple, negated, bracketed, both, either}
-use Rattle.grammar.specs.Judging.{Outcomes, leaves, when, at, judged}
+use Rattle.grammar.specs.Judging.{Outcomes, simpleCount, when, at, judged}
 use Rattle.grammar.specs.declared.PlanRow.{PlanRow}
 use Rattle.grammar.specs.Plan.{onTrue, onFalse, planRow, planRows, follow, run}
 use Rattle.rules.specs.Stops.{InRecord, StopsInside, StopsInRecord}
@@ -189,8 +189,8 @@ module _ (content : List ℕ) where
     in-judged n (simple a r b) = in-at n (out a r b) (each a r b)
     in-judged n (negated t) = in-when (judged out n t) False True (in-judged n t) tt tt
     in-judged n (bracketed t) = in-judged n t
-    in-judged n (both t u) = in-when (judged out n t) _ False (in-judged n t) (in-judged (n + leaves t) u) tt
-    in-judged n (either t u) = in-when (judged out n t) True _ (in-judged n t) tt (in-judged (n + leaves t) u)
+    in-judged n (both t u) = in-when (judged out n t) _ False (in-judged n t) (in-judged (n + simpleCount t) u) tt
+    in-judged n (either t u) = in-when (judged out n t) True _ (in-judged n t) tt (in-judged (n + simpleCount t) u)
 
     in-cond : (b : Bool) (v w : Verdict) → InRecord content v → InRecord content w → InRecord content (cond b v w)
     in-cond true v w h g = h

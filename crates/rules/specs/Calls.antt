@@ -71,11 +71,14 @@ pub record Leaves (gives : Gives) (answer : Written) (output : List ℕ) : Type 
   pub answered : answer ≡ gives .answer
   pub left : output ≡ gives .output
 
--- "Success: expand and plan give the count of numbers written from the start of the output, the rest of it unchanged"; "A
--- refusal gives a number and a place, counted from 0, and changes nothing."
+-- "Success: expand and plan give the count of numbers written from the start of the output, the rest of it unchanged"
+abbrev pub writtenOver : List ℕ → List ℕ → Gives
+writtenOver numbers output = record { answer = Count (length numbers); output = numbers ++ drop (length numbers) output }
+
+-- and "A refusal gives a number and a place, counted from 0, and changes nothing."
 abbrev pub writes : Check → List ℕ → List ℕ → Gives
 writes (Refused refusal) numbers output = record { answer = Unwritten refusal; output = output }
-writes Sound numbers output = record { answer = Count (length numbers); output = numbers ++ drop (length numbers) output }
+writes Sound numbers output = writtenOver numbers output
 
 -- the numbers made of a sequence's tree; a sequence without one is refused with 7
 abbrev pub numbersOf : (Tree → List ℕ) → Reading → List ℕ

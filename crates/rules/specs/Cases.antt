@@ -12,7 +12,7 @@ use Rattle.tables.specs.declared.Verdict.the-variants.{True, False}
 use Rattle.tables.specs.Operands.{Lent}
 use Rattle.tables.specs.Words.{OPEN, CLOSE, NOT, AND, OR, GREATER, LESS, EQUAL, GREATER-OR-EQUAL, NUMERIC, ZERO, switchToken}
 use Rattle.values.specs.Comparison.{sideOf, valueOf}
-use Rattle.rules.specs.Calls.{Gives, expandGives, planGives, judgeGives, runGives}
+use Rattle.rules.specs.Calls.{Gives, writtenOver, expandGives, planGives, judgeGives, runGives}
 use Rattle.rules.specs.Numbers.{ofWritten, ofVerdict}
 
 -- What a case says of a condition. A truth value or a stop is said of a record, for switch byte 0.
@@ -33,9 +33,6 @@ pub record Case : Type 0 where
 abbrev pub lentOutput : List ℕ
 lentOutput = replicate 24 7
 
-abbrev pub filledWith : List ℕ → Gives
-filledWith numbers = record { answer = Count (length numbers); output = numbers ++ drop (length numbers) lentOutput }
-
 -- the plan that the rules write for a case's condition
 abbrev pub planOf : Gives → List ℕ
 planOf gives = elim (gives .answer) [ Count n ↦ take n (gives .output) | Unwritten refusal ↦ [] ]
@@ -47,8 +44,8 @@ module _ (lent : Lent) (tokens : List ℕ) where
   -- Expand, plan and judge refuse alike where a case gives a refusal; judge and the run of the plan answer alike where it gives
   -- an answer on a record.
   abbrev pub Meets : Says → Type 0
-  Meets (expands form) = expandGives lent tokens lentOutput ≡ filledWith form
-  Meets (plans rows) = planGives lent tokens lentOutput ≡ filledWith rows
+  Meets (expands form) = expandGives lent tokens lentOutput ≡ writtenOver form lentOutput
+  Meets (plans rows) = planGives lent tokens lentOutput ≡ writtenOver rows lentOutput
   Meets (refuses number place) =
       (ofWritten (expandGives lent tokens lentOutput .answer) ≡ number ∷ place ∷ [])
       × (ofWritten (planGives lent tokens lentOutput .answer) ≡ number ∷ place ∷ [])

@@ -24,7 +24,7 @@ use Rattle.grammar.specs.Typed.{typingFrom}
 use Rattle.grammar.specs.Expanded.{expanded}
 use Rattle.grammar.specs.Judging.{Walk, judging}
 use Rattle.grammar.specs.Plan.{planned, planRows}
-use Rattle.rules.specs.Calls.{Gives, tokenLines, grammarLine, answers, told, expandGives, planGives, judgeGives, runWalk, runGives}
+use Rattle.rules.specs.Calls.{writtenOver, tokenLines, grammarLine, answers, told, expandGives, planGives, judgeGives, runWalk, runGives}
 
 -- every part of the tree is well typed
 abbrev pub WellTyped : Lent → Tree → Type 0
@@ -38,10 +38,6 @@ WellTyped lent (either t u) = WellTyped lent t × WellTyped lent u
 pub record Accepted (lent : Lent) (tokens : List ℕ) (t : Tree) : Type 0 where
   pub derives : Derives tokens t
   pub typed : WellTyped lent t
-
--- "the count of numbers written from the start of the output, the rest of it unchanged"
-abbrev pub writtenOver : List ℕ → List ℕ → Gives
-writtenOver numbers output = record { answer = Count (length numbers); output = numbers ++ drop (length numbers) output }
 
 -- "The rules' answer .. is refusal 12 where the table below gives it, else the answer of the derived tree."
 -- Document 02, i): with the simple conditions that the rules' own judging comes to.

@@ -11,8 +11,8 @@ use Rattle.tables.specs.Operands.{Lent}
 use Rattle.grammar.specs.Grammar.{Tree}
 use Rattle.grammar.specs.Expanded.{expanded}
 use Rattle.grammar.specs.Plan.{planned}
-use Rattle.rules.specs.Calls.{Gives, Leaves, writing, expandGives, planGives, runGives}
-use Rattle.rules.specs.Demands.{writtenOver, Demand3}
+use Rattle.rules.specs.Calls.{writtenOver, Gives, Leaves, writing, expandGives, planGives, runGives}
+use Rattle.rules.specs.Demands.{Demand3}
 use Rattle.show.specs.Shown.{Replans, ShownCalls}
 use Rattle.rules.proofs.Answers.{writes-over}
 use Rattle.rules.proofs.Demands.{counted, count-is, numbers-are, demand-three}
