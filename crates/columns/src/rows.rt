@@ -27,14 +27,14 @@ use tables::tokens::is_item;
 use typing::Test;
 use typing::shape::test_of;
 
-fn wide(x: u32) -> usize
+pub fn wide(x: u32) -> usize
     ensures { λ r. ⌜ r ≡ x ⌝ }
 {
     x as usize
 }
 
 // Where a field ends in its record.
-fn end_of(row: Row) -> usize
+pub fn end_of(row: Row) -> usize
     ensures { λ r. ⌜ r ≡ row .offset + row .size ⌝ }
 {
     wide(row.offset) + wide(row.size)
@@ -57,7 +57,7 @@ fn truth_bit(negated: bool, holds: bool) -> u8
 }
 
 // The truth of what a relation asks, where the first word is less, the same, or more.
-fn code(asked: Asked, less: bool, same: bool, more: bool) -> u8
+pub fn code(asked: Asked, less: bool, same: bool, more: bool) -> u8
     ensures { λ r. ⌜ r ≡ coded asked less same more ⌝ }
 {
     let found = pick(asked.equal, same, pick(asked.second, more, less));

@@ -13,7 +13,7 @@ use places::choose;
 const UNJUDGED: u8 = 2;
 
 // By the order of two words, where they are valid.
-fn compare_words(valid: bool, a: u64, b: u64, less: u8, same: u8, more: u8) -> u8
+pub fn compare_words(valid: bool, a: u64, b: u64, less: u8, same: u8, more: u8) -> u8
     ensures { λ r. ⌜ r ≡ compared valid less same more a b ⌝ }
 {
     let known = choose(a < b, less, choose(a == b, same, more));
