@@ -19,9 +19,10 @@ use Rattle.typing.specs.declared.Test.the-variants.{Relation, Class}
 use Rattle.typing.specs.Tests.{testOf}
 use Rattle.values.specs.Truth.{truth, turned, Readable, Sided}
 use Rattle.grammar.specs.declared.PlanRow.{PlanRow}
-use Rattle.digit_words.specs.Words.{digitWord, digitsIn, fitsWord}
+use Rattle.byte_words.specs.Words.{digitWord, digitsIn}
+use Rattle.digit_words.specs.Words.{fitsWord}
 use Rattle.digit_words.specs.Asked.{askedOf, answered}
-use Rattle.digit_words.proofs.WordLaws.{Bytes, bytes-take, bytes-drop}
+use Rattle.byte_words.proofs.WordLaws.{Bytes, bytes-take, bytes-drop}
 use Rattle.digit_words.proofs.Outcomes.{operand-small, item-field, relation-by-words, numeric-by-word}
 use Rattle.columns.specs.Columns.{recordAt, outcomeAt, bit, fieldAt, related, relatedTo, Right, Laid, Judgeable, Field}
 use Rattle.columns.proofs.Rights.{bit-right, related-right, first-right, second-right}

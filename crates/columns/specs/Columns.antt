@@ -12,7 +12,7 @@ use Rattle.tables.specs.Operands.{Lent}
 use Rattle.values.specs.Truth.{turned, outcome, Readable}
 use Rattle.grammar.specs.declared.PlanRow.{PlanRow}
 use Rattle.digit_words.specs.declared.Asked.{Asked}
-use Rattle.digit_words.specs.Words.{digitWord, digitsIn}
+use Rattle.byte_words.specs.Words.{digitWord, digitsIn}
 
 -- record j of the block
 abbrev pub recordAt : List ℕ → ℕ → ℕ → ℕ → List ℕ

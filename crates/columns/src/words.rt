@@ -3,10 +3,10 @@ ghost use mathlib.Core.Path.{_≡_};
 ghost use mathlib.Core.Bool.{cond, _&&_};
 ghost use Prim.Native.Nat.{ℕ, _<_, _≤_};
 ghost use lib.ListN.{length, getD};
-ghost use Rattle.digit_words.specs.Words.{digitsIn};
+ghost use Rattle.byte_words.specs.Words.{digitsIn};
 ghost use Rattle.columns.specs.Columns.{compared, wordAt, Laid, Field};
-use digit_words::words::all_digits;
-use digit_words::words::field_word;
+use byte_words::words::all_digits;
+use byte_words::words::field_word;
 use places::choose;
 
 // The truth of a row that is not judged here.

@@ -9,16 +9,20 @@ use native.Mathlib.Decide.{decLt}
 use native.Mathlib.Nat.{zero-mul, mul-comm, mul-assoc, div-add-mod', div-lt-iff-lt-mul, div-mul-le-self, mod-lt, mul-pos, mul-lt-mul-of-pos-right, mul-le-mul-left, mul-le-mul-right, le-antisymm, pow-suc, pow-le-pow-right}
 use lib.Dec.{eqb, eqb·suc-zero}
 use lib.IntN.{ℤ, pos, _*ℤ_}
-use lib.ListN.{length, getD, take}
+use lib.ListN.{length, getD, take, drop, length-drop}
 use lib.Pow.{pow-add}
-use lib.Seq.{take-suc, take-all, length-take-le}
+use lib.Seq.{take-suc, take-all, take-add, length-take-le}
 use borrow.Author.Tests.{eqb-true, eqb-false}
-use Rattle.content.specs.Content.{lastByte, butLast, numberFrom, signed}
+use Rattle.content.specs.Content.{all, isDigit, lastByte, butLast, numberFrom, signed}
 use Rattle.content.specs.Packed.{leftHalf, rightHalf, packedFrom}
 use Rattle.compare.specs.declared.Order.the-variants.{Less, Equal, Greater}
 use Rattle.compare.specs.Order.{order, orderℤ}
 use Rattle.compare.specs.Compared.{scaledOrder}
 use Rattle.compare.proofs.OrderLaws.{order-lt, order-eq, order-gt}
+use Rattle.byte_words.specs.Words.{digitWord, digitsIn, valueIn}
+use Rattle.byte_words.proofs.WordLaws.{Bytes, bytes-take, bytes-drop}
+use Rattle.byte_words.proofs.DigitLaws.{word-test}
+use Rattle.byte_words.proofs.ValueLaws.{eight-digits}
 
 pub order-same : (a b x y : ℕ) → (x < y → a < b) → (x ≡ y → a ≡ b) → (y < x → b < a) → order a b ≡ order x y
 order-same a b x y f e g = go (decLt x y) (decLt y x)
@@ -79,6 +83,46 @@ number-small xs i h = rw (length-take-le i xs h) at (number-below 0 (take i xs))
 
 pub number-room : (xs : List ℕ) (i : ℕ) → i < length xs → length xs ≤ 18 → numberFrom 0 (take i xs) * 10 + 20 ≤ 2 * 10 ^ 18
 number-room xs i h few = omega (arith, number-small xs i (omega arith), ten-more i, ten-most (i + 1) (omega arith))
+
+-- eight digits more
+number-parts : (n : ℕ) (xs : List ℕ) → numberFrom n xs ≡ n * 10 ^ length xs + numberFrom 0 xs
+unfolding numberFrom
+number-parts n [] = omega arith
+number-parts n (x ∷ xs) =
+    let ten : 10 ^ suc (length xs) ≡ 10 * 10 ^ length xs = rw pow-suc (mul-comm _ _) in
+    omega (arith, number-parts (n * 10 + x % 16) xs, number-parts (0 * 10 + x % 16) xs, ap (λ (k : ℕ). n * k) ten)
+
+number-joined : (n : ℕ) (xs ys : List ℕ) → numberFrom n (xs ++ ys) ≡ numberFrom (numberFrom n xs) ys
+unfolding numberFrom
+number-joined n [] ys = refl
+number-joined n (x ∷ xs) ys = number-joined (n * 10 + x % 16) xs ys
+
+module _ (xs : List ℕ) (i : ℕ) (h : i + 8 ≤ length xs) where
+  pub eight-there : length (take 8 (drop i xs)) ≡ 8
+  eight-there = length-take-le 8 (drop i xs) (omega (arith, length-drop i xs))
+
+  pub number-eight-more : numberFrom 0 (take (i + 8) xs) ≡ numberFrom 0 (take i xs) * 100000000 + numberFrom 0 (take 8 (drop i xs))
+  number-eight-more =
+      rw (take-add i 8 xs)
+      (number-joined 0 (take i xs) (take 8 (drop i xs)) ∙ rw eight-there at (number-parts (numberFrom 0 (take i xs)) (take 8 (drop i xs))))
+
+  -- told by their word
+  module _ (b : Bytes xs) {word : ℕ} (w : word ≡ digitWord (take 8 (drop (i + 8 - 8) xs))) where
+    word-here : word ≡ digitWord (take 8 (drop i xs))
+    word-here = w ∙ ap (λ (k : ℕ). digitWord (take 8 (drop k xs))) {x = i + 8 - 8} {y = i} (omega arith)
+
+    small : Bytes (take 8 (drop i xs))
+    small = bytes-take 8 (bytes-drop i b)
+
+    pub eight-valid : {r : Bool} → r ≡ digitsIn 8 word → r ≡ all isDigit (take 8 (drop i xs))
+    eight-valid e = e ∙ ap (digitsIn 8) word-here ∙ word-test small (omega (arith, eight-there))
+
+    pub eight-number : {r : ℕ} → r ≡ valueIn 8 word → r ≡ numberFrom 0 (take 8 (drop i xs))
+    eight-number e = e ∙ ap (valueIn 8) word-here ∙ eight-digits small eight-there
+
+  -- and room for them
+  pub eight-room : length xs ≤ 18 → numberFrom 0 (take (i + 8) xs) ≤ 2 * 10 ^ 18
+  eight-room few = omega (arith, number-small xs (i + 8) h, ten-most (i + 8) (omega arith))
 
 -- the same of pairs of digits, and how large ten bytes can be
 packed-append : (n : ℕ) (xs : List ℕ) (b : ℕ) → packedFrom n (xs ++ b ∷ []) ≡ packedFrom n xs * 100 + leftHalf b * 10 + rightHalf b

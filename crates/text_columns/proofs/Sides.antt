@@ -19,7 +19,7 @@ use Rattle.values.specs.Truth.{truth, Readable, Sided}
 use Rattle.values.proofs.Reading.{read-relation}
 use Rattle.grammar.specs.declared.PlanRow.{PlanRow}
 use Rattle.digit_words.specs.Asked.{askedOf, answered}
-use Rattle.digit_words.proofs.WordLaws.{Bytes}
+use Rattle.byte_words.proofs.WordLaws.{Bytes}
 use Rattle.digit_words.proofs.Outcomes.{item-field}
 use Rattle.text_words.specs.Texts.{fitsText, textWord}
 use Rattle.text_words.proofs.Outcomes.{texts-by-words}

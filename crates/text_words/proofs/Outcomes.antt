@@ -21,7 +21,7 @@ use Rattle.values.specs.Comparison.{Side, sideOf, numeric, comparison, fault}
 use Rattle.values.specs.Truth.{truth, outcome}
 use Rattle.values.proofs.Faults.{fault-flag, relation-goes}
 use Rattle.digit_words.specs.Asked.{askedOf, answered}
-use Rattle.digit_words.proofs.WordLaws.{Bytes}
+use Rattle.byte_words.proofs.WordLaws.{Bytes}
 use Rattle.digit_words.proofs.AskedLaws.{asked-answers}
 use Rattle.text_words.specs.Texts.{fitsText, textWord}
 use Rattle.text_words.proofs.TextLaws.{text-order}

@@ -16,8 +16,8 @@ use Rattle.compare.specs.Order.{order}
 use Rattle.compare.specs.Compared.{thenOrder, byteOrder, filled, characterOrder}
 use Rattle.compare.proofs.OrderLaws.{order-lt, order-eq, order-gt}
 use Rattle.numbers.proofs.NumberLaws.{order-same}
-use Rattle.digit_words.specs.Words.{wordFrom}
-use Rattle.digit_words.proofs.WordLaws.{Bytes, none, more, bytes-take, bytes-drop, ends-there, last-bytes, word-append, word-parts, word-below}
+use Rattle.byte_words.specs.Words.{wordFrom}
+use Rattle.byte_words.proofs.WordLaws.{Bytes, none, more, bytes-take, bytes-drop, ends-there, last-bytes, word-append, word-parts, word-below}
 use Rattle.text_words.specs.Texts.{textWord}
 
 -- spaces

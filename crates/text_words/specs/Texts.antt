@@ -6,7 +6,7 @@ use lib.Dec.{eqb, leb}
 use Rattle.tables.specs.declared.Row.{Row}
 use Rattle.tables.specs.Rows.{isGroup}
 use Rattle.compare.specs.Compared.{filled}
-use Rattle.digit_words.specs.Words.{wordFrom}
+use Rattle.byte_words.specs.Words.{wordFrom}
 
 -- A row that is read so: a group or kind 2 of at most 8 bytes. Of kind 1 a relation looks at the letters.
 abbrev pub fitsText : Row → Bool

@@ -2,10 +2,10 @@
 ghost use mathlib.Core.Path.{_≡_};
 ghost use Prim.Native.Nat.{_+_, _-_, _*_, _^_, _≤_, _<_};
 ghost use lib.ListN.{length, take, drop, replicate};
-ghost use Rattle.digit_words.specs.Words.{wordFrom};
+ghost use Rattle.byte_words.specs.Words.{wordFrom};
 ghost use Rattle.text_words.specs.Texts.{fitsText, textWord};
-use digit_words::words::mask;
-use digit_words::words::word_before;
+use byte_words::words::mask;
+use byte_words::words::word_before;
 use tables::Row;
 use tables::rows::is_group;
 

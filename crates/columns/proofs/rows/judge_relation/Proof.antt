@@ -12,7 +12,7 @@ use Rattle.tables.specs.Operands.{Lent, lendNames, rowOf}
 use Rattle.tables.proofs.Tests.{both}
 use Rattle.values.specs.Truth.{Sided}
 use Rattle.values.proofs.Reading.{read-relation}
-use Rattle.digit_words.proofs.WordLaws.{Bytes, bytes-of}
+use Rattle.byte_words.proofs.WordLaws.{Bytes, bytes-of}
 use Rattle.columns.proofs.Sides.{Worded, first-readable, first-within, field-of, within-unnamed, word-size, items-right, object-right, subject-right}
 use Rattle.columns.proofs.rows.judge_relation.Statement.{statement}
 use Rattle.columns.proofs.rows.judge_relation.Tie as tie

@@ -11,7 +11,7 @@ use Rattle.tables.specs.Operands.{Lent, lendNames}
 use Rattle.tables.proofs.Tests.{both}
 use Rattle.values.specs.Truth.{Sided}
 use Rattle.values.proofs.Reading.{read-relation}
-use Rattle.digit_words.proofs.WordLaws.{Bytes, bytes-of}
+use Rattle.byte_words.proofs.WordLaws.{Bytes, bytes-of}
 use Rattle.columns.proofs.Sides.{first-readable, first-within, item-inside, within-unnamed}
 use Rattle.text_columns.proofs.Sides.{Texts, longer, short, text-of, literal-of, items-right, object-right, subject-right}
 use borrow.Author.Needs.{needs}

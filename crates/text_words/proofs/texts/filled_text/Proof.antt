@@ -2,7 +2,7 @@
 use native.Mathlib.Omega.{arith}
 use denote.Ref.{now}
 use borrow.Author.Needs.{needs}
-use Rattle.digit_words.proofs.WordLaws.{bytes-of}
+use Rattle.byte_words.proofs.WordLaws.{bytes-of}
 use Rattle.text_words.proofs.TextLaws.{text-below, text-filled}
 use Rattle.text_words.proofs.texts.filled_text.Statement.{statement}
 use Rattle.text_words.proofs.texts.filled_text.Tie as tie

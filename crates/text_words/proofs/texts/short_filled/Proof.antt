@@ -5,8 +5,8 @@ use native.Mathlib.Omega.{arith}
 use denote.Ref.{now}
 use lib.ListN.{length, take}
 use borrow.Author.Needs.{needs}
-use Rattle.digit_words.specs.Words.{wordFrom}
-use Rattle.digit_words.proofs.WordLaws.{bytes-of}
+use Rattle.byte_words.specs.Words.{wordFrom}
+use Rattle.byte_words.proofs.WordLaws.{bytes-of}
 use Rattle.text_words.proofs.TextLaws.{plain-more, plain-room, plain-end, plain-filled}
 use Rattle.text_words.proofs.texts.short_filled.Statement.{statement}
 use Rattle.text_words.proofs.texts.short_filled.Tie as tie

@@ -1,8 +1,8 @@
 -- Rests on what a shift leaves of ones.
 use borrow.Author.Needs.{needs}
-use Rattle.digit_words.proofs.WordLaws.{mask-is}
-use Rattle.digit_words.proofs.words.mask.Statement.{statement}
-use Rattle.digit_words.proofs.words.mask.Tie as tie
+use Rattle.byte_words.proofs.WordLaws.{mask-is}
+use Rattle.byte_words.proofs.words.mask.Statement.{statement}
+use Rattle.byte_words.proofs.words.mask.Tie as tie
 
 mul-result : tie.Need-mul-result
 mul-result c = search needs

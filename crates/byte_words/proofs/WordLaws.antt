@@ -9,7 +9,7 @@ use lib.ListN.{length, getD, take, drop, replicate, length-drop, length-map}
 use lib.Seq.{take-suc, take-nil, take-add, drop-drop, drop-cons, length-take-le}
 use lib.Bits.{bitAnd, bitOr, bitXor, or-shifted, xor-block, xor-lt, and-mask}
 use lib.Pow.{pow-add, pow-mono, shl-lt, shl-exact, low, high, ones-split, ones-lt}
-use Rattle.digit_words.specs.Words.{wordFrom, digitOf, digitWord}
+use Rattle.byte_words.specs.Words.{wordFrom, digitOf, digitWord}
 
 -- one byte more below
 joined : (y k x : ℕ) → x < 256 → bitOr (y * 2 ^ (8 + k)) (x * 2 ^ k) ≡ (y * 256 + x) * 2 ^ k

@@ -1,8 +1,8 @@
 -- Rests on the law of the test of eight bytes at once.
 use borrow.Author.Needs.{needs}
-use Rattle.digit_words.proofs.TestLaws.{test-is}
-use Rattle.digit_words.proofs.words.all_digits.Statement.{statement}
-use Rattle.digit_words.proofs.words.all_digits.Tie as tie
+use Rattle.byte_words.proofs.TestLaws.{test-is}
+use Rattle.byte_words.proofs.words.all_digits.Statement.{statement}
+use Rattle.byte_words.proofs.words.all_digits.Tie as tie
 
 wrapping-add-u64-requires : tie.Need-wrapping-add-u64-requires
 wrapping-add-u64-requires c κs = search needs

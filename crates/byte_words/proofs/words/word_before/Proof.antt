@@ -3,9 +3,9 @@ use borrow.Author.Needs.{needs}
 use Prim.Native.Nat.{_-_}
 use native.Mathlib.Omega.{arith}
 use denote.Ref.{now}
-use Rattle.digit_words.proofs.WordLaws.{eight-listed}
-use Rattle.digit_words.proofs.words.word_before.Statement.{statement}
-use Rattle.digit_words.proofs.words.word_before.Tie as tie
+use Rattle.byte_words.proofs.WordLaws.{eight-listed}
+use Rattle.byte_words.proofs.words.word_before.Statement.{statement}
+use Rattle.byte_words.proofs.words.word_before.Tie as tie
 
 sub-at : tie.Need-sub-at
 sub-at c = search needs

@@ -7,10 +7,10 @@ use native.Mathlib.Decide.{ℕ-discrete}
 use native.Mathlib.Nat.{mod-lt, div-add-mod', mod-eq-of-lt}
 use lib.Bits.{bitAnd, bitOr, or-block, and-block, or-lt, or-shr, and-high, or-add-and, and-le-r, and-zero-r}
 use lib.Dec.{eqb, leb}
-use Rattle.digit_words.proofs.WordLaws.{eight-more}
+use Rattle.byte_words.proofs.WordLaws.{eight-more}
 use borrow.Author.Tests.{leb-true, le-leb, eqb-true, eq-eqb, ne-eqb}
 use Rattle.tables.proofs.Tests.{both}
-use Rattle.digit_words.specs.Words.{digitsIn}
+use Rattle.byte_words.specs.Words.{digitsIn}
 
 -- the constants: one byte k times
 unfoldable pub each : ℕ → ℕ → ℕ
@@ -36,7 +36,7 @@ left-half x y h g e =
     omega arith
 
 -- a word and another, byte by byte
-split-word : (x : ℕ) → x / 256 * 2 ^ 8 + x % 256 ≡ x
+pub split-word : (x : ℕ) → x / 256 * 2 ^ 8 + x % 256 ≡ x
 split-word x = div-add-mod' x 256
 
 by-bytes : (x y m b : ℕ) → b < 256

@@ -2,9 +2,9 @@
 use mathlib.Core.Path.{subst⁻¹}
 use Prim.Native.Nat.{ℕ, _<_}
 use borrow.Author.Needs.{needs}
-use Rattle.digit_words.proofs.WordLaws.{digit-below}
-use Rattle.digit_words.proofs.words.digit_of.Statement.{statement}
-use Rattle.digit_words.proofs.words.digit_of.Tie as tie
+use Rattle.byte_words.proofs.WordLaws.{digit-below}
+use Rattle.byte_words.proofs.words.digit_of.Statement.{statement}
+use Rattle.byte_words.proofs.words.digit_of.Tie as tie
 
 wide-requires : tie.Need-wide-requires
 wide-requires c κs = search needs

@@ -4,10 +4,10 @@ use Prim.Native.Nat.{ℕ, _+_, _*_, _^_}
 use native.Mathlib.Omega.{arith}
 use native.Mathlib.Nat.{zero-add}
 use lib.Pow.{shl-exact}
-use Rattle.digit_words.specs.Words.{wordFrom}
-use Rattle.digit_words.proofs.WordLaws.{join-more, join-last}
-use Rattle.digit_words.proofs.words.join.Statement.{statement}
-use Rattle.digit_words.proofs.words.join.Tie as tie
+use Rattle.byte_words.specs.Words.{wordFrom}
+use Rattle.byte_words.proofs.WordLaws.{join-more, join-last}
+use Rattle.byte_words.proofs.words.join.Statement.{statement}
+use Rattle.byte_words.proofs.words.join.Tie as tie
 
 returns : tie.Need-returns
 unfolding wordFrom

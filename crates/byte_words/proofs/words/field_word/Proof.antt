@@ -1,9 +1,9 @@
 -- Rests on the word of the 8 bytes before the end and on the mask, by the law of the field that ends them.
 use denote.Ref.{now}
 use borrow.Author.Needs.{needs}
-use Rattle.digit_words.proofs.WordLaws.{bytes-of, field-is}
-use Rattle.digit_words.proofs.words.field_word.Statement.{statement}
-use Rattle.digit_words.proofs.words.field_word.Tie as tie
+use Rattle.byte_words.proofs.WordLaws.{bytes-of, field-is}
+use Rattle.byte_words.proofs.words.field_word.Statement.{statement}
+use Rattle.byte_words.proofs.words.field_word.Tie as tie
 
 word-before-requires : tie.Need-word-before-requires
 word-before-requires c κs = search needs

@@ -6,10 +6,10 @@ use denote.Ref.{now}
 use lib.ListN.{length, take}
 use lib.Seq.{take-all}
 use borrow.Author.Needs.{needs}
-use Rattle.digit_words.specs.Words.{wordFrom, digitWord}
-use Rattle.digit_words.proofs.WordLaws.{bytes-of, word-more, word-room}
-use Rattle.digit_words.proofs.words.short_word.Statement.{statement}
-use Rattle.digit_words.proofs.words.short_word.Tie as tie
+use Rattle.byte_words.specs.Words.{wordFrom, digitWord}
+use Rattle.byte_words.proofs.WordLaws.{bytes-of, word-more, word-room}
+use Rattle.byte_words.proofs.words.short_word.Statement.{statement}
+use Rattle.byte_words.proofs.words.short_word.Tie as tie
 
 abbrev Inv-loop : tie.InvT-loop
 Inv-loop bytes word₀ i₀ word i = (i ≤ length bytes) × (word ≡ digitWord (take i bytes))
