@@ -56,6 +56,10 @@ wordAt records from size end width k = digitWord (take width (drop (from + k * s
 abbrev pub compared : Bool → ℕ → ℕ → ℕ → ℕ → ℕ → ℕ
 compared valid less same more a b = cond valid (cond (ltb a b) less (cond (eqb a b) same more)) 2
 
+-- the truth of a test of two words, of two truths; or 2 where the words are not valid
+abbrev pub tested : Bool → Bool → ℕ → ℕ → ℕ
+tested valid test holds fails = cond valid (cond test holds fails) 2
+
 abbrev pub bit : Bool → ℕ
 bit b = cond b 1 0
 

@@ -11,7 +11,8 @@ ghost use Rattle.values.specs.Truth.{turned};
 ghost use Rattle.byte_words.specs.Words.{digitWord, digitsIn};
 ghost use Rattle.columns.specs.Columns.{bit, coded, related, relatedTo, fieldAt, Laid, Field, Related, JudgesAll, Judgeable};
 use crate::words::compare_field;
-use crate::words::compare_fields;
+use crate::words::less_fields;
+use crate::words::same_fields;
 use crate::words::test_field;
 use digit_words::Asked;
 use digit_words::rows::asked_of;
@@ -79,10 +80,41 @@ fn relate_fields(
     requires { ⌜ Field size (row1 .offset + row1 .size) (row1 .size) × Field size (row2 .offset + row2 .size) (row2 .size) ⌝ }
     ensures { λ _. ⌜ ((k : ℕ) → k < n → getD (now (truths .exit)) k 0 ≡ related asked (digitsIn 8 (fieldAt (now (records .entry)) from size row1 k) && digitsIn 8 (fieldAt (now (records .entry)) from size row2 k)) (fieldAt (now (records .entry)) from size row1 k) (fieldAt (now (records .entry)) from size row2 k)) ⌝ }
 {
-    let less = code(asked, true, false, false);
-    let same = code(asked, false, true, false);
-    let more = code(asked, false, false, true);
-    compare_fields(
+    let holds = truth_bit(asked.turned, true);
+    let fails = truth_bit(asked.turned, false);
+    if asked.equal {
+        same_fields(
+            records,
+            from,
+            size,
+            n,
+            end_of(row1),
+            wide(row1.size),
+            end_of(row2),
+            wide(row2.size),
+            holds,
+            fails,
+            truths,
+        );
+        return;
+    }
+    if asked.second {
+        less_fields(
+            records,
+            from,
+            size,
+            n,
+            end_of(row2),
+            wide(row2.size),
+            end_of(row1),
+            wide(row1.size),
+            holds,
+            fails,
+            truths,
+        );
+        return;
+    }
+    less_fields(
         records,
         from,
         size,
@@ -91,9 +123,8 @@ fn relate_fields(
         wide(row1.size),
         end_of(row2),
         wide(row2.size),
-        less,
-        same,
-        more,
+        holds,
+        fails,
         truths,
     );
 }
