@@ -1,7 +1,7 @@
 // Which rows are judged by words: a relation of two unsigned fields of up to 8 digits at one scale, of which one may be a literal, and NUMERIC
 // of such a field.
 ghost use mathlib.Core.Path.{_≡_};
-ghost use mathlib.Core.Bool.{true, cond, _&&_};
+ghost use mathlib.Core.Bool.{true, false, cond, _&&_};
 ghost use Prim.Native.Nat.{ℕ, _+_, _-_, _<_, _≤_};
 ghost use lib.ListN.{length, getD, take, drop};
 ghost use Rattle.tables.specs.Operands.{lend, lendNames, operandBytes, Within};
@@ -14,11 +14,11 @@ use crate::words::compare_field;
 use crate::words::less_fields;
 use crate::words::same_fields;
 use crate::words::test_field;
+use byte_words::words::all_digits;
+use byte_words::words::short_word;
 use digit_words::Asked;
 use digit_words::rows::asked_of;
 use digit_words::rows::fits_word;
-use byte_words::words::all_digits;
-use byte_words::words::short_word;
 use grammar::PlanRow;
 use places::choose;
 use tables::Row;
@@ -182,6 +182,7 @@ fn relate_literal<'a>(
     requires { ⌜ Field size (row .offset + row .size) (row .size) × (from + size ≤ length (now records)) ⌝ }
     requires { ⌜ Within (lend (now items) (now literals) (now bytes)) (take (from + size - from) (drop from (now records))) token × (length (operandBytes (lend (now items) (now literals) (now bytes)) (take (from + size - from) (drop from (now records))) token) ≤ 8) ⌝ }
     ensures { λ r. ⌜ (r ≡ true → Related (now (records .entry)) from size n row asked exchanged (digitWord (operandBytes (lend (now (items .entry)) (now (literals .entry)) (now (bytes .entry))) (take (from + size - from) (drop from (now (records .entry)))) token)) (now (truths .exit))) ⌝ }
+    ensures { λ r. ⌜ (r ≡ false → now (truths .exit) ≡ now (truths .entry)) ⌝ }
 {
     let first = &records[from..from + size];
     let word = short_word(operand_bytes(token, items, literals, bytes, first));
@@ -211,6 +212,7 @@ fn judge_relation<'a>(
     requires { ⌜ Judgeable (lendNames (now items) (now literals) (now bytes) (now names)) (now records) from size n condition × (8 ≤ from) × (length (now truths) ≡ 64) ⌝ }
     requires { ⌜ testOf (condition .relation) ≡ Relation word negated ⌝ }
     ensures { λ r. ⌜ (r ≡ true → JudgesAll (lendNames (now (items .entry)) (now (literals .entry)) (now (bytes .entry)) (now (names .entry))) (now (records .entry)) from size n switches condition (now (truths .exit))) ⌝ }
+    ensures { λ r. ⌜ (r ≡ false → now (truths .exit) ≡ now (truths .entry)) ⌝ }
 {
     let subject = condition.subject;
     let object = condition.object;
@@ -277,6 +279,7 @@ fn judge_numeric<'a>(
     requires { ⌜ Judgeable (lendNames (now items) (now literals) (now bytes) (now names)) (now records) from size n condition × (8 ≤ from) × (length (now truths) ≡ 64) ⌝ }
     requires { ⌜ testOf (condition .relation) ≡ Class 10 negated ⌝ }
     ensures { λ r. ⌜ (r ≡ true → JudgesAll (lendNames (now (items .entry)) (now (literals .entry)) (now (bytes .entry)) (now (names .entry))) (now (records .entry)) from size n switches condition (now (truths .exit))) ⌝ }
+    ensures { λ r. ⌜ (r ≡ false → now (truths .exit) ≡ now (truths .entry)) ⌝ }
 {
     let subject = condition.subject;
     let row = row_of(subject, items, literals);
@@ -315,6 +318,7 @@ pub fn judge_columns<'a>(
 ) -> bool
     requires { ⌜ Judgeable (lendNames (now items) (now literals) (now bytes) (now names)) (now records) from size n condition × (length (now truths) ≡ 64) ⌝ }
     ensures { λ r. ⌜ (r ≡ true → JudgesAll (lendNames (now (items .entry)) (now (literals .entry)) (now (bytes .entry)) (now (names .entry))) (now (records .entry)) from size n switches condition (now (truths .exit))) ⌝ }
+    ensures { λ r. ⌜ (r ≡ false → now (truths .exit) ≡ now (truths .entry)) ⌝ }
 {
     if from < 8 {
         return false;

@@ -10,7 +10,7 @@ order-of-requires : tie.Need-order-of-requires
 order-of-requires c κs = search needs
 
 returns : tie.Need-returns
-returns c = 
+returns c =
     let a = c .before .before .args in
     c .order-of .ensures ∙ sym (same-scale (a .d1) (a .d2) (c .before .if1 .taken))
 
@@ -21,7 +21,7 @@ raised-first-requires : tie.Need-raised-first-requires
 raised-first-requires c κs = search needs
 
 returns-2 : tie.Need-returns-2
-returns-2 c = 
+returns-2 c =
     let a = c .before .before .before .args in
     c .raised-first .ensures ∙ sym (first-raised (a .d1) (a .d2) (a .s1) (a .s2) (omega arith))
 
@@ -29,7 +29,7 @@ raised-second-requires : tie.Need-raised-second-requires
 raised-second-requires c κs = search needs
 
 returns-3 : tie.Need-returns-3
-returns-3 c = 
+returns-3 c =
     let a = c .before .before .before .args in
     c .raised-second .ensures ∙ sym (second-raised (a .d1) (a .d2) (a .s1) (a .s2) (omega arith))
 

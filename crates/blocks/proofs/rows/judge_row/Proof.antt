@@ -1,5 +1,5 @@
 -- By the kind of row.
-use mathlib.Core.Path.{_≡_, sym, ap, _∙_}
+use mathlib.Core.Path.{_≡_, sym, ap, _∙_, refl}
 use mathlib.Core.Bool.{_&&_, not, true, false}
 use Prim.Native.Nat.{ℕ, _+_, _≤_}
 use native.Mathlib.Omega.{arith}
@@ -52,7 +52,7 @@ same-length-2 : tie.Need-same-length-2
 same-length-2 c = search needs
 
 returns-2 : tie.Need-returns-2
-returns-2 c = λ j l _. c .before .before .before .judge-columns .ensures (c .if2 .taken) j l
+returns-2 c = λ j l _. c .before .before .before .judge-columns .ensures .0 (c .if2 .taken) j l
 
 judge-texts-requires : tie.Need-judge-texts-requires
 judge-texts-requires c κs =
@@ -63,7 +63,7 @@ same-length-3 : tie.Need-same-length-3
 same-length-3 c = search needs
 
 returns-3 : tie.Need-returns-3
-returns-3 c = λ j l _. c .before .before .before .judge-texts .ensures (c .if3 .taken) j l
+returns-3 c = λ j l _. c .before .before .before .judge-texts .ensures .0 (c .if3 .taken) j l
 
 judge-fields-requires : tie.Need-judge-fields-requires
 judge-fields-requires c κs =
@@ -74,7 +74,7 @@ same-length-4 : tie.Need-same-length-4
 same-length-4 c = search needs
 
 returns-4 : tie.Need-returns-4
-returns-4 c = c .before .before .before .judge-fields .ensures (c .if4 .taken)
+returns-4 c = c .before .before .before .judge-fields .ensures .0 (c .if4 .taken)
 
 judge-each-requires : tie.Need-judge-each-requires
 judge-each-requires c κs =

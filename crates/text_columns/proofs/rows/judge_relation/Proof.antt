@@ -1,5 +1,5 @@
 -- By the kinds of the two sides.
-use mathlib.Core.Path.{_≡_, sym, _∙_}
+use mathlib.Core.Path.{_≡_, sym, _∙_, refl}
 use mathlib.Core.Bool.{false≢true}
 use mathlib.Core.List.{List}
 use Prim.Native.Nat.{ℕ, _+_, _-_}
@@ -62,7 +62,7 @@ fits-text-requires-2 : tie.Need-fits-text-requires-2
 fits-text-requires-2 c κs = search needs
 
 returns : tie.Need-returns
-returns c = λ e. absurd (false≢true e)
+returns c = (λ e. absurd (false≢true e), λ _. refl)
 
 asked-of-requires : tie.Need-asked-of-requires
 asked-of-requires c κs = search needs
@@ -93,14 +93,17 @@ same-length : tie.Need-same-length
 same-length c = search needs
 
 returns-2 : tie.Need-returns-2
-returns-2 c = λ _ k l.
-    let e = c .before .before .before .before .before .before .before .before in
-    let s = entry e in
-    let J = s .pre .0 .0 in
-    let i = sym (c .before .before .before .before .before .before .before .is-item .ensures) ∙ c .before .before .before .before .before .before .if2 .taken in
-    let j = sym (c .before .before .before .before .before .is-item2 .ensures) ∙ c .before .before .before .before .if3 .taken in
-    items-right J (s .args .switches) (in-file e .0) (in-file e .1) k l (s .pre .1) (texts e) i j (item-inside J (sides s .0) i) (item-inside J (sides s .1) j)
-    (rw (e .before .before .before .before .before .before .row-of .ensures, e .before .before .before .before .before .row-of2 .ensures, e .before .asked-of .ensures, filled e) at (c .before .before .relate-texts .ensures k l))
+returns-2 c = (
+  λ _ k l.
+      let e = c .before .before .before .before .before .before .before .before in
+      let s = entry e in
+      let J = s .pre .0 .0 in
+      let i = sym (c .before .before .before .before .before .before .before .is-item .ensures) ∙ c .before .before .before .before .before .before .if2 .taken in
+      let j = sym (c .before .before .before .before .before .is-item2 .ensures) ∙ c .before .before .before .before .if3 .taken in
+      items-right J (s .args .switches) (in-file e .0) (in-file e .1) k l (s .pre .1) (texts e) i j (item-inside J (sides s .0) i) (item-inside J (sides s .1) j)
+      (rw (e .before .before .before .before .before .before .row-of .ensures, e .before .before .before .before .before .row-of2 .ensures, e .before .asked-of .ensures, filled e) at (c .before .before .relate-texts .ensures k l)),
+  λ e. absurd (false≢true (sym e)),
+)
 
 relate-literal-requires : tie.Need-relate-literal-requires
 relate-literal-requires c κs =
@@ -120,14 +123,17 @@ same-length-2 : tie.Need-same-length-2
 same-length-2 c = search needs
 
 returns-3 : tie.Need-returns-3
-returns-3 c = λ _ k l.
-    let e = c .before .before .before .before .before .before .before .before in
-    let s = entry e in
-    let J = s .pre .0 .0 in
-    let i = sym (c .before .before .before .before .before .before .before .is-item .ensures) ∙ c .before .before .before .before .before .before .if2 .taken in
-    let j = sym (c .before .before .before .before .before .is-item2 .ensures) ∙ c .before .before .before .before .if3 .left in
-    object-right J (s .args .switches) (in-file e .0) (in-file e .1) k l (s .pre .1) (texts e) (first s) i j (item-inside J (sides s .0) i)
-    (rw (e .before .before .before .before .before .before .row-of .ensures, e .before .asked-of .ensures, filled e) at (c .before .before .relate-literal .ensures k l))
+returns-3 c = (
+  λ _ k l.
+      let e = c .before .before .before .before .before .before .before .before in
+      let s = entry e in
+      let J = s .pre .0 .0 in
+      let i = sym (c .before .before .before .before .before .before .before .is-item .ensures) ∙ c .before .before .before .before .before .before .if2 .taken in
+      let j = sym (c .before .before .before .before .before .is-item2 .ensures) ∙ c .before .before .before .before .if3 .left in
+      object-right J (s .args .switches) (in-file e .0) (in-file e .1) k l (s .pre .1) (texts e) (first s) i j (item-inside J (sides s .0) i)
+      (rw (e .before .before .before .before .before .before .row-of .ensures, e .before .asked-of .ensures, filled e) at (c .before .before .relate-literal .ensures k l)),
+  λ e. absurd (false≢true (sym e)),
+)
 
 is-item-requires-3 : tie.Need-is-item-requires-3
 is-item-requires-3 c κs = search needs
@@ -150,17 +156,20 @@ same-length-3 : tie.Need-same-length-3
 same-length-3 c = search needs
 
 returns-4 : tie.Need-returns-4
-returns-4 c = λ _ k l.
-    let e = c .before .before .before .before .before .before .before .before in
-    let s = entry e in
-    let J = s .pre .0 .0 in
-    let i = sym (c .before .before .before .before .before .before .before .is-item .ensures) ∙ c .before .before .before .before .before .before .if2 .left in
-    let j = sym (c .before .before .before .before .before .is-item3 .ensures) ∙ c .before .before .before .before .if4 .taken in
-    subject-right J (s .args .switches) (in-file e .0) (in-file e .1) k l (s .pre .1) (texts e) (first s) i j (item-inside J (sides s .1) j)
-    (rw (e .before .before .before .before .before .row-of2 .ensures, e .before .asked-of .ensures, filled e) at (c .before .before .relate-literal2 .ensures k l))
+returns-4 c = (
+  λ _ k l.
+      let e = c .before .before .before .before .before .before .before .before in
+      let s = entry e in
+      let J = s .pre .0 .0 in
+      let i = sym (c .before .before .before .before .before .before .before .is-item .ensures) ∙ c .before .before .before .before .before .before .if2 .left in
+      let j = sym (c .before .before .before .before .before .is-item3 .ensures) ∙ c .before .before .before .before .if4 .taken in
+      subject-right J (s .args .switches) (in-file e .0) (in-file e .1) k l (s .pre .1) (texts e) (first s) i j (item-inside J (sides s .1) j)
+      (rw (e .before .before .before .before .before .row-of2 .ensures, e .before .asked-of .ensures, filled e) at (c .before .before .relate-literal2 .ensures k l)),
+  λ e. absurd (false≢true (sym e)),
+)
 
 returns-5 : tie.Need-returns-5
-returns-5 c = λ e. absurd (false≢true e)
+returns-5 c = (λ e. absurd (false≢true e), λ _. refl)
 
 pub judge-relation-spec : {M : Type 1} → statement M
 judge-relation-spec =

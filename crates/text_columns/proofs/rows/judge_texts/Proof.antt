@@ -1,5 +1,5 @@
 -- By what the row tests.
-use mathlib.Core.Path.{_≡_, sym, _∙_}
+use mathlib.Core.Path.{_≡_, sym, _∙_, refl}
 use mathlib.Core.Bool.{false≢true}
 use native.Mathlib.Omega.{arith}
 use borrow.Author.Needs.{needs}
@@ -7,7 +7,7 @@ use Rattle.text_columns.proofs.rows.judge_texts.Statement.{statement}
 use Rattle.text_columns.proofs.rows.judge_texts.Tie as tie
 
 returns : tie.Need-returns
-returns c = λ e. absurd (false≢true e)
+returns c = (λ e. absurd (false≢true e), λ _. refl)
 
 test-of-requires : tie.Need-test-of-requires
 test-of-requires c κs = search needs
@@ -39,16 +39,16 @@ returns-2 : tie.Need-returns-2
 returns-2 c = search needs
 
 returns-3 : tie.Need-returns-3
-returns-3 c = λ e. absurd (false≢true e)
+returns-3 c = (λ e. absurd (false≢true e), λ _. refl)
 
 returns-4 : tie.Need-returns-4
-returns-4 c = λ e. absurd (false≢true e)
+returns-4 c = (λ e. absurd (false≢true e), λ _. refl)
 
 returns-5 : tie.Need-returns-5
-returns-5 c = λ e. absurd (false≢true e)
+returns-5 c = (λ e. absurd (false≢true e), λ _. refl)
 
 returns-6 : tie.Need-returns-6
-returns-6 c = λ e. absurd (false≢true e)
+returns-6 c = (λ e. absurd (false≢true e), λ _. refl)
 
 pub judge-texts-spec : {M : Type 1} → statement M
 judge-texts-spec =
