@@ -1,0 +1,128 @@
+-- One record after the other.
+use mathlib.Core.Path.{_≡_, ap, ap₂, _∙_}
+use mathlib.Core.Bool.{cond}
+use mathlib.Core.List.{List}
+use mathlib.Core.Logic.{⊎-elim}
+use Prim.Native.Nat.{ℕ, _+_, _*_, _-_, _≤_}
+use native.Mathlib.Omega.{arith}
+use lib.ListN.{getD}
+use denote.Ref.{now}
+use borrow.Author.Needs.{needs}
+use Rattle.tables.specs.Rows.{part}
+use Rattle.values.specs.Comparison.{side}
+use Rattle.values.specs.Truth.{relationOutcome}
+use Rattle.columns.specs.Columns.{recordAt, Right}
+use Rattle.columns.proofs.Bases.{next-base}
+use Rattle.places.proofs.Storing.{Stored, none-stored, stores, skips}
+use Rattle.field_rows.proofs.Fitting.{right-for, at-record, item-inside}
+use Rattle.field_rows.proofs.each.relate_each.Statement.{statement}
+use Rattle.field_rows.proofs.each.relate_each.Tie as tie
+
+abbrev Inv-loop : tie.InvT-loop
+Inv-loop records from size n numeric item1 row1 left item2 row2 right word negated at place truths₀ base₀ j₀ truths base j =
+    (j ≤ n) × (base ≡ from + j * size)
+    × Stored (λ k v. getD at k 0 ≡ place → Right (relationOutcome word negated (side item1 row1 (cond item1 (part row1 (recordAt records from size k)) left))
+    (side item2 row2 (cond item2 (part row2 (recordAt records from size k)) right))) v) truths₀ truths j
+
+abbrev μ-loop : tie.MeasureT-loop
+μ-loop records from size n numeric item1 row1 left item2 row2 right word negated at place truths₀ base₀ j₀ truths base j = n - j
+
+loop-holds : tie.Need-loop-holds Inv-loop μ-loop
+loop-holds c = (omega arith, omega arith, none-stored _ _)
+
+shared-slice-read-if1 : tie.Need-shared-slice-read-if1 Inv-loop μ-loop
+shared-slice-read-if1 c = omega (arith, c .before .before .before .before .before .before .before .before .pre .0 .0 .few)
+
+add-record : tie.Need-add-record Inv-loop μ-loop
+add-record c = let l = c .before .before .before .loop in omega (arith, l .inv .1, c .before .before .before .before .before .before .before .before .before .pre .0 .0 .within (l .j) (c .before .before .loop-test .taken))
+
+sub-record : tie.Need-sub-record Inv-loop μ-loop
+sub-record c = omega arith
+
+part-record-start : tie.Need-part-record-start Inv-loop μ-loop
+part-record-start c = omega arith
+
+part-record-end : tie.Need-part-record-end Inv-loop μ-loop
+part-record-end c = let l = c .before .before .before .loop in omega (arith, l .inv .1, c .before .before .before .before .before .before .before .before .before .pre .0 .0 .within (l .j) (c .before .before .loop-test .taken))
+
+side-bytes-requires : tie.Need-side-bytes-requires Inv-loop μ-loop
+side-bytes-requires c κs = λ i.
+    let l = c .before .before .before .before .loop in
+    let a = c .before .before .before .before .before .before .before .before .before .before .args in
+    rw (at-record (now (a .records)) (a .from) (a .size) (l .j) (l .inv .1))
+    (item-inside (a .item1) (a .row1) _ (now (a .left)) (c .before .before .before .before .before .before .before .before .before .before .pre .1 (l .j) (c .before .before .before .loop-test .taken) .0) i)
+
+side-bytes-requires-2 : tie.Need-side-bytes-requires-2 Inv-loop μ-loop
+side-bytes-requires-2 c κs = λ i.
+    let l = c .before .before .before .before .before .loop in
+    let a = c .before .before .before .before .before .before .before .before .before .before .before .args in
+    rw (at-record (now (a .records)) (a .from) (a .size) (l .j) (l .inv .1))
+    (item-inside (a .item2) (a .row2) _ (now (a .right)) (c .before .before .before .before .before .before .before .before .before .before .before .pre .1 (l .j) (c .before .before .before .before .loop-test .taken) .1) i)
+
+side-truth-requires : tie.Need-side-truth-requires Inv-loop μ-loop
+side-truth-requires c κs =
+    let l = c .before .before .before .before .before .before .loop in
+    let start = c .before .before .before .before .before .before .before .before .before .before .before .before in
+    let a = start .args in
+    let f = start .pre .1 (l .j) (c .before .before .before .before .before .loop-test .taken) in
+    rw (c .before .side-bytes .ensures, c .side-bytes2 .ensures, at-record (now (a .records)) (a .from) (a .size) (l .j) (l .inv .1)) (f .0, f .1, start .pre .0 .3)
+
+slice-write-truths : tie.Need-slice-write-truths Inv-loop μ-loop
+slice-write-truths c = omega (arith, c .before .before .before .before .before .before .before .loop .inv .2 .long, c .before .before .before .before .before .before .before .before .before .before .before .before .before .pre .0 .0 .few)
+
+add-base : tie.Need-add-base Inv-loop μ-loop
+add-base c = let l = c .before .before .before .loop in omega (arith, l .inv .1, c .before .before .before .before .before .before .before .before .before .pre .0 .0 .within (l .j) (c .before .before .loop-test .taken))
+
+add-j : tie.Need-add-j Inv-loop μ-loop
+add-j c = omega arith
+
+loop-less : tie.Need-loop-less Inv-loop μ-loop
+loop-less c = omega arith
+
+loop-again : tie.Need-loop-again Inv-loop μ-loop
+loop-again c =
+    let l = c .before .before .before .loop in
+    let start = c .before .before .before .before .before .before .before .before .before in
+    let a = start .args in
+    let here = at-record (now (a .records)) (a .from) (a .size) (l .j) (l .inv .1) in (
+      omega arith,
+      next-base (a .from) (l .j) (a .size) (l .inv .1),
+      ⊎-elim
+          (λ w. rw (w .5) (stores _ _ (l .inv .2) (omega (arith, start .pre .0 .0 .few, start .pre .0 .2))
+          (λ _. right-for
+          (ap₂ (λ (x y : List ℕ). relationOutcome (a .word) (a .negated) (side (a .item1) (a .row1) x) (side (a .item2) (a .row2) y))
+          (w .2 .ensures ∙ ap (λ (x : List ℕ). cond (a .item1) (part (a .row1) x) (now (a .left))) here)
+          (w .3 .ensures ∙ ap (λ (x : List ℕ). cond (a .item2) (part (a .row2) x) (now (a .right))) here))
+          (w .4 .ensures))))
+          (λ w. rw (w .1) (skips _ _ (l .inv .2) (λ e. absurd (w .0 .left e))))
+          (c .if1 .came),
+    )
+
+same-length : tie.Need-same-length Inv-loop μ-loop
+same-length c = c .before .loop .inv .2 .long
+
+returns : tie.Need-returns Inv-loop μ-loop
+returns c = λ k l e. c .before .loop .inv .2 .done k (omega arith) e
+
+pub relate-each-spec : {M : Type 1} → statement M
+relate-each-spec =
+    tie.close
+    (tie.spec
+    Inv-loop
+    μ-loop
+    loop-holds
+    shared-slice-read-if1
+    add-record
+    sub-record
+    part-record-start
+    part-record-end
+    side-bytes-requires
+    side-bytes-requires-2
+    side-truth-requires
+    slice-write-truths
+    add-base
+    add-j
+    loop-less
+    loop-again
+    same-length
+    returns)
