@@ -12,6 +12,7 @@ use places::fill;
 use tables::Outcome;
 use tables::tokens::NAME;
 use tables::tokens::SPAN;
+use text_columns::rows::judge_texts;
 use truth::conditions::truth_of;
 
 // The truth of a row where it stops: it is not known here.
@@ -85,7 +86,8 @@ fn judge_each<'a>(
     }
 }
 
-// A switch row is judged once, one of digit fields by their words, one of other fields with its sides looked up once, and each other record by record.
+// A switch row is judged once, one of digit fields or of short texts by their words, one of other fields with its sides looked up once, and each
+// other record by record.
 pub(crate) fn judge_row<'a>(
     items: &[u32],
     literals: &[u32],
@@ -114,6 +116,21 @@ pub(crate) fn judge_row<'a>(
         return;
     }
     if judge_columns(
+        items,
+        literals,
+        bytes,
+        names,
+        records,
+        from,
+        size,
+        n,
+        switches,
+        condition,
+        truths,
+    ) {
+        return;
+    }
+    if judge_texts(
         items,
         literals,
         bytes,

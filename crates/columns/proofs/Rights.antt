@@ -10,7 +10,7 @@ use Rattle.tables.specs.declared.Outcome.the-variants.{True as Holds, False as 
 use Rattle.values.specs.Truth.{truth, turned}
 use Rattle.digit_words.specs.declared.Asked.{Asked}
 use Rattle.digit_words.specs.Asked.{answered}
-use Rattle.columns.specs.Columns.{bit, coded, compared, related, relatedTo, Right}
+use Rattle.columns.specs.Columns.{bit, coded, compared, tested, related, relatedTo, Right}
 
 -- a bit is its truth
 pub bit-right : (b : Bool) {out : Outcome} {v : ℕ} → out ≡ truth b → v ≡ bit b → Right out v
@@ -32,6 +32,17 @@ three-ways asked a b = by (ltb a b) (eqb a b) refl refl
         rw (l, ne-eqb a b (λ z. omega (arith, z, ltb-true a b l)), le-ltb b a (omega (arith, ltb-true a b l)))
     by false true l m = rw (l, m, le-ltb b a (omega (arith, eqb-true a b m)))
     by false false l m = rw (l, m, lt-ltb b a (omega (arith, ltb-false a b l, eqb-false a b m)))
+
+-- one test of two words, where it is the one that is asked
+chosen : (turn b : Bool) → cond b (bit (turned turn true)) (bit (turned turn false)) ≡ bit (turned turn b)
+chosen turn true = refl
+chosen turn false = refl
+
+pub asked-related : (asked : Asked) (a b : ℕ) (valid test : Bool) {v : ℕ} → cond (asked .equal) (eqb a b) (cond (asked .second) (ltb b a) (ltb a b)) ≡ test
+    → v ≡ tested valid test (bit (turned (asked .turned) true)) (bit (turned (asked .turned) false)) → v ≡ related asked valid a b
+asked-related asked a b true test f e =
+    e ∙ chosen (asked .turned) test ∙ ap (λ (t : Bool). bit (turned (asked .turned) t)) (sym f) ∙ sym (three-ways asked a b)
+asked-related asked a b false test f e = e
 
 -- two fields
 pub related-right : (asked : Asked) (a b : ℕ) (valid : Bool) {out : Outcome} {v : ℕ} → v ≡ related asked valid a b

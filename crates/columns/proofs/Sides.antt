@@ -19,9 +19,10 @@ use Rattle.typing.specs.declared.Test.the-variants.{Relation, Class}
 use Rattle.typing.specs.Tests.{testOf}
 use Rattle.values.specs.Truth.{truth, turned, Readable, Sided}
 use Rattle.grammar.specs.declared.PlanRow.{PlanRow}
-use Rattle.digit_words.specs.Words.{digitWord, digitsIn, fitsWord}
+use Rattle.byte_words.specs.Words.{digitWord, digitsIn}
+use Rattle.digit_words.specs.Words.{fitsWord}
 use Rattle.digit_words.specs.Asked.{askedOf, answered}
-use Rattle.digit_words.proofs.WordLaws.{Bytes, bytes-take, bytes-drop}
+use Rattle.byte_words.proofs.WordLaws.{Bytes, bytes-take, bytes-drop}
 use Rattle.digit_words.proofs.Outcomes.{operand-small, item-field, relation-by-words, numeric-by-word}
 use Rattle.columns.specs.Columns.{recordAt, outcomeAt, bit, fieldAt, related, relatedTo, Right, Laid, Judgeable, Field}
 use Rattle.columns.proofs.Rights.{bit-right, related-right, first-right, second-right}
@@ -54,17 +55,19 @@ module _ {lent : Lent} {records : List ℕ} {from size n : ℕ} {r : PlanRow} (J
       let width : from + size - from ≡ size = omega arith in
       rw width (length-take-le size (drop from records) (omega (arith, first-within, length-drop from records)))
 
-  -- an item that is read as a word is a field of each record
+  -- an item ends in each record
+  pub item-inside : {token : ℕ} → Sided lent (take (from + size - from) (drop from records)) token → isItem token ≡ true
+      → rowOf lent token .offset + rowOf lent token .size ≤ size
+  item-inside {token} s i =
+      let row = rowAt (lent .items) (indexOf token) in
+      let lies = leb-true (row .offset + row .size) (length (take (from + size - from) (drop from records))) (rw i at (s .within .lies)) in
+      rw i (omega (arith, lies, first-length))
+
+  -- one that is read as a word is a field of it
   pub field-of : {token : ℕ} → Sided lent (take (from + size - from) (drop from records)) token → isItem token ≡ true → fitsWord (rowOf lent token) ≡ true
       → Field size (rowOf lent token .offset + rowOf lent token .size) (rowOf lent token .size)
   field-of {token} s i f =
-      let row = rowAt (lent .items) (indexOf token) in
-      let lies = leb-true (row .offset + row .size) (length (take (from + size - from) (drop from records))) (rw i at (s .within .lies)) in
-      record {
-        some = row-facts (rowOf lent token) (s .fit .sound) .some;
-        most = word-size (rowOf lent token) f;
-        inside = rw i (omega (arith, lies, first-length));
-      }
+      record { some = row-facts (rowOf lent token) (s .fit .sound) .some; most = word-size (rowOf lent token) f; inside = item-inside s i }
 
 -- what is read of an operand needs no names
 pub within-unnamed : {items literals bytes names content : List ℕ} {token : ℕ} → Sided (lendNames items literals bytes names) content token
@@ -78,7 +81,7 @@ item-word lent records from size token k i l = ap digitWord (sym (item-field len
     (rowOf lent token .offset + rowOf lent token .size)) i l refl))
 
 module _ (lent : Lent) (records : List ℕ) (from size switches : ℕ) (r : PlanRow) (b : Bytes records) (m : Bytes (lent .bytes)) (k : ℕ) where
-  small : (token : ℕ) → Bytes (operandBytes lent (recordAt records from size k) token)
+  pub small : (token : ℕ) → Bytes (operandBytes lent (recordAt records from size k) token)
   small token = operand-small lent (recordAt records from size k) token (bytes-take size (bytes-drop (from + k * size) b)) m
 
   -- the words of the two sides

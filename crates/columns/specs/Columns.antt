@@ -12,7 +12,7 @@ use Rattle.tables.specs.Operands.{Lent}
 use Rattle.values.specs.Truth.{turned, outcome, Readable}
 use Rattle.grammar.specs.declared.PlanRow.{PlanRow}
 use Rattle.digit_words.specs.declared.Asked.{Asked}
-use Rattle.digit_words.specs.Words.{digitWord, digitsIn}
+use Rattle.byte_words.specs.Words.{digitWord, digitsIn}
 
 -- record j of the block
 abbrev pub recordAt : List ℕ → ℕ → ℕ → ℕ → List ℕ
@@ -55,6 +55,10 @@ wordAt records from size end width k = digitWord (take width (drop (from + k * s
 -- the truth of a comparison of words, of three truths: for less, for the same, and for more; or 2 where the words are not valid
 abbrev pub compared : Bool → ℕ → ℕ → ℕ → ℕ → ℕ → ℕ
 compared valid less same more a b = cond valid (cond (ltb a b) less (cond (eqb a b) same more)) 2
+
+-- the truth of a test of two words, of two truths; or 2 where the words are not valid
+abbrev pub tested : Bool → Bool → ℕ → ℕ → ℕ
+tested valid test holds fails = cond valid (cond test holds fails) 2
 
 abbrev pub bit : Bool → ℕ
 bit b = cond b 1 0

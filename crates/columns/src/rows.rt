@@ -1,24 +1,25 @@
 // Which rows are judged by words: a relation of two unsigned fields of up to 8 digits at one scale, of which one may be a literal, and NUMERIC
 // of such a field.
 ghost use mathlib.Core.Path.{_≡_};
-ghost use mathlib.Core.Bool.{true, cond, _&&_};
+ghost use mathlib.Core.Bool.{true, false, cond, _&&_};
 ghost use Prim.Native.Nat.{ℕ, _+_, _-_, _<_, _≤_};
 ghost use lib.ListN.{length, getD, take, drop};
 ghost use Rattle.tables.specs.Operands.{lend, lendNames, operandBytes, Within};
 ghost use Rattle.typing.specs.declared.Test.the-variants.{Relation, Class};
 ghost use Rattle.typing.specs.Tests.{testOf};
 ghost use Rattle.values.specs.Truth.{turned};
-ghost use Rattle.digit_words.specs.Words.{digitWord, digitsIn};
+ghost use Rattle.byte_words.specs.Words.{digitWord, digitsIn};
 ghost use Rattle.columns.specs.Columns.{bit, coded, related, relatedTo, fieldAt, Laid, Field, Related, JudgesAll, Judgeable};
 use crate::words::compare_field;
-use crate::words::compare_fields;
+use crate::words::less_fields;
+use crate::words::same_fields;
 use crate::words::test_field;
+use byte_words::words::all_digits;
+use byte_words::words::short_word;
 use content::Row;
 use digit_words::Asked;
 use digit_words::rows::asked_of;
 use digit_words::rows::fits_word;
-use digit_words::words::all_digits;
-use digit_words::words::short_word;
 use grammar::PlanRow;
 use places::choose;
 use tables::operands::operand_bytes;
@@ -27,14 +28,14 @@ use tables::tokens::is_item;
 use typing::Test;
 use typing::shape::test_of;
 
-fn wide(x: u32) -> usize
+pub fn wide(x: u32) -> usize
     ensures { λ r. ⌜ r ≡ x ⌝ }
 {
     x as usize
 }
 
 // Where a field ends in its record.
-fn end_of(row: Row) -> usize
+pub fn end_of(row: Row) -> usize
     ensures { λ r. ⌜ r ≡ row .offset + row .size ⌝ }
 {
     wide(row.offset) + wide(row.size)
@@ -57,7 +58,7 @@ fn truth_bit(negated: bool, holds: bool) -> u8
 }
 
 // The truth of what a relation asks, where the first word is less, the same, or more.
-fn code(asked: Asked, less: bool, same: bool, more: bool) -> u8
+pub fn code(asked: Asked, less: bool, same: bool, more: bool) -> u8
     ensures { λ r. ⌜ r ≡ coded asked less same more ⌝ }
 {
     let found = pick(asked.equal, same, pick(asked.second, more, less));
@@ -79,10 +80,41 @@ fn relate_fields(
     requires { ⌜ Field size (row1 .offset + row1 .size) (row1 .size) × Field size (row2 .offset + row2 .size) (row2 .size) ⌝ }
     ensures { λ _. ⌜ ((k : ℕ) → k < n → getD (now (truths .exit)) k 0 ≡ related asked (digitsIn 8 (fieldAt (now (records .entry)) from size row1 k) && digitsIn 8 (fieldAt (now (records .entry)) from size row2 k)) (fieldAt (now (records .entry)) from size row1 k) (fieldAt (now (records .entry)) from size row2 k)) ⌝ }
 {
-    let less = code(asked, true, false, false);
-    let same = code(asked, false, true, false);
-    let more = code(asked, false, false, true);
-    compare_fields(
+    let holds = truth_bit(asked.turned, true);
+    let fails = truth_bit(asked.turned, false);
+    if asked.equal {
+        same_fields(
+            records,
+            from,
+            size,
+            n,
+            end_of(row1),
+            wide(row1.size),
+            end_of(row2),
+            wide(row2.size),
+            holds,
+            fails,
+            truths,
+        );
+        return;
+    }
+    if asked.second {
+        less_fields(
+            records,
+            from,
+            size,
+            n,
+            end_of(row2),
+            wide(row2.size),
+            end_of(row1),
+            wide(row1.size),
+            holds,
+            fails,
+            truths,
+        );
+        return;
+    }
+    less_fields(
         records,
         from,
         size,
@@ -91,9 +123,8 @@ fn relate_fields(
         wide(row1.size),
         end_of(row2),
         wide(row2.size),
-        less,
-        same,
-        more,
+        holds,
+        fails,
         truths,
     );
 }
@@ -151,6 +182,7 @@ fn relate_literal<'a>(
     requires { ⌜ Field size (row .offset + row .size) (row .size) × (from + size ≤ length (now records)) ⌝ }
     requires { ⌜ Within (lend (now items) (now literals) (now bytes)) (take (from + size - from) (drop from (now records))) token × (length (operandBytes (lend (now items) (now literals) (now bytes)) (take (from + size - from) (drop from (now records))) token) ≤ 8) ⌝ }
     ensures { λ r. ⌜ (r ≡ true → Related (now (records .entry)) from size n row asked exchanged (digitWord (operandBytes (lend (now (items .entry)) (now (literals .entry)) (now (bytes .entry))) (take (from + size - from) (drop from (now (records .entry)))) token)) (now (truths .exit))) ⌝ }
+    ensures { λ r. ⌜ (r ≡ false → now (truths .exit) ≡ now (truths .entry)) ⌝ }
 {
     let first = &records[from..from + size];
     let word = short_word(operand_bytes(token, items, literals, bytes, first));
@@ -180,6 +212,7 @@ fn judge_relation<'a>(
     requires { ⌜ Judgeable (lendNames (now items) (now literals) (now bytes) (now names)) (now records) from size n condition × (8 ≤ from) × (length (now truths) ≡ 64) ⌝ }
     requires { ⌜ testOf (condition .relation) ≡ Relation word negated ⌝ }
     ensures { λ r. ⌜ (r ≡ true → JudgesAll (lendNames (now (items .entry)) (now (literals .entry)) (now (bytes .entry)) (now (names .entry))) (now (records .entry)) from size n switches condition (now (truths .exit))) ⌝ }
+    ensures { λ r. ⌜ (r ≡ false → now (truths .exit) ≡ now (truths .entry)) ⌝ }
 {
     let subject = condition.subject;
     let object = condition.object;
@@ -246,6 +279,7 @@ fn judge_numeric<'a>(
     requires { ⌜ Judgeable (lendNames (now items) (now literals) (now bytes) (now names)) (now records) from size n condition × (8 ≤ from) × (length (now truths) ≡ 64) ⌝ }
     requires { ⌜ testOf (condition .relation) ≡ Class 10 negated ⌝ }
     ensures { λ r. ⌜ (r ≡ true → JudgesAll (lendNames (now (items .entry)) (now (literals .entry)) (now (bytes .entry)) (now (names .entry))) (now (records .entry)) from size n switches condition (now (truths .exit))) ⌝ }
+    ensures { λ r. ⌜ (r ≡ false → now (truths .exit) ≡ now (truths .entry)) ⌝ }
 {
     let subject = condition.subject;
     let row = row_of(subject, items, literals);
@@ -284,6 +318,7 @@ pub fn judge_columns<'a>(
 ) -> bool
     requires { ⌜ Judgeable (lendNames (now items) (now literals) (now bytes) (now names)) (now records) from size n condition × (length (now truths) ≡ 64) ⌝ }
     ensures { λ r. ⌜ (r ≡ true → JudgesAll (lendNames (now (items .entry)) (now (literals .entry)) (now (bytes .entry)) (now (names .entry))) (now (records .entry)) from size n switches condition (now (truths .exit))) ⌝ }
+    ensures { λ r. ⌜ (r ≡ false → now (truths .exit) ≡ now (truths .entry)) ⌝ }
 {
     if from < 8 {
         return false;

@@ -2,26 +2,27 @@
 ghost use mathlib.Core.Path.{_≡_};
 ghost use mathlib.Core.Bool.{cond, _&&_};
 ghost use Prim.Native.Nat.{ℕ, _<_, _≤_};
+ghost use lib.Dec.{eqb, ltb};
 ghost use lib.ListN.{length, getD};
-ghost use Rattle.digit_words.specs.Words.{digitsIn};
-ghost use Rattle.columns.specs.Columns.{compared, wordAt, Laid, Field};
-use digit_words::words::all_digits;
-use digit_words::words::field_word;
+ghost use Rattle.byte_words.specs.Words.{digitsIn};
+ghost use Rattle.columns.specs.Columns.{compared, tested, wordAt, Laid, Field};
+use byte_words::words::all_digits;
+use byte_words::words::field_word;
 use places::choose;
 
 // The truth of a row that is not judged here.
 const UNJUDGED: u8 = 2;
 
 // By the order of two words, where they are valid.
-fn compare_words(valid: bool, a: u64, b: u64, less: u8, same: u8, more: u8) -> u8
+pub fn compare_words(valid: bool, a: u64, b: u64, less: u8, same: u8, more: u8) -> u8
     ensures { λ r. ⌜ r ≡ compared valid less same more a b ⌝ }
 {
     let known = choose(a < b, less, choose(a == b, same, more));
     choose(valid, known, UNJUDGED)
 }
 
-// Two fields of each record, told by where they end in it and by their bytes.
-pub(crate) fn compare_fields(
+// Whether the first of two fields of each record is less, told by where they end in it and by their bytes.
+pub(crate) fn less_fields(
     records: &[u8],
     from: usize,
     size: usize,
@@ -30,14 +31,13 @@ pub(crate) fn compare_fields(
     width1: usize,
     end2: usize,
     width2: usize,
-    less: u8,
-    same: u8,
-    more: u8,
+    holds: u8,
+    fails: u8,
     truths: &mut [u8],
 )
     requires { ⌜ Laid (now records) from size n × (8 ≤ from) × (length (now truths) ≡ 64) ⌝ }
     requires { ⌜ Field size end1 width1 × Field size end2 width2 ⌝ }
-    ensures { λ _. ⌜ ((k : ℕ) → k < n → getD (now (truths .exit)) k 0 ≡ compared (digitsIn 8 (wordAt (now (records .entry)) from size end1 width1 k) && digitsIn 8 (wordAt (now (records .entry)) from size end2 width2 k)) less same more (wordAt (now (records .entry)) from size end1 width1 k) (wordAt (now (records .entry)) from size end2 width2 k)) ⌝ }
+    ensures { λ _. ⌜ ((k : ℕ) → k < n → getD (now (truths .exit)) k 0 ≡ tested (digitsIn 8 (wordAt (now (records .entry)) from size end1 width1 k) && digitsIn 8 (wordAt (now (records .entry)) from size end2 width2 k)) (ltb (wordAt (now (records .entry)) from size end1 width1 k) (wordAt (now (records .entry)) from size end2 width2 k)) holds fails) ⌝ }
 {
     let mut base = from;
     let mut j: usize = 0;
@@ -45,7 +45,37 @@ pub(crate) fn compare_fields(
         let a = field_word(records, base + end1, width1);
         let b = field_word(records, base + end2, width2);
         let valid = all_digits(a) & all_digits(b);
-        truths[j] = compare_words(valid, a, b, less, same, more);
+        truths[j] = choose(valid, choose(a < b, holds, fails), UNJUDGED);
+        base += size;
+        j += 1;
+    }
+}
+
+// Whether they are the same.
+pub(crate) fn same_fields(
+    records: &[u8],
+    from: usize,
+    size: usize,
+    n: usize,
+    end1: usize,
+    width1: usize,
+    end2: usize,
+    width2: usize,
+    holds: u8,
+    fails: u8,
+    truths: &mut [u8],
+)
+    requires { ⌜ Laid (now records) from size n × (8 ≤ from) × (length (now truths) ≡ 64) ⌝ }
+    requires { ⌜ Field size end1 width1 × Field size end2 width2 ⌝ }
+    ensures { λ _. ⌜ ((k : ℕ) → k < n → getD (now (truths .exit)) k 0 ≡ tested (digitsIn 8 (wordAt (now (records .entry)) from size end1 width1 k) && digitsIn 8 (wordAt (now (records .entry)) from size end2 width2 k)) (eqb (wordAt (now (records .entry)) from size end1 width1 k) (wordAt (now (records .entry)) from size end2 width2 k)) holds fails) ⌝ }
+{
+    let mut base = from;
+    let mut j: usize = 0;
+    while j < n {
+        let a = field_word(records, base + end1, width1);
+        let b = field_word(records, base + end2, width2);
+        let valid = all_digits(a) & all_digits(b);
+        truths[j] = choose(valid, choose(a == b, holds, fails), UNJUDGED);
         base += size;
         j += 1;
     }

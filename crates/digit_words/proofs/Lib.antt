@@ -1,5 +1,3 @@
-pub mod WordLaws
-pub mod TestLaws
 pub mod OrderLaws
 pub mod FieldLaws
 pub mod AskedLaws

@@ -25,10 +25,12 @@ use Rattle.values.specs.Comparison.{Side, sideOf, numeric, comparison, fault}
 use Rattle.values.specs.Truth.{truth, turned, outcome}
 use Rattle.values.proofs.Reading.{by-value}
 use Rattle.values.proofs.Faults.{fault-flag, relation-goes}
-use Rattle.digit_words.specs.Words.{digitWord, digitsIn, fitsWord}
+use Rattle.byte_words.specs.Words.{digitWord, digitsIn}
+use Rattle.digit_words.specs.Words.{fitsWord}
 use Rattle.digit_words.specs.Asked.{askedOf, answered}
-use Rattle.digit_words.proofs.WordLaws.{Bytes, bytes-take, bytes-drop, drop-take}
-use Rattle.digit_words.proofs.FieldLaws.{word-test, word-order}
+use Rattle.byte_words.proofs.WordLaws.{Bytes, bytes-take, bytes-drop, drop-take}
+use Rattle.digit_words.proofs.FieldLaws.{word-order}
+use Rattle.byte_words.proofs.DigitLaws.{word-test}
 use Rattle.digit_words.proofs.AskedLaws.{asked-answers}
 
 -- two sides whose rows are read as words, at one scale, compare by what their digits write

@@ -1,7 +1,6 @@
-// Unsigned fields of up to 8 digits, each read as one word: their digits tested and two of them compared at once.
+// Unsigned fields of up to 8 digits, each read as one word: which they are, and two of them compared at once.
 
 pub mod rows; // which rows are read so, and what a relation asks of two words
-pub mod words; // the word of a field
 
 // What a relation asks of two words: whether they are equal; or else whether the first is less than the second, or the second less
 // than the first; and whether the answer is turned.

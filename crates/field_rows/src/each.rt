@@ -1,14 +1,17 @@
 // A relation or a class test of the records that stand at a row: 0 for false, 1 for true, 2 where it stops.
 ghost use mathlib.Core.Path.{_≡_};
-ghost use mathlib.Core.Bool.{true, cond};
+ghost use mathlib.Core.Bool.{Bool, true, cond, _&&_};
 ghost use Prim.Native.Nat.{ℕ, _+_, _<_, _≤_};
 ghost use lib.ListN.{length, getD};
-ghost use Rattle.tables.specs.Rows.{part};
+ghost use Rattle.tables.specs.Rows.{part, isNumeric};
 ghost use Rattle.values.specs.Comparison.{side};
-ghost use Rattle.values.specs.Truth.{relationOutcome, classOutcome, Fit};
+ghost use Rattle.values.specs.Truth.{relationOutcome, classOutcome, Fit, Numeral};
 ghost use Rattle.columns.specs.Columns.{recordAt, Right, Laid};
 use compare::classes::class_holds;
+use compare::orders::relation_holds;
 use content::Row;
+use numbers::reading::read_number;
+use scaled::compare_scaled;
 use tables::Outcome;
 use tables::rows::row_part;
 use truth::conditions::sides_outcome;
@@ -35,11 +38,54 @@ fn side_bytes<'a>(item: bool, row: Row, record: &'a [u8], literal: &'a [u8]) -> 
     literal
 }
 
+// A relation of two numeric sides: 2 where one is not valid, whoever would stop there.
+fn value_truth(row1: Row, bytes1: &[u8], row2: Row, bytes2: &[u8], word: u32, negated: bool) -> u8
+    requires { ⌜ Numeral row1 (now bytes1) × Numeral row2 (now bytes2) ⌝ }
+    ensures { λ r. ⌜ ((item1 item2 : Bool) → Right (relationOutcome word negated (side item1 row1 (now (bytes1 .entry))) (side item2 row2 (now (bytes2 .entry)))) r) ⌝ }
+{
+    let left = read_number(row1.kind, row1.digits, bytes1);
+    let right = read_number(row2.kind, row2.digits, bytes2);
+    if !(left.valid & right.valid) {
+        return 2;
+    }
+    let order = compare_scaled(
+        left.minus,
+        left.digits,
+        row1.scale,
+        right.minus,
+        right.digits,
+        row2.scale,
+    );
+    truth_number(truth_value(negated, relation_holds(word, order)))
+}
+
+// A relation of two sides, of which it is known whether both are numeric.
+fn side_truth(
+    numeric: bool,
+    item1: bool,
+    row1: Row,
+    left: &[u8],
+    item2: bool,
+    row2: Row,
+    right: &[u8],
+    word: u32,
+    negated: bool,
+) -> u8
+    requires { ⌜ Fit (side item1 row1 (now left)) × Fit (side item2 row2 (now right)) × (numeric ≡ isNumeric row1 && isNumeric row2) ⌝ }
+    ensures { λ r. ⌜ Right (relationOutcome word negated (side item1 row1 (now (left .entry))) (side item2 row2 (now (right .entry)))) r ⌝ }
+{
+    if numeric {
+        return value_truth(row1, left, row2, right, word, negated);
+    }
+    truth_number(sides_outcome(item1, row1, left, item2, row2, right, word, negated))
+}
+
 pub(crate) fn relate_each<'a>(
     records: &'a [u8],
     from: usize,
     size: usize,
     n: usize,
+    numeric: bool,
     item1: bool,
     row1: Row,
     left: &'a [u8],
@@ -52,7 +98,7 @@ pub(crate) fn relate_each<'a>(
     place: u8,
     truths: &mut [u8],
 )
-    requires { ⌜ Laid (now records) from size n × (length (now at) ≡ 64) × (length (now truths) ≡ 64) ⌝ }
+    requires { ⌜ Laid (now records) from size n × (length (now at) ≡ 64) × (length (now truths) ≡ 64) × (numeric ≡ isNumeric row1 && isNumeric row2) ⌝ }
     requires { ⌜ ((k : ℕ) → k < n → Fit (side item1 row1 (cond item1 (part row1 (recordAt (now records) from size k)) (now left))) × Fit (side item2 row2 (cond item2 (part row2 (recordAt (now records) from size k)) (now right)))) ⌝ }
     ensures { λ _. ⌜ ((k : ℕ) → k < n → getD (now (at .entry)) k 0 ≡ place → Right (relationOutcome word negated (side item1 row1 (cond item1 (part row1 (recordAt (now (records .entry)) from size k)) (now (left .entry)))) (side item2 row2 (cond item2 (part row2 (recordAt (now (records .entry)) from size k)) (now (right .entry))))) (getD (now (truths .exit)) k 0)) ⌝ }
 {
@@ -63,7 +109,8 @@ pub(crate) fn relate_each<'a>(
             let record = &records[base..base + size];
             let first = side_bytes(item1, row1, record, left);
             let second = side_bytes(item2, row2, record, right);
-            truths[j] = truth_number(sides_outcome(
+            truths[j] = side_truth(
+                numeric,
                 item1,
                 row1,
                 first,
@@ -72,7 +119,7 @@ pub(crate) fn relate_each<'a>(
                 second,
                 word,
                 negated,
-            ));
+            );
         }
         base += size;
         j += 1;

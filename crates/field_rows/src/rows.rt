@@ -1,6 +1,6 @@
 // Which rows are judged record by record with their sides looked up once: relations, and class tests of items.
 ghost use mathlib.Core.Path.{_≡_};
-ghost use mathlib.Core.Bool.{true};
+ghost use mathlib.Core.Bool.{true, false};
 ghost use Prim.Native.Nat.{ℕ, _<_};
 ghost use lib.ListN.{length, getD};
 ghost use Rattle.tables.specs.Operands.{lendNames};
@@ -12,6 +12,7 @@ use crate::each::relate_each;
 use grammar::PlanRow;
 use tables::operands::operand_bytes;
 use tables::operands::row_of;
+use tables::rows::is_numeric;
 use tables::tokens::is_item;
 use typing::Test;
 use typing::shape::test_of;
@@ -46,11 +47,13 @@ fn judge_relation<'a>(
     let right = operand_bytes(object, items, literals, bytes, first);
     let item1 = is_item(subject);
     let item2 = is_item(object);
+    let numeric = is_numeric(row1) & is_numeric(row2);
     relate_each(
         records,
         from,
         size,
         n,
+        numeric,
         item1,
         row1,
         left,
@@ -119,6 +122,7 @@ pub fn judge_fields<'a>(
 ) -> bool
     requires { ⌜ Judgeable (lendNames (now items) (now literals) (now bytes) (now names)) (now records) from size n condition × (length (now at) ≡ 64) × (length (now truths) ≡ 64) ⌝ }
     ensures { λ r. ⌜ (r ≡ true → (k : ℕ) → k < n → getD (now (at .entry)) k 0 ≡ place → Right (outcomeAt (lendNames (now (items .entry)) (now (literals .entry)) (now (bytes .entry)) (now (names .entry))) (now (records .entry)) from size switches condition k) (getD (now (truths .exit)) k 0)) ⌝ }
+    ensures { λ r. ⌜ (r ≡ false → now (truths .exit) ≡ now (truths .entry)) ⌝ }
 {
     let test = test_of(condition.relation);
     match test {

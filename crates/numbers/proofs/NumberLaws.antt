@@ -9,16 +9,20 @@ use native.Mathlib.Decide.{decLt}
 use native.Mathlib.Nat.{zero-mul, mul-comm, mul-assoc, div-add-mod', div-lt-iff-lt-mul, div-mul-le-self, mod-lt, mul-pos, mul-lt-mul-of-pos-right, mul-le-mul-left, mul-le-mul-right, le-antisymm, pow-suc, pow-le-pow-right}
 use lib.Dec.{eqb, eqb·suc-zero}
 use lib.IntN.{ℤ, pos, _*ℤ_}
-use lib.ListN.{length, getD, take}
+use lib.ListN.{length, getD, take, drop, length-drop}
 use lib.Pow.{pow-add}
-use lib.Seq.{take-suc, take-all, length-take-le}
+use lib.Seq.{take-suc, take-all, take-add, length-take-le}
 use borrow.Author.Tests.{eqb-true, eqb-false}
-use Rattle.content.specs.Content.{lastByte, butLast, numberFrom, signed}
+use Rattle.content.specs.Content.{all, isDigit, lastByte, butLast, numberFrom, signed}
 use Rattle.content.specs.Packed.{leftHalf, rightHalf, packedFrom}
 use Rattle.compare.specs.declared.Order.the-variants.{Less, Equal, Greater}
 use Rattle.compare.specs.Order.{order, orderℤ}
 use Rattle.compare.specs.Compared.{scaledOrder}
 use Rattle.compare.proofs.OrderLaws.{order-lt, order-eq, order-gt}
+use Rattle.byte_words.specs.Words.{digitWord, digitsIn, valueIn}
+use Rattle.byte_words.proofs.WordLaws.{Bytes, bytes-take, bytes-drop}
+use Rattle.byte_words.proofs.DigitLaws.{word-test}
+use Rattle.byte_words.proofs.ValueLaws.{eight-digits}
 
 pub order-same : (a b x y : ℕ) → (x < y → a < b) → (x ≡ y → a ≡ b) → (y < x → b < a) → order a b ≡ order x y
 order-same a b x y f e g = go (decLt x y) (decLt y x)
@@ -27,9 +31,6 @@ order-same a b x y f e g = go (decLt x y) (decLt y x)
     go (yes h) d = order-lt a b (f h) ∙ sym (order-lt x y h)
     go (no n) (yes h) = order-gt a b (g h) ∙ sym (order-gt x y h)
     go (no n) (no m) = let q : x ≡ y = omega arith in order-eq a b (e q) ∙ sym (order-eq x y q)
-
-order-shift : (k a b : ℕ) → order (k + a) (k + b) ≡ order a b
-order-shift k a b = order-same (k + a) (k + b) a b (λ h. omega arith) (λ h. omega arith) (λ h. omega arith)
 
 order-scale : (k a b : ℕ) → 0 < k → order (a * k) (b * k) ≡ order a b
 order-scale k a b z =
@@ -44,9 +45,6 @@ ten-most i h = pow-le-pow-right (omega arith) h
 
 pub ten-pos : (s : ℕ) → 0 < 10 ^ s
 ten-pos s = pow-le-pow-right {n = 10} (omega arith) {i = 0} {j = s} (omega arith)
-
-tens : (s : ℕ) → s ≤ 18 → 10 ^ s * 10 ^ (18 - s) ≡ 10 ^ 18
-tens s h = sym (pow-add 10 s (18 - s)) ∙ ap (λ (n : ℕ). 10 ^ n) {x = s + (18 - s)} {y = 18} (omega arith)
 
 -- the number that digits write: with one digit more, of the first i + 1 bytes, of all
 number-append : (n : ℕ) (xs : List ℕ) (b : ℕ) → numberFrom n (xs ++ b ∷ []) ≡ numberFrom n xs * 10 + b % 16
@@ -79,6 +77,46 @@ number-small xs i h = rw (length-take-le i xs h) at (number-below 0 (take i xs))
 
 pub number-room : (xs : List ℕ) (i : ℕ) → i < length xs → length xs ≤ 18 → numberFrom 0 (take i xs) * 10 + 20 ≤ 2 * 10 ^ 18
 number-room xs i h few = omega (arith, number-small xs i (omega arith), ten-more i, ten-most (i + 1) (omega arith))
+
+-- eight digits more
+number-parts : (n : ℕ) (xs : List ℕ) → numberFrom n xs ≡ n * 10 ^ length xs + numberFrom 0 xs
+unfolding numberFrom
+number-parts n [] = omega arith
+number-parts n (x ∷ xs) =
+    let ten : 10 ^ suc (length xs) ≡ 10 * 10 ^ length xs = rw pow-suc (mul-comm _ _) in
+    omega (arith, number-parts (n * 10 + x % 16) xs, number-parts (0 * 10 + x % 16) xs, ap (λ (k : ℕ). n * k) ten)
+
+number-joined : (n : ℕ) (xs ys : List ℕ) → numberFrom n (xs ++ ys) ≡ numberFrom (numberFrom n xs) ys
+unfolding numberFrom
+number-joined n [] ys = refl
+number-joined n (x ∷ xs) ys = number-joined (n * 10 + x % 16) xs ys
+
+module _ (xs : List ℕ) (i : ℕ) (h : i + 8 ≤ length xs) where
+  pub eight-there : length (take 8 (drop i xs)) ≡ 8
+  eight-there = length-take-le 8 (drop i xs) (omega (arith, length-drop i xs))
+
+  pub number-eight-more : numberFrom 0 (take (i + 8) xs) ≡ numberFrom 0 (take i xs) * 100000000 + numberFrom 0 (take 8 (drop i xs))
+  number-eight-more =
+      rw (take-add i 8 xs)
+      (number-joined 0 (take i xs) (take 8 (drop i xs)) ∙ rw eight-there at (number-parts (numberFrom 0 (take i xs)) (take 8 (drop i xs))))
+
+  -- told by their word
+  module _ (b : Bytes xs) {word : ℕ} (w : word ≡ digitWord (take 8 (drop (i + 8 - 8) xs))) where
+    word-here : word ≡ digitWord (take 8 (drop i xs))
+    word-here = w ∙ ap (λ (k : ℕ). digitWord (take 8 (drop k xs))) {x = i + 8 - 8} {y = i} (omega arith)
+
+    small : Bytes (take 8 (drop i xs))
+    small = bytes-take 8 (bytes-drop i b)
+
+    pub eight-valid : {r : Bool} → r ≡ digitsIn 8 word → r ≡ all isDigit (take 8 (drop i xs))
+    eight-valid e = e ∙ ap (digitsIn 8) word-here ∙ word-test small (omega (arith, eight-there))
+
+    pub eight-number : {r : ℕ} → r ≡ valueIn 8 word → r ≡ numberFrom 0 (take 8 (drop i xs))
+    eight-number e = e ∙ ap (valueIn 8) word-here ∙ eight-digits small eight-there
+
+  -- and room for them
+  pub eight-room : length xs ≤ 18 → numberFrom 0 (take (i + 8) xs) ≤ 2 * 10 ^ 18
+  eight-room few = omega (arith, number-small xs (i + 8) h, ten-most (i + 8) (omega arith))
 
 -- the same of pairs of digits, and how large ten bytes can be
 packed-append : (n : ℕ) (xs : List ℕ) (b : ℕ) → packedFrom n (xs ++ b ∷ []) ≡ packedFrom n xs * 100 + leftHalf b * 10 + rightHalf b
@@ -113,47 +151,45 @@ packed-room xs i most h few =
 pub same-scale : (d1 d2 : ℕ) {s1 s2 : ℕ} → s1 ≡ s2 → order (d1 * 10 ^ s2) (d2 * 10 ^ s1) ≡ order d1 d2
 same-scale d1 d2 {s1} {s2} e = rw e (order-scale (10 ^ s2) d1 d2 (ten-pos s2))
 
--- whole parts that differ decide
-whole-less : (d1 d2 p1 p2 : ℕ) → 0 < p1 → 0 < p2 → d1 / p1 < d2 / p2 → d1 * p2 < d2 * p1
-whole-less d1 d2 p1 p2 z1 z2 h =
-    omega (arith, mul-lt-mul-of-pos-right (div-lt-iff-lt-mul z1 .0 h) z2, mul-le-mul-right p1 (div-mul-le-self d2 p2))
+-- at two, the scale that is less is taken from both
+fewer-digits : (d s t : ℕ) → s ≤ t → d * 10 ^ t ≡ d * 10 ^ (t - s) * 10 ^ s
+fewer-digits d s t h =
+    ap (λ (n : ℕ). d * 10 ^ n) {x = t} {y = t - s + s} (omega arith)
+    ∙ ap (λ (n : ℕ). d * n) (pow-add 10 (t - s) s)
+    ∙ sym (mul-assoc d (10 ^ (t - s)) (10 ^ s))
 
--- with equal whole parts the rests decide, each brought to the same power
-rest-order : (d1 d2 p1 p2 q1 q2 t : ℕ) → 0 < q1 → 0 < q2 → 0 < t → p1 * q1 ≡ t → p2 * q2 ≡ t → d1 / p1 ≡ d2 / p2
-    → order (d1 * p2) (d2 * p1) ≡ order (d1 % p1 * q1) (d2 % p2 * q2)
-rest-order d1 d2 p1 p2 q1 q2 t z1 z2 zt e1 e2 same =
-    let r1 : ℕ = d1 % p1 in
-    let r2 : ℕ = d2 % p2 in
-    let k : ℕ = d2 / p2 * (p1 * p2) in
-    let u1 : d1 * p2 ≡ k + r1 * p2 = omega (arith, ap (λ (x : ℕ). x * p2) (div-add-mod' d1 p1), ap (λ (x : ℕ). x * (p1 * p2)) same) in
-    let u2 : d2 * p1 ≡ k + r2 * p1 = omega (arith, ap (λ (x : ℕ). x * p1) (div-add-mod' d2 p2)) in
-    let w1 : r1 * p2 * (q1 * q2) ≡ r1 * q1 * t = omega (arith, ap (λ (x : ℕ). r1 * q1 * x) e2) in
-    let w2 : r2 * p1 * (q1 * q2) ≡ r2 * q2 * t = omega (arith, ap (λ (x : ℕ). r2 * q2 * x) e1) in
-    ap₂ order u1 u2
-    ∙ order-shift k (r1 * p2) (r2 * p1)
-    ∙ sym (order-scale (q1 * q2) (r1 * p2) (r2 * p1) (mul-pos z1 z2))
-    ∙ ap₂ order w1 w2
-    ∙ order-scale t (r1 * q1) (r2 * q2) zt
+pub first-raised : (d1 d2 s1 s2 : ℕ) → s1 ≤ s2 → order (d1 * 10 ^ s2) (d2 * 10 ^ s1) ≡ order (d1 * 10 ^ (s2 - s1)) d2
+first-raised d1 d2 s1 s2 h = rw (fewer-digits d1 s1 s2 h) (order-scale (10 ^ s1) (d1 * 10 ^ (s2 - s1)) d2 (ten-pos s1))
 
--- the same at the powers p that calls return
-module _ (d1 d2 s1 s2 : ℕ) {p1 p2 : ℕ} (e1 : p1 ≡ 10 ^ s1) (e2 : p2 ≡ 10 ^ s2) where
-  pub by-whole-less : d1 / p1 < d2 / p2 → order (d1 * 10 ^ s2) (d2 * 10 ^ s1) ≡ Less
-  by-whole-less h = order-lt _ _ (whole-less d1 d2 (10 ^ s1) (10 ^ s2) (ten-pos s1) (ten-pos s2) (rw (e1, e2) at h))
+pub second-raised : (d1 d2 s1 s2 : ℕ) → s2 ≤ s1 → order (d1 * 10 ^ s2) (d2 * 10 ^ s1) ≡ order d1 (d2 * 10 ^ (s1 - s2))
+second-raised d1 d2 s1 s2 h = rw (fewer-digits d2 s2 s1 h) (order-scale (10 ^ s2) d1 (d2 * 10 ^ (s1 - s2)) (ten-pos s2))
 
-  pub by-whole-greater : d2 / p2 < d1 / p1 → order (d1 * 10 ^ s2) (d2 * 10 ^ s1) ≡ Greater
-  by-whole-greater h = order-gt _ _ (whole-less d2 d1 (10 ^ s2) (10 ^ s1) (ten-pos s2) (ten-pos s1) (rw (e1, e2) at h))
+-- d × 10^k against a number: its whole part decides where it is not d, and else its rest
+module _ (d k other : ℕ) {p : ℕ} (e : p ≡ 10 ^ k) where
+  under : d < other / 10 ^ k → d * 10 ^ k < other
+  under h = omega (arith, mul-lt-mul-of-pos-right h (ten-pos k), div-mul-le-self other (10 ^ k))
 
-  pub by-rest : {q1 q2 : ℕ} → q1 ≡ 10 ^ (18 - s1) → q2 ≡ 10 ^ (18 - s2) → s1 ≤ 18 → s2 ≤ 18 → d2 / p2 ≤ d1 / p1 → d1 / p1 ≤ d2 / p2
-      → order (d1 * 10 ^ s2) (d2 * 10 ^ s1) ≡ order (d1 % p1 * q1) (d2 % p2 * q2)
-  by-rest f1 f2 h1 h2 g l =
-      rw (f1, f2, e1, e2)
-      (rest-order d1 d2 (10 ^ s1) (10 ^ s2) (10 ^ (18 - s1)) (10 ^ (18 - s2)) (10 ^ 18)
-      (ten-pos (18 - s1)) (ten-pos (18 - s2)) (ten-pos 18) (tens s1 h1) (tens s2 h2)
-      (rw (e1, e2) at (le-antisymm l g)))
+  over : other / 10 ^ k < d → other < d * 10 ^ k
+  over h = div-lt-iff-lt-mul (ten-pos k) .0 h
 
--- a rest brought to 18 places is below 10^18
-pub rest-below : (d s : ℕ) {p q : ℕ} → s ≤ 18 → p ≡ 10 ^ s → q ≡ 10 ^ (18 - s) → d % p * q < 10 ^ 18
-rest-below d s h e f = rw (e, f, ← tens s h) (mul-lt-mul-of-pos-right (mod-lt d (ten-pos s)) (ten-pos (18 - s)))
+  same : d ≡ other / 10 ^ k → d * 10 ^ k + other % 10 ^ k ≡ other
+  same h = ap (λ (n : ℕ). n * 10 ^ k + other % 10 ^ k) h ∙ div-add-mod' other (10 ^ k)
+
+  pub first-rest : d ≡ other / p → order (d * 10 ^ k) other ≡ order 0 (other % p)
+  first-rest h =
+      let s = same (rw e at h) in
+      rw e (order-same (d * 10 ^ k) other 0 (other % 10 ^ k) (λ l. omega arith) (λ l. omega arith) (λ l. omega arith))
+
+  pub second-rest : other / p ≡ d → order other (d * 10 ^ k) ≡ order (other % p) 0
+  second-rest h =
+      let s = same (sym (rw e at h)) in
+      rw e (order-same other (d * 10 ^ k) (other % 10 ^ k) 0 (λ l. omega arith) (λ l. omega arith) (λ l. omega arith))
+
+  pub first-whole : (d ≡ other / p → ⊥) → order (d * 10 ^ k) other ≡ order d (other / p)
+  first-whole n = rw e (order-same (d * 10 ^ k) other d (other / 10 ^ k) under (λ h. absurd (n (rw e h))) over)
+
+  pub second-whole : (other / p ≡ d → ⊥) → order other (d * 10 ^ k) ≡ order (other / p) d
+  second-whole n = rw e (order-same other (d * 10 ^ k) (other / 10 ^ k) d over (λ h. absurd (n (rw e h))) under)
 
 -- the order of two values, each a sign and a magnitude
 minus-minus : (a b : ℕ) → orderℤ (signed true a) (signed true b) ≡ order b a

@@ -2,15 +2,16 @@
 ghost use mathlib.Core.Path.{_≡_};
 ghost use mathlib.Core.Bool.{true};
 ghost use Prim.Native.Nat.{ℕ, _≤_};
-ghost use lib.ListN.{length};
-ghost use Rattle.content.specs.Content.{digitBytes};
+ghost use lib.ListN.{length, take};
+ghost use Rattle.content.specs.Content.{all, isDigit, numberFrom, digitBytes};
 ghost use Rattle.content.specs.Packed.{isPacked};
 ghost use Rattle.compare.specs.Compared.{numberOf, pairsOf};
 ghost use Rattle.compare.specs.Fields.{NumberField};
+use byte_words::words::all_digits;
+use byte_words::words::digits_value;
+use byte_words::words::field_word;
 use compare::Number;
 use content::Row;
-use content::marks::is_digit;
-use content::marks::marks;
 use content::rows::is_packed;
 use fields::held::is_minus;
 use fields::held::is_sign;
@@ -26,18 +27,24 @@ fn wide(x: u8) -> u64
     x as u64
 }
 
-// A field of digits only, as kind 3 is. A digit is the right half of its byte, valid or not, so that each field's number fits.
-fn read_digits(bytes: &[u8]) -> Number
-    requires { ⌜ length (now bytes) ≤ 18 ⌝ }
+fn is_digit(b: u8) -> bool
+    ensures { λ r. ⌜ r ≡ isDigit b ⌝ }
+{
+    (0x30 <= b) & (b <= 0x39)
+}
+
+// What is left of a field of digits after those that were read eight at once.
+fn read_rest(bytes: &[u8], from: usize, valid: bool, number: u64) -> Number
+    requires { ⌜ (from ≤ length (now bytes)) × (length (now bytes) ≤ 18) ⌝ }
+    requires { ⌜ (valid ≡ all isDigit (take from (now bytes))) × (number ≡ numberFrom 0 (take from (now bytes))) ⌝ }
     ensures { λ r. ⌜ r ≡ numberOf 3 0 (now (bytes .entry)) ⌝ }
 {
-    let marks = marks();
-    let mut fine = true;
-    let mut n: u64 = 0;
-    let mut i: usize = 0;
+    let mut fine = valid;
+    let mut n = number;
+    let mut i = from;
     while i < bytes.len() {
         let b = bytes[i];
-        fine = fine & is_digit(&marks, b);
+        fine = fine & is_digit(b);
         n = n * 10 + wide(b % 16);
         i += 1;
     }
@@ -46,6 +53,23 @@ fn read_digits(bytes: &[u8]) -> Number
         minus: false,
         digits: n,
     }
+}
+
+// A field of digits only, as kind 3 is. A digit is the right half of its byte, valid or not, so that each field's number fits.
+fn read_digits(bytes: &[u8]) -> Number
+    requires { ⌜ length (now bytes) ≤ 18 ⌝ }
+    ensures { λ r. ⌜ r ≡ numberOf 3 0 (now (bytes .entry)) ⌝ }
+{
+    let mut fine = true;
+    let mut n: u64 = 0;
+    let mut i: usize = 0;
+    while 8 <= bytes.len() - i {
+        let word = field_word(bytes, i + 8, 8);
+        fine = fine & all_digits(word);
+        n = n * 100000000 + digits_value(word);
+        i += 8;
+    }
+    read_rest(bytes, i, fine, n)
 }
 
 // Bytes of two digits each. A half is taken as it is, a digit or not, so that nine bytes' number fits.

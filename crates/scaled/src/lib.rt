@@ -1,5 +1,5 @@
-// Comparison by value. The products D1 × 10^s2 and D2 × 10^s1 can have 36 digits, so they are not made: whole parts are
-// compared first, then the rests, each brought to 18 places, which fits 64 bits.
+// Comparison by value. The products D1 × 10^s2 and D2 × 10^s1 can have 36 digits, so they are not made: the side of the greater scale is divided by
+// the power of ten that the scales differ by, and the whole part is compared first, then the rest.
 ghost use mathlib.Core.Path.{_≡_};
 ghost use Prim.Native.Nat.{_*_, _^_, _≤_};
 ghost use lib.IntN.{pos};
@@ -22,6 +22,32 @@ fn power_of_ten(s: u32) -> u64
     p
 }
 
+// d × 10^k against another number.
+fn raised_first(d: u64, k: u32, other: u64) -> Order
+    requires { ⌜ k ≤ 18 ⌝ }
+    ensures { λ r. ⌜ r ≡ order (d * 10 ^ k) other ⌝ }
+{
+    let p = power_of_ten(k);
+    let whole = other / p;
+    if d == whole {
+        return order_of(0, other % p);
+    }
+    order_of(d, whole)
+}
+
+// A number against d × 10^k.
+fn raised_second(other: u64, d: u64, k: u32) -> Order
+    requires { ⌜ k ≤ 18 ⌝ }
+    ensures { λ r. ⌜ r ≡ order other (d * 10 ^ k) ⌝ }
+{
+    let p = power_of_ten(k);
+    let whole = other / p;
+    if whole == d {
+        return order_of(other % p, 0);
+    }
+    order_of(whole, d)
+}
+
 fn compare_magnitudes(d1: u64, s1: u32, d2: u64, s2: u32) -> Order
     requires { ⌜ (s1 ≤ 18) × (s2 ≤ 18) ⌝ }
     ensures { λ r. ⌜ r ≡ order (d1 * 10 ^ s2) (d2 * 10 ^ s1) ⌝ }
@@ -29,19 +55,10 @@ fn compare_magnitudes(d1: u64, s1: u32, d2: u64, s2: u32) -> Order
     if s1 == s2 {
         return order_of(d1, d2);
     }
-    let p1 = power_of_ten(s1);
-    let p2 = power_of_ten(s2);
-    let i1 = d1 / p1;
-    let i2 = d2 / p2;
-    if i1 < i2 {
-        return Order::Less;
+    if s1 < s2 {
+        return raised_first(d1, s2 - s1, d2);
     }
-    if i2 < i1 {
-        return Order::Greater;
-    }
-    let f1 = (d1 % p1) * power_of_ten(18 - s1);
-    let f2 = (d2 % p2) * power_of_ten(18 - s2);
-    order_of(f1, f2)
+    raised_second(d1, d2, s1 - s2)
 }
 
 // Two values, each a sign and a magnitude, at their scales. Zero has one value whatever its sign.

@@ -1,5 +1,5 @@
 -- By the kind of row.
-use mathlib.Core.Path.{_≡_, sym, ap, _∙_}
+use mathlib.Core.Path.{_≡_, sym, ap, _∙_, refl}
 use mathlib.Core.Bool.{_&&_, not, true, false}
 use Prim.Native.Nat.{ℕ, _+_, _≤_}
 use native.Mathlib.Omega.{arith}
@@ -52,29 +52,41 @@ same-length-2 : tie.Need-same-length-2
 same-length-2 c = search needs
 
 returns-2 : tie.Need-returns-2
-returns-2 c = λ j l _. c .before .before .before .judge-columns .ensures (c .if2 .taken) j l
+returns-2 c = λ j l _. c .before .before .before .judge-columns .ensures .0 (c .if2 .taken) j l
 
-judge-fields-requires : tie.Need-judge-fields-requires
-judge-fields-requires c κs =
+judge-texts-requires : tie.Need-judge-texts-requires
+judge-texts-requires c κs =
     let start = c .before .before .before .before .before .before .before .before .before .before .before .before .before .before in
-    (start .pre .0, start .pre .1 .0, c .before .before .before .before .judge-columns .kept .1 .1 .1 .1 .1 .1 .1 .1 .1 .1 .0 ∙ start .pre .1 .1)
+    (start .pre .0, c .before .before .before .before .judge-columns .kept .1 .1 .1 .1 .1 .1 .1 .1 .1 .1 .0 ∙ start .pre .1 .1)
 
 same-length-3 : tie.Need-same-length-3
 same-length-3 c = search needs
 
 returns-3 : tie.Need-returns-3
-returns-3 c = c .before .before .before .judge-fields .ensures (c .if3 .taken)
+returns-3 c = λ j l _. c .before .before .before .judge-texts .ensures .0 (c .if3 .taken) j l
 
-judge-each-requires : tie.Need-judge-each-requires
-judge-each-requires c κs =
+judge-fields-requires : tie.Need-judge-fields-requires
+judge-fields-requires c κs =
     let start = c .before .before .before .before .before .before .before .before .before .before .before .before .before .before .before .before .before .before .before in
-    (start .pre .0, (start .pre .1 .0, c .before .before .before .before .judge-fields .kept .1 .1 .1 .1 .1 .1 .1 .1 .1 .1 .1 .1 .0 ∙ c .before .before .before .before .before .before .before .before .before .judge-columns .kept .1 .1 .1 .1 .1 .1 .1 .1 .1 .1 .0 ∙ start .pre .1 .1))
+    (start .pre .0, start .pre .1 .0, c .before .before .before .before .judge-texts .kept .1 .1 .1 .1 .1 .1 .1 .1 .1 .1 .0 ∙ c .before .before .before .before .before .before .before .before .before .judge-columns .kept .1 .1 .1 .1 .1 .1 .1 .1 .1 .1 .0 ∙ start .pre .1 .1)
 
 same-length-4 : tie.Need-same-length-4
 same-length-4 c = search needs
 
 returns-4 : tie.Need-returns-4
-returns-4 c = search needs
+returns-4 c = c .before .before .before .judge-fields .ensures .0 (c .if4 .taken)
+
+judge-each-requires : tie.Need-judge-each-requires
+judge-each-requires c κs =
+    let start = c .before .before .before .before .before .before .before .before .before .before .before .before .before .before .before .before .before .before .before .before .before .before .before .before in
+    let kept = c .before .before .before .before .judge-fields .kept .1 .1 .1 .1 .1 .1 .1 .1 .1 .1 .1 .1 .0 ∙ c .before .before .before .before .before .before .before .before .before .judge-texts .kept .1 .1 .1 .1 .1 .1 .1 .1 .1 .1 .0 ∙ c .before .before .before .before .before .before .before .before .before .before .before .before .before .before .judge-columns .kept .1 .1 .1 .1 .1 .1 .1 .1 .1 .1 .0 in
+    (start .pre .0, (start .pre .1 .0, kept ∙ start .pre .1 .1))
+
+same-length-5 : tie.Need-same-length-5
+same-length-5 c = search needs
+
+returns-5 : tie.Need-returns-5
+returns-5 c = search needs
 
 pub judge-row-spec : {M : Type 1} → statement M
 judge-row-spec =
@@ -91,9 +103,12 @@ judge-row-spec =
     judge-columns-requires
     same-length-2
     returns-2
-    judge-fields-requires
+    judge-texts-requires
     same-length-3
     returns-3
-    judge-each-requires
+    judge-fields-requires
     same-length-4
-    returns-4)
+    returns-4
+    judge-each-requires
+    same-length-5
+    returns-5)

@@ -1,5 +1,5 @@
 -- By what the row tests.
-use mathlib.Core.Path.{_≡_, sym, ap, _∙_}
+use mathlib.Core.Path.{_≡_, sym, ap, _∙_, refl}
 use mathlib.Core.Bool.{true, false, false≢true}
 use native.Mathlib.Omega.{arith}
 use borrow.Author.Needs.{needs}
@@ -9,7 +9,7 @@ use Rattle.columns.proofs.rows.judge_columns.Statement.{statement}
 use Rattle.columns.proofs.rows.judge_columns.Tie as tie
 
 returns : tie.Need-returns
-returns c = λ e. absurd (false≢true e)
+returns c = (λ e. absurd (false≢true e), λ _. refl)
 
 test-of-requires : tie.Need-test-of-requires
 test-of-requires c κs = search needs
@@ -26,7 +26,7 @@ enum-known-test-2 : tie.Need-enum-known-test-2
 enum-known-test-2 c = search needs
 
 returns-2 : tie.Need-returns-2
-returns-2 c = λ e. absurd (false≢true e)
+returns-2 c = (λ e. absurd (false≢true e), λ _. refl)
 
 judge-numeric-requires : tie.Need-judge-numeric-requires
 judge-numeric-requires c κs =
@@ -58,13 +58,13 @@ returns-4 : tie.Need-returns-4
 returns-4 c = search needs
 
 returns-5 : tie.Need-returns-5
-returns-5 c = λ e. absurd (false≢true e)
+returns-5 c = (λ e. absurd (false≢true e), λ _. refl)
 
 returns-6 : tie.Need-returns-6
-returns-6 c = λ e. absurd (false≢true e)
+returns-6 c = (λ e. absurd (false≢true e), λ _. refl)
 
 returns-7 : tie.Need-returns-7
-returns-7 c = λ e. absurd (false≢true e)
+returns-7 c = (λ e. absurd (false≢true e), λ _. refl)
 
 pub judge-columns-spec : {M : Type 1} → statement M
 judge-columns-spec =

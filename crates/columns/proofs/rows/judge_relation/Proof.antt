@@ -1,5 +1,5 @@
 -- By the kinds of the two sides.
-use mathlib.Core.Path.{_≡_, sym, _∙_}
+use mathlib.Core.Path.{_≡_, sym, _∙_, refl}
 use mathlib.Core.Bool.{true, false, false≢true}
 use mathlib.Core.List.{List}
 use Prim.Native.Nat.{ℕ, _+_, _-_, _≤_}
@@ -12,7 +12,7 @@ use Rattle.tables.specs.Operands.{Lent, lendNames, rowOf}
 use Rattle.tables.proofs.Tests.{both}
 use Rattle.values.specs.Truth.{Sided}
 use Rattle.values.proofs.Reading.{read-relation}
-use Rattle.digit_words.proofs.WordLaws.{Bytes, bytes-of}
+use Rattle.byte_words.proofs.WordLaws.{Bytes, bytes-of}
 use Rattle.columns.proofs.Sides.{Worded, first-readable, first-within, field-of, within-unnamed, word-size, items-right, object-right, subject-right}
 use Rattle.columns.proofs.rows.judge_relation.Statement.{statement}
 use Rattle.columns.proofs.rows.judge_relation.Tie as tie
@@ -63,7 +63,7 @@ fits-word-requires-2 : tie.Need-fits-word-requires-2
 fits-word-requires-2 c κs = search needs
 
 returns : tie.Need-returns
-returns c = λ e. absurd (false≢true e)
+returns c = (λ e. absurd (false≢true e), λ _. refl)
 
 asked-of-requires : tie.Need-asked-of-requires
 asked-of-requires c κs = search needs
@@ -89,18 +89,21 @@ same-length : tie.Need-same-length
 same-length c = search needs
 
 returns-2 : tie.Need-returns-2
-returns-2 c = λ _ k l.
-    let e = c .before .before .before .before .before .before .before .before .before in
-    let s = entry e in
-    let J = s .pre .0 .0 in
-    let w = worded e in
-    let rows = e .before .before .before .before .before in
-    let i = sym (c .before .before .before .before .before .before .before .is-item .ensures) ∙ c .before .before .before .before .before .before .if2 .taken in
-    let j = sym (c .before .before .before .before .before .is-item2 .ensures) ∙ c .before .before .before .before .if3 .taken in
-    items-right (lent s) (now (s .args .records)) (s .args .from) (s .args .size) (s .args .switches) (s .args .condition) (in-file e .0) (in-file e .1) k
-    (s .pre .1) (w .subject) (w .object) (w .scale) i j (field-of J (sides s .0) i (w .subject) .inside) (field-of J (sides s .1) j (w .object) .inside)
-    (rw (rows .before .row-of .ensures, rows .row-of2 .ensures, c .before .before .before .before .before .before .before .before .asked-of .ensures) at
-    (c .before .before .relate-fields .ensures k l))
+returns-2 c = (
+  λ _ k l.
+      let e = c .before .before .before .before .before .before .before .before .before in
+      let s = entry e in
+      let J = s .pre .0 .0 in
+      let w = worded e in
+      let rows = e .before .before .before .before .before in
+      let i = sym (c .before .before .before .before .before .before .before .is-item .ensures) ∙ c .before .before .before .before .before .before .if2 .taken in
+      let j = sym (c .before .before .before .before .before .is-item2 .ensures) ∙ c .before .before .before .before .if3 .taken in
+      items-right (lent s) (now (s .args .records)) (s .args .from) (s .args .size) (s .args .switches) (s .args .condition) (in-file e .0) (in-file e .1) k
+      (s .pre .1) (w .subject) (w .object) (w .scale) i j (field-of J (sides s .0) i (w .subject) .inside) (field-of J (sides s .1) j (w .object) .inside)
+      (rw (rows .before .row-of .ensures, rows .row-of2 .ensures, c .before .before .before .before .before .before .before .before .asked-of .ensures) at
+      (c .before .before .relate-fields .ensures k l)),
+  λ e. absurd (false≢true (sym e)),
+)
 
 relate-literal-requires : tie.Need-relate-literal-requires
 relate-literal-requires c κs =
@@ -121,18 +124,21 @@ same-length-2 : tie.Need-same-length-2
 same-length-2 c = search needs
 
 returns-3 : tie.Need-returns-3
-returns-3 c = λ h k l.
-    let e = c .before .before .before .before .before .before .before .before .before in
-    let s = entry e in
-    let J = s .pre .0 .0 in
-    let w = worded e in
-    let rows = e .before .before .before .before .before in
-    let i = sym (c .before .before .before .before .before .before .before .is-item .ensures) ∙ c .before .before .before .before .before .before .if2 .taken in
-    let j = sym (c .before .before .before .before .before .is-item2 .ensures) ∙ c .before .before .before .before .if3 .left in
-    let R = c .before .before .relate-literal .ensures h in
-    object-right (lent s) (now (s .args .records)) (s .args .from) (s .args .size) (s .args .switches) (s .args .condition) (in-file e .0) (in-file e .1) k
-    (s .pre .1) (w .subject) (w .object) (w .scale) (first s) i j (field-of J (sides s .0) i (w .subject) .inside) (R .digits)
-    (rw (rows .before .row-of .ensures, c .before .before .before .before .before .before .before .before .asked-of .ensures) at (R .told k l))
+returns-3 c = (
+  λ h k l.
+      let e = c .before .before .before .before .before .before .before .before .before in
+      let s = entry e in
+      let J = s .pre .0 .0 in
+      let w = worded e in
+      let rows = e .before .before .before .before .before in
+      let i = sym (c .before .before .before .before .before .before .before .is-item .ensures) ∙ c .before .before .before .before .before .before .if2 .taken in
+      let j = sym (c .before .before .before .before .before .is-item2 .ensures) ∙ c .before .before .before .before .if3 .left in
+      let R = c .before .before .relate-literal .ensures .0 h in
+      object-right (lent s) (now (s .args .records)) (s .args .from) (s .args .size) (s .args .switches) (s .args .condition) (in-file e .0) (in-file e .1) k
+      (s .pre .1) (w .subject) (w .object) (w .scale) (first s) i j (field-of J (sides s .0) i (w .subject) .inside) (R .digits)
+      (rw (rows .before .row-of .ensures, c .before .before .before .before .before .before .before .before .asked-of .ensures) at (R .told k l)),
+  c .before .before .relate-literal .ensures .1,
+)
 
 is-item-requires-3 : tie.Need-is-item-requires-3
 is-item-requires-3 c κs = search needs
@@ -156,21 +162,24 @@ same-length-3 : tie.Need-same-length-3
 same-length-3 c = search needs
 
 returns-4 : tie.Need-returns-4
-returns-4 c = λ h k l.
-    let e = c .before .before .before .before .before .before .before .before .before in
-    let s = entry e in
-    let J = s .pre .0 .0 in
-    let w = worded e in
-    let rows = e .before .before .before .before .before in
-    let i = sym (c .before .before .before .before .before .before .before .is-item .ensures) ∙ c .before .before .before .before .before .before .if2 .left in
-    let j = sym (c .before .before .before .before .before .is-item3 .ensures) ∙ c .before .before .before .before .if4 .taken in
-    let R = c .before .before .relate-literal2 .ensures h in
-    subject-right (lent s) (now (s .args .records)) (s .args .from) (s .args .size) (s .args .switches) (s .args .condition) (in-file e .0) (in-file e .1) k
-    (s .pre .1) (w .subject) (w .object) (w .scale) (first s) i j (field-of J (sides s .1) j (w .object) .inside) (R .digits)
-    (rw (rows .row-of2 .ensures, c .before .before .before .before .before .before .before .before .asked-of .ensures) at (R .told k l))
+returns-4 c = (
+  λ h k l.
+      let e = c .before .before .before .before .before .before .before .before .before in
+      let s = entry e in
+      let J = s .pre .0 .0 in
+      let w = worded e in
+      let rows = e .before .before .before .before .before in
+      let i = sym (c .before .before .before .before .before .before .before .is-item .ensures) ∙ c .before .before .before .before .before .before .if2 .left in
+      let j = sym (c .before .before .before .before .before .is-item3 .ensures) ∙ c .before .before .before .before .if4 .taken in
+      let R = c .before .before .relate-literal2 .ensures .0 h in
+      subject-right (lent s) (now (s .args .records)) (s .args .from) (s .args .size) (s .args .switches) (s .args .condition) (in-file e .0) (in-file e .1) k
+      (s .pre .1) (w .subject) (w .object) (w .scale) (first s) i j (field-of J (sides s .1) j (w .object) .inside) (R .digits)
+      (rw (rows .row-of2 .ensures, c .before .before .before .before .before .before .before .before .asked-of .ensures) at (R .told k l)),
+  c .before .before .relate-literal2 .ensures .1,
+)
 
 returns-5 : tie.Need-returns-5
-returns-5 c = λ e. absurd (false≢true e)
+returns-5 c = (λ e. absurd (false≢true e), λ _. refl)
 
 pub judge-relation-spec : {M : Type 1} → statement M
 judge-relation-spec =

@@ -1,5 +1,5 @@
 -- The literal's word, and then the field.
-use mathlib.Core.Path.{_≡_, sym, ap, _∙_}
+use mathlib.Core.Path.{_≡_, sym, ap, _∙_, refl}
 use mathlib.Core.Bool.{Bool, true, false, _&&_, false≢true}
 use Prim.Native.Nat.{ℕ, _<_, _≤_}
 use native.Mathlib.Omega.{arith}
@@ -11,8 +11,9 @@ use borrow.Author.Tests.{not-false, eqb-true}
 use Rattle.tables.specs.Operands.{lendNames, rowOf}
 use Rattle.tables.proofs.Tests.{both}
 use Rattle.values.proofs.Reading.{read-relation, read-class}
-use Rattle.digit_words.specs.Words.{digitWord, digitsIn, fitsWord}
-use Rattle.digit_words.proofs.WordLaws.{Bytes, bytes-of}
+use Rattle.byte_words.specs.Words.{digitWord, digitsIn}
+use Rattle.digit_words.specs.Words.{fitsWord}
+use Rattle.byte_words.proofs.WordLaws.{Bytes, bytes-of}
 use Rattle.columns.proofs.Sides.{first-readable, first-within, field-of, items-right, object-right, subject-right, numeric-right}
 use borrow.Author.Needs.{needs}
 use Rattle.columns.proofs.rows.relate_literal.Statement.{statement}
@@ -40,7 +41,7 @@ all-digits-requires : tie.Need-all-digits-requires
 all-digits-requires c κs = search needs
 
 returns : tie.Need-returns
-returns c = λ e. absurd (false≢true e)
+returns c = (λ e. absurd (false≢true e), λ _. refl)
 
 relate-field-requires : tie.Need-relate-field-requires
 relate-field-requires c κs = search needs
@@ -49,12 +50,15 @@ same-length : tie.Need-same-length
 same-length c = search needs
 
 returns-2 : tie.Need-returns-2
-returns-2 c = λ _.
-    let e = (c .before .before .before .before .before .before .short-word .ensures ∙ ap digitWord (c .before .before .before .before .before .before .before .operand-bytes .ensures)) in
-    record {
-      digits = rw e at (sym (c .before .before .before .before .before .all-digits .ensures) ∙ not-false _ (c .before .before .before .before .if1 .left));
-      told = λ k l. rw e at (c .before .before .relate-field .ensures k l);
-    }
+returns-2 c = (
+  λ _.
+      let e = (c .before .before .before .before .before .before .short-word .ensures ∙ ap digitWord (c .before .before .before .before .before .before .before .operand-bytes .ensures)) in
+      record {
+        digits = rw e at (sym (c .before .before .before .before .before .all-digits .ensures) ∙ not-false _ (c .before .before .before .before .if1 .left));
+        told = λ k l. rw e at (c .before .before .relate-field .ensures k l);
+      },
+  λ e. absurd (false≢true (sym e)),
+)
 
 pub relate-literal-spec : {M : Type 1} → statement M
 relate-literal-spec =

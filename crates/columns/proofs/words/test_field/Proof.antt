@@ -6,7 +6,7 @@ use native.Mathlib.Omega.{arith}
 use lib.ListN.{length, getD}
 use denote.Ref.{now}
 use borrow.Author.Needs.{needs}
-use Rattle.digit_words.specs.Words.{digitsIn}
+use Rattle.byte_words.specs.Words.{digitsIn}
 use Rattle.places.proofs.Storing.{Stored, none-stored, stores}
 use Rattle.columns.specs.Columns.{wordAt, compared}
 use Rattle.columns.proofs.Bases.{next-base, ends-inside, field-there}

@@ -19,13 +19,13 @@ use Rattle.field_rows.proofs.each.relate_each.Statement.{statement}
 use Rattle.field_rows.proofs.each.relate_each.Tie as tie
 
 abbrev Inv-loop : tie.InvT-loop
-Inv-loop records from size n item1 row1 left item2 row2 right word negated at place truths₀ base₀ j₀ truths base j =
+Inv-loop records from size n numeric item1 row1 left item2 row2 right word negated at place truths₀ base₀ j₀ truths base j =
     (j ≤ n) × (base ≡ from + j * size)
     × Stored (λ k v. getD at k 0 ≡ place → Right (relationOutcome word negated (side item1 row1 (cond item1 (part row1 (recordAt records from size k)) left))
     (side item2 row2 (cond item2 (part row2 (recordAt records from size k)) right))) v) truths₀ truths j
 
 abbrev μ-loop : tie.MeasureT-loop
-μ-loop records from size n item1 row1 left item2 row2 right word negated at place truths₀ base₀ j₀ truths base j = n - j
+μ-loop records from size n numeric item1 row1 left item2 row2 right word negated at place truths₀ base₀ j₀ truths base j = n - j
 
 loop-holds : tie.Need-loop-holds Inv-loop μ-loop
 loop-holds c = (omega arith, omega arith, none-stored _ _)
@@ -59,18 +59,16 @@ side-bytes-requires-2 c κs = λ i.
     rw (at-record (now (a .records)) (a .from) (a .size) (l .j) (l .inv .1))
     (item-inside (a .item2) (a .row2) _ (now (a .right)) (c .before .before .before .before .before .before .before .before .before .before .before .pre .1 (l .j) (c .before .before .before .before .loop-test .taken) .1) i)
 
-sides-outcome-requires : tie.Need-sides-outcome-requires Inv-loop μ-loop
-sides-outcome-requires c κs =
+side-truth-requires : tie.Need-side-truth-requires Inv-loop μ-loop
+side-truth-requires c κs =
     let l = c .before .before .before .before .before .before .loop in
-    let a = c .before .before .before .before .before .before .before .before .before .before .before .before .args in
-    rw (c .before .side-bytes .ensures, c .side-bytes2 .ensures, at-record (now (a .records)) (a .from) (a .size) (l .j) (l .inv .1))
-    (c .before .before .before .before .before .before .before .before .before .before .before .before .pre .1 (l .j) (c .before .before .before .before .before .loop-test .taken))
-
-truth-number-requires : tie.Need-truth-number-requires Inv-loop μ-loop
-truth-number-requires c κs = search needs
+    let start = c .before .before .before .before .before .before .before .before .before .before .before .before in
+    let a = start .args in
+    let f = start .pre .1 (l .j) (c .before .before .before .before .before .loop-test .taken) in
+    rw (c .before .side-bytes .ensures, c .side-bytes2 .ensures, at-record (now (a .records)) (a .from) (a .size) (l .j) (l .inv .1)) (f .0, f .1, start .pre .0 .3)
 
 slice-write-truths : tie.Need-slice-write-truths Inv-loop μ-loop
-slice-write-truths c = omega (arith, c .before .before .before .before .before .before .before .before .loop .inv .2 .long, c .before .before .before .before .before .before .before .before .before .before .before .before .before .before .pre .0 .0 .few)
+slice-write-truths c = omega (arith, c .before .before .before .before .before .before .before .loop .inv .2 .long, c .before .before .before .before .before .before .before .before .before .before .before .before .before .pre .0 .0 .few)
 
 add-base : tie.Need-add-base Inv-loop μ-loop
 add-base c = let l = c .before .before .before .loop in omega (arith, l .inv .1, c .before .before .before .before .before .before .before .before .before .pre .0 .0 .within (l .j) (c .before .before .loop-test .taken))
@@ -90,13 +88,12 @@ loop-again c =
       omega arith,
       next-base (a .from) (l .j) (a .size) (l .inv .1),
       ⊎-elim
-          (λ w. rw (w .6) (stores _ _ (l .inv .2) (omega (arith, start .pre .0 .0 .few, start .pre .0 .2))
+          (λ w. rw (w .5) (stores _ _ (l .inv .2) (omega (arith, start .pre .0 .0 .few, start .pre .0 .2))
           (λ _. right-for
-          (w .4 .ensures
-          ∙ ap₂ (λ (x y : List ℕ). relationOutcome (a .word) (a .negated) (side (a .item1) (a .row1) x) (side (a .item2) (a .row2) y))
+          (ap₂ (λ (x y : List ℕ). relationOutcome (a .word) (a .negated) (side (a .item1) (a .row1) x) (side (a .item2) (a .row2) y))
           (w .2 .ensures ∙ ap (λ (x : List ℕ). cond (a .item1) (part (a .row1) x) (now (a .left))) here)
           (w .3 .ensures ∙ ap (λ (x : List ℕ). cond (a .item2) (part (a .row2) x) (now (a .right))) here))
-          (w .5 .ensures))))
+          (w .4 .ensures))))
           (λ w. rw (w .1) (skips _ _ (l .inv .2) (λ e. absurd (w .0 .left e))))
           (c .if1 .came),
     )
@@ -121,8 +118,7 @@ relate-each-spec =
     part-record-end
     side-bytes-requires
     side-bytes-requires-2
-    sides-outcome-requires
-    truth-number-requires
+    side-truth-requires
     slice-write-truths
     add-base
     add-j

@@ -1,5 +1,5 @@
 -- By what the row tests.
-use mathlib.Core.Path.{sym, _∙_}
+use mathlib.Core.Path.{sym, _∙_, _≡_, refl}
 use mathlib.Core.Bool.{false≢true}
 use borrow.Author.Needs.{needs}
 use Rattle.field_rows.proofs.rows.judge_fields.Statement.{statement}
@@ -33,22 +33,22 @@ same-length : tie.Need-same-length
 same-length c = search needs
 
 returns : tie.Need-returns
-returns c = λ t. c .before .before .judge-relation .ensures
+returns c = (λ t. c .before .before .judge-relation .ensures, λ e. absurd (false≢true (sym e)))
 
 same-length-2 : tie.Need-same-length-2
 same-length-2 c = search needs
 
 returns-2 : tie.Need-returns-2
-returns-2 c = λ t. c .before .before .judge-class .ensures
+returns-2 c = (λ t. c .before .before .judge-class .ensures, λ e. absurd (false≢true (sym e)))
 
 returns-3 : tie.Need-returns-3
-returns-3 c = λ e. absurd (false≢true e)
+returns-3 c = (λ e. absurd (false≢true e), λ _. refl)
 
 returns-4 : tie.Need-returns-4
-returns-4 c = λ e. absurd (false≢true e)
+returns-4 c = (λ e. absurd (false≢true e), λ _. refl)
 
 returns-5 : tie.Need-returns-5
-returns-5 c = λ e. absurd (false≢true e)
+returns-5 c = (λ e. absurd (false≢true e), λ _. refl)
 
 pub judge-fields-spec : {M : Type 1} → statement M
 judge-fields-spec =

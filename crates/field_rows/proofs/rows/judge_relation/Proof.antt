@@ -1,4 +1,6 @@
 -- Rests on the sides of a record being those that are looked up, and on what `relate_each` ensures.
+use mathlib.Core.Path.{ap₂}
+use mathlib.Core.Bool.{_&&_}
 use native.Mathlib.Omega.{arith}
 use denote.Ref.{now}
 use borrow.Author.Needs.{needs}
@@ -40,17 +42,23 @@ is-item-requires c κs = search needs
 is-item-requires-2 : tie.Need-is-item-requires-2
 is-item-requires-2 c κs = search needs
 
+is-numeric-requires : tie.Need-is-numeric-requires
+is-numeric-requires c κs = search needs
+
+is-numeric-requires-2 : tie.Need-is-numeric-requires-2
+is-numeric-requires-2 c κs = search needs
+
 relate-each-requires : tie.Need-relate-each-requires
 relate-each-requires c κs =
-    let start = c .before .before .before .before .before .before .before .before .before .before .before .before .before .before .before in
+    let start = c .before .before .before .before .before .before .before .before .before .before .before .before .before .before .before .before .before in
     let a = start .args in
     let lent = lendNames (now (a .items)) (now (a .literals)) (now (a .bytes)) (now (a .names)) in (
-      (start .pre .0 .0 .laid, start .pre .0 .1, start .pre .0 .2),
+      (start .pre .0 .0 .laid, start .pre .0 .1, start .pre .0 .2, ap₂ _&&_ (c .before .before .is-numeric .ensures) (c .before .is-numeric2 .ensures)),
       (λ k l.
           let s = read-relation (start .pre .0 .0 .readable k l) (start .pre .1) in
           let content = recordAt (now (a .records)) (a .from) (a .size) k in (
-            side-fits lent _ content (a .condition .subject) (c .before .before .is-item .ensures) (c .before .before .before .before .before .before .row-of .ensures) (c .before .before .before .before .operand-bytes .ensures) (s .0),
-            side-fits lent _ content (a .condition .object) (c .before .is-item2 .ensures) (c .before .before .before .before .before .row-of2 .ensures) (c .before .before .before .operand-bytes2 .ensures) (s .1),
+            side-fits lent _ content (a .condition .subject) (c .before .before .before .before .is-item .ensures) (c .before .before .before .before .before .before .before .before .row-of .ensures) (c .before .before .before .before .before .before .operand-bytes .ensures) (s .0),
+            side-fits lent _ content (a .condition .object) (c .before .before .before .is-item2 .ensures) (c .before .before .before .before .before .before .before .row-of2 .ensures) (c .before .before .before .before .before .operand-bytes2 .ensures) (s .1),
           )),
     )
 
@@ -59,14 +67,14 @@ same-length c = search needs
 
 returns : tie.Need-returns
 returns c = λ k l e.
-    let start = c .before .before .before .before .before .before .before .before .before .before .before .before .before .before .before .before .before .before in
+    let start = c .before .before .before .before .before .before .before .before .before .before .before .before .before .before .before .before .before .before .before .before in
     let a = start .args in
     let lent = lendNames (now (a .items)) (now (a .literals)) (now (a .bytes)) (now (a .names)) in
     let content = recordAt (now (a .records)) (a .from) (a .size) k in
     right-for
     (relation-is lent content (a .switches) (a .condition .subject) (a .condition .relation) (a .condition .object) (start .pre .1)
-    (side-here lent _ content (a .condition .subject) (c .before .before .before .before .before .is-item .ensures) (c .before .before .before .before .before .before .before .before .before .row-of .ensures) (c .before .before .before .before .before .before .before .operand-bytes .ensures))
-    (side-here lent _ content (a .condition .object) (c .before .before .before .before .is-item2 .ensures) (c .before .before .before .before .before .before .before .before .row-of2 .ensures) (c .before .before .before .before .before .before .operand-bytes2 .ensures)))
+    (side-here lent _ content (a .condition .subject) (c .before .before .before .before .before .before .before .is-item .ensures) (c .before .before .before .before .before .before .before .before .before .before .before .row-of .ensures) (c .before .before .before .before .before .before .before .before .before .operand-bytes .ensures))
+    (side-here lent _ content (a .condition .object) (c .before .before .before .before .before .before .is-item2 .ensures) (c .before .before .before .before .before .before .before .before .before .before .row-of2 .ensures) (c .before .before .before .before .before .before .before .before .operand-bytes2 .ensures)))
     (c .before .before .relate-each .ensures k l e)
 
 pub judge-relation-spec : {M : Type 1} → statement M
@@ -83,6 +91,8 @@ judge-relation-spec =
     operand-bytes-requires-2
     is-item-requires
     is-item-requires-2
+    is-numeric-requires
+    is-numeric-requires-2
     relate-each-requires
     same-length
     returns)

@@ -1,51 +1,58 @@
--- Rests on the invariant that `fine` and `n` say of the first i bytes what they shall say of all, and on the room that n leaves.
-use mathlib.Core.Path.{_≡_, refl, sym}
-use Prim.Native.Nat.{_-_, _≤_}
+-- Rests on the invariant that `fine` and `n` say of the first i bytes what they shall say of all; eight bytes more are told by their word.
+use mathlib.Core.Path.{_≡_, refl, sym, ap, ap₂, _∙_}
+use mathlib.Core.Bool.{Bool, _&&_}
+use Prim.Native.Nat.{ℕ, _+_, _*_, _-_, _≤_}
 use native.Mathlib.Omega.{arith}
 use denote.Ref.{now}
 use lib.ListN.{length, take}
-use lib.Seq.{take-all}
 use borrow.Author.Needs.{needs}
 use Rattle.content.specs.Content.{all, isDigit, numberFrom}
-use Rattle.content.proofs.Bytes.{all-one-more}
-use Rattle.content.proofs.WrongByte.{valid-digits}
-use Rattle.numbers.proofs.NumberLaws.{number-one-more, number-room}
+use Rattle.content.proofs.Bytes.{all-block-more}
+use Rattle.byte_words.proofs.WordLaws.{bytes-of}
+use Rattle.numbers.proofs.NumberLaws.{number-eight-more, eight-valid, eight-number, eight-room}
 use Rattle.numbers.proofs.reading.read_digits.Statement.{statement}
 use Rattle.numbers.proofs.reading.read_digits.Tie as tie
 
 abbrev Inv-loop : tie.InvT-loop
-Inv-loop bytes marks fine₀ n₀ i₀ fine n i = (i ≤ length bytes) × (fine ≡ all isDigit (take i bytes)) × (n ≡ numberFrom 0 (take i bytes))
+Inv-loop bytes fine₀ n₀ i₀ fine n i = (i ≤ length bytes) × (fine ≡ all isDigit (take i bytes)) × (n ≡ numberFrom 0 (take i bytes))
 
 abbrev μ-loop : tie.MeasureT-loop
-μ-loop bytes marks fine₀ n₀ i₀ fine n i = length bytes - i
-
-marks-requires : tie.Need-marks-requires Inv-loop μ-loop
-marks-requires c κs = search needs
+μ-loop bytes fine₀ n₀ i₀ fine n i = length bytes - i
 
 loop-holds : tie.Need-loop-holds Inv-loop μ-loop
 unfolding all numberFrom
 loop-holds c = (omega arith, refl, refl)
 
-shared-slice-read-b : tie.Need-shared-slice-read-b Inv-loop μ-loop
-shared-slice-read-b c = omega arith
+sub-loop : tie.Need-sub-loop Inv-loop μ-loop
+sub-loop c = omega arith
 
-is-digit-requires : tie.Need-is-digit-requires Inv-loop μ-loop
-is-digit-requires c κs = c .before .before .before .before .marks .ensures
+add-field-word : tie.Need-add-field-word Inv-loop μ-loop
+add-field-word c = omega arith
+
+field-word-requires : tie.Need-field-word-requires Inv-loop μ-loop
+field-word-requires c κs = ((omega arith, omega arith), (omega arith, omega arith))
+
+all-digits-requires : tie.Need-all-digits-requires Inv-loop μ-loop
+all-digits-requires c κs = search needs
 
 mul-n : tie.Need-mul-n Inv-loop μ-loop
 mul-n c =
-    let l = c .before .before .before .before .loop in
-    let bytes = now (c .before .before .before .before .before .before .before .args .bytes) in
-    omega (arith, l .inv .2, number-room bytes (l .i) (omega arith) (omega arith))
+    let l = c .before .before .before .loop in
+    let bytes = now (c .before .before .before .before .before .args .bytes) in
+    let h : l .i + 8 ≤ length bytes = omega arith in
+    omega (arith, l .inv .2, number-eight-more bytes (l .i) h, eight-room bytes (l .i) h (omega arith))
 
-wide-requires : tie.Need-wide-requires Inv-loop μ-loop
-wide-requires c κs = search needs
+digits-value-requires : tie.Need-digits-value-requires Inv-loop μ-loop
+digits-value-requires c κs = search needs
 
 add-n : tie.Need-add-n Inv-loop μ-loop
 add-n c =
-    let l = c .before .before .before .before .before .loop in
-    let bytes = now (c .before .before .before .before .before .before .before .before .args .bytes) in
-    omega (arith, l .inv .2, number-room bytes (l .i) (omega arith) (omega arith))
+    let l = c .before .before .before .before .loop in
+    let bytes = now (c .before .before .before .before .before .before .args .bytes) in
+    let h : l .i + 8 ≤ length bytes = omega arith in
+    let b = bytes-of bytes (λ k. c .before .before .before .before .before .shared-slice-known .given k .fits) in
+    let v = eight-number bytes (l .i) h b (c .before .before .field-word .ensures) (c .digits-value .ensures) in
+    omega (arith, l .inv .2, v, number-eight-more bytes (l .i) h, eight-room bytes (l .i) h (omega arith))
 
 add-i : tie.Need-add-i Inv-loop μ-loop
 add-i c = omega arith
@@ -55,17 +62,23 @@ loop-less c = omega arith
 
 loop-again : tie.Need-loop-again Inv-loop μ-loop
 loop-again c =
-    let l = c .before .before .before .before .before .loop in
-    let bytes = now (c .before .before .before .before .before .before .before .before .args .bytes) in
-    let within = c .before .before .before .before .loop-test .taken in
-    let valid = all-one-more isDigit bytes (l .i) within (sym (c .before .is-digit .ensures)) in
-    (omega arith, rw (l .inv .1) (sym valid), rw (c .wide .ensures, l .inv .2) (sym (number-one-more bytes (l .i) within)))
+    let l = c .before .before .before .before .loop in
+    let bytes = now (c .before .before .before .before .before .before .args .bytes) in
+    let h : l .i + 8 ≤ length bytes = omega arith in
+    let b = bytes-of bytes (λ k. c .before .before .before .before .before .shared-slice-known .given k .fits) in
+    let w = c .before .before .field-word .ensures in (
+      omega arith,
+      ap₂ (λ (s t : Bool). s && t) (l .inv .1) (eight-valid bytes (l .i) h b w (c .before .all-digits .ensures)) ∙ sym (all-block-more isDigit bytes (l .i) 8),
+      ap₂ (λ (m n : ℕ). m * 100000000 + n) (l .inv .2) (eight-number bytes (l .i) h b w (c .digits-value .ensures)) ∙ sym (number-eight-more bytes (l .i) h),
+    )
+
+read-rest-requires : tie.Need-read-rest-requires Inv-loop μ-loop
+read-rest-requires c κs =
+    let l = c .before .loop in
+    ((l .inv .0, c .before .before .before .pre), (l .inv .1, l .inv .2))
 
 returns : tie.Need-returns Inv-loop μ-loop
-returns c =
-    let l = c .before .loop in
-    let bytes = now (c .before .before .before .before .args .bytes) in
-    rw (valid-digits 0 bytes, l .inv .1, l .inv .2, take-all (l .i) bytes (c .loop-test .left))
+returns c = c .read-rest .ensures
 
 pub read-digits-spec : {M : Type 1} → statement M
 read-digits-spec =
@@ -73,14 +86,16 @@ read-digits-spec =
     (tie.spec
     Inv-loop
     μ-loop
-    marks-requires
     loop-holds
-    shared-slice-read-b
-    is-digit-requires
+    sub-loop
+    add-field-word
+    field-word-requires
+    all-digits-requires
     mul-n
-    wide-requires
+    digits-value-requires
     add-n
     add-i
     loop-less
     loop-again
+    read-rest-requires
     returns)

@@ -1,0 +1,4 @@
+pub mod WordLaws
+pub mod TestLaws
+pub mod DigitLaws
+pub mod ValueLaws
