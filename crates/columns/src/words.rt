@@ -72,10 +72,10 @@ pub(crate) fn same_fields(
     let mut base = from;
     let mut j: usize = 0;
     while j < n {
-        let a = field_word(records, base + end1, width1);
-        let b = field_word(records, base + end2, width2);
-        let valid = all_digits(a) & all_digits(b);
-        truths[j] = choose(valid, choose(a == b, holds, fails), UNJUDGED);
+        let first = field_word(records, base + end1, width1);
+        let second = field_word(records, base + end2, width2);
+        let both = all_digits(first) & all_digits(second);
+        truths[j] = choose(both, choose(first == second, holds, fails), UNJUDGED);
         base += size;
         j += 1;
     }

@@ -43,8 +43,8 @@ fn value_truth(row1: Row, bytes1: &[u8], row2: Row, bytes2: &[u8], word: u32, ne
     requires { ⌜ Numeral row1 (now bytes1) × Numeral row2 (now bytes2) ⌝ }
     ensures { λ r. ⌜ ((item1 item2 : Bool) → Right (relationOutcome word negated (side item1 row1 (now (bytes1 .entry))) (side item2 row2 (now (bytes2 .entry)))) r) ⌝ }
 {
-    let left = read_number(row1.kind, row1.digits, bytes1);
-    let right = read_number(row2.kind, row2.digits, bytes2);
+    let left = read_number(row1, bytes1);
+    let right = read_number(row2, bytes2);
     if !(left.valid & right.valid) {
         return 2;
     }

@@ -7,7 +7,7 @@ use native.Mathlib.Omega.{arith}
 use lib.Dec.{eqb, leb}
 use lib.ListN.{length, take, drop}
 use borrow.Author.Tests.{leb-true}
-use Rattle.tables.specs.declared.Row.{Row}
+use Rattle.content.specs.declared.Row.{Row}
 use Rattle.tables.specs.Rows.{isGroup}
 use Rattle.tables.specs.Tokens.{isItem}
 use Rattle.tables.specs.Operands.{Lent, rowOf, operandBytes}

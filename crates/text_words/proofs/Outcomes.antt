@@ -10,7 +10,7 @@ use lib.ListN.{length}
 use borrow.Author.Tests.{eqb-true}
 use Rattle.content.specs.WrongByte.{nowhere, validContent}
 use Rattle.content.proofs.WrongByte.{valid-other}
-use Rattle.tables.specs.declared.Row.{Row}
+use Rattle.content.specs.declared.Row.{Row}
 use Rattle.tables.specs.Rows.{isGroup, isNumeric}
 use Rattle.tables.specs.Operands.{Lent, rowOf, operandBytes}
 use Rattle.tables.proofs.Tests.{both, either}

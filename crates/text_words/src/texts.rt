@@ -6,14 +6,14 @@ ghost use Rattle.byte_words.specs.Words.{wordFrom};
 ghost use Rattle.text_words.specs.Texts.{fitsText, textWord};
 use byte_words::words::mask;
 use byte_words::words::word_before;
-use tables::Row;
+use content::Row;
 use tables::rows::is_group;
 
 // Bytes that are not looked at, at most as many as a word has.
 pub fn fits_text(row: Row) -> bool
     ensures { λ r. ⌜ r ≡ fitsText row ⌝ }
 {
-    (is_group(row) | (row.kind == 2)) & (row.size <= 8)
+    (is_group(row) | (row.kind == Row::ALPHANUMERIC)) & (row.size <= 8)
 }
 
 fn spaces(count: usize) -> u64
