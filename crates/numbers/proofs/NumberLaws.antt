@@ -6,7 +6,8 @@ use Prim.Native.Nat.{ℕ, zero, suc, _+_, _-_, _*_, _/_, _%_, _^_, _≤_, _<_}
 use native.Mathlib.Omega.{arith}
 use native.Mathlib.Numerals.{add-one}
 use native.Mathlib.Decide.{decLt}
-use native.Mathlib.Nat.{zero-mul, mul-comm, mul-assoc, div-add-mod', div-lt-iff-lt-mul, div-mul-le-self, mod-lt, mul-pos, mul-lt-mul-of-pos-right, mul-le-mul-left, mul-le-mul-right, le-antisymm, pow-suc, pow-le-pow-right}
+use native.Mathlib.Nat.{zero-mul, mul-comm, mul-assoc, div-add-mod', div-lt-iff-lt-mul, div-mul-le-self, mod-lt, mul-pos, mul-lt-mul-of-pos-right}
+use native.Mathlib.Nat.{mul-le-mul-left, mul-le-mul-right, le-antisymm, pow-suc, pow-le-pow-right}
 use lib.Dec.{eqb, eqb·suc-zero}
 use lib.IntN.{ℤ, pos, _*ℤ_}
 use lib.ListN.{length, getD, take, drop, length-drop}

@@ -45,7 +45,8 @@ use Rattle.grammar.specs.Converted.{convertedTokens, convertedPlan}
 use Rattle.grammar.proofs.ConvertedSound.{converted-length}
 use Rattle.rules.specs.Places.{Small, Modest, Fits}
 use Rattle.rules.specs.Converting.{fitCheck, convertGives, convertPlanGives}
-use Rattle.rules.specs.Calls.{grammarCheck, earlier, typingCheck, conditionLines, roomCheck, writes, numbersOf, writing, expandGives, planGives, answers, told, treeAnswer, judgeWalk, judgeGives, runWalk, runGives}
+use Rattle.rules.specs.Calls.{grammarCheck, earlier, typingCheck, conditionLines, roomCheck, writes, numbersOf, writing, expandGives, planGives}
+use Rattle.rules.specs.Calls.{answers, told, treeAnswer, judgeWalk, judgeGives, runWalk, runGives}
 use Rattle.rules.proofs.Passing.{both-sound, passed, read-as, few-tokens as short-passed}
 use Rattle.rules.proofs.Answers.{runs-as}
 use Rattle.rules.proofs.Stops.{Stops, stops-near}

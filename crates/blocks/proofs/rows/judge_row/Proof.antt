@@ -67,8 +67,15 @@ returns-3 c = λ j l _. c .before .before .before .judge-texts .ensures .0 (c .i
 
 judge-fields-requires : tie.Need-judge-fields-requires
 judge-fields-requires c κs =
-    let start = c .before .before .before .before .before .before .before .before .before .before .before .before .before .before .before .before .before .before .before in
-    (start .pre .0, start .pre .1 .0, c .before .before .before .before .judge-texts .kept .1 .1 .1 .1 .1 .1 .1 .1 .1 .1 .0 ∙ c .before .before .before .before .before .before .before .before .before .judge-columns .kept .1 .1 .1 .1 .1 .1 .1 .1 .1 .1 .0 ∙ start .pre .1 .1)
+    let c4 = c .before .before .before .before in
+    let c9 = c4 .before .before .before .before .before in
+    let c19 = c9 .before .before .before .before .before .before .before .before .before .before in
+    let start = c19 in (
+      start .pre .0,
+      start .pre .1 .0,
+      c4 .judge-texts .kept .1 .1 .1 .1 .1 .1 .1 .1 .1 .1 .0 ∙ c9 .judge-columns .kept .1 .1 .1 .1 .1 .1 .1 .1 .1 .1 .0
+          ∙ start .pre .1 .1,
+    )
 
 same-length-4 : tie.Need-same-length-4
 same-length-4 c = search needs
@@ -78,8 +85,13 @@ returns-4 c = c .before .before .before .judge-fields .ensures .0 (c .if4 .taken
 
 judge-each-requires : tie.Need-judge-each-requires
 judge-each-requires c κs =
-    let start = c .before .before .before .before .before .before .before .before .before .before .before .before .before .before .before .before .before .before .before .before .before .before .before .before in
-    let kept = c .before .before .before .before .judge-fields .kept .1 .1 .1 .1 .1 .1 .1 .1 .1 .1 .1 .1 .0 ∙ c .before .before .before .before .before .before .before .before .before .judge-texts .kept .1 .1 .1 .1 .1 .1 .1 .1 .1 .1 .0 ∙ c .before .before .before .before .before .before .before .before .before .before .before .before .before .before .judge-columns .kept .1 .1 .1 .1 .1 .1 .1 .1 .1 .1 .0 in
+    let c4 = c .before .before .before .before in
+    let c9 = c4 .before .before .before .before .before in
+    let c14 = c9 .before .before .before .before .before in
+    let c24 = c14 .before .before .before .before .before .before .before .before .before .before in
+    let start = c24 in
+    let kept = c4 .judge-fields .kept .1 .1 .1 .1 .1 .1 .1 .1 .1 .1 .1 .1 .0 ∙ c9 .judge-texts .kept .1 .1 .1 .1 .1 .1 .1 .1 .1 .1 .0 ∙ c14 .judge-columns .kept .1 .1 .1 .1 .1 .1 .1 .1 .1 .1 .0
+    in
     (start .pre .0, (start .pre .1 .0, kept ∙ start .pre .1 .1))
 
 same-length-5 : tie.Need-same-length-5

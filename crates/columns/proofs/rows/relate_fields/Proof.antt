@@ -78,19 +78,22 @@ same-length-2 : tie.Need-same-length-2
 same-length-2 c = search needs
 
 returns-2 : tie.Need-returns-2
-returns-2 c = λ k l.
-    let s = c .before .before .before .before .before .before .before .before .before .before .before .before .before .before in
-    asked-related (s .args .asked) (left s k) (right s k) (valid s k) (ltb (right s k) (left s k)) (rw (c .before .before .before .before .before .before .before .before .before .if1 .left, c .before .before .before .before .before .before .before .before .if2 .taken))
+returns-2 c =
+    let c4 = c .before .before .before .before in
+    let c7 = c4 .before .before .before in
+    let c10 = c7 .before .before .before in
+    let c14 = c10 .before .before .before .before in
+    λ k l. let s = c14 in
+    asked-related (s .args .asked) (left s k) (right s k) (valid s k) (ltb (right s k) (left s k)) (rw (c7 .before .before .if1 .left, c7 .before .if2 .taken))
     (rw (
-      c .before .before .before .before .before .before .before .before .before .before .before .truth-bit .ensures,
-      c .before .before .before .before .before .before .before .before .before .before .truth-bit2 .ensures,
-      c .before .before .before .before .before .before .before .end-of3 .ensures,
-      c .before .before .before .before .before .before .wide3 .ensures,
-      c .before .before .before .before .before .end-of4 .ensures,
-      c .before .before .before .before .wide4 .ensures,
-    ) at (c .before .before .less-fields .ensures k l)
-    ∙ ap (λ (t : Bool). tested t (ltb (right s k) (left s k)) (bit (turned (s .args .asked .turned) true)) (bit (turned (s .args .asked .turned) false)))
-    (and-comm (digitsIn 8 (right s k)) (digitsIn 8 (left s k))))
+      c10 .before .truth-bit .ensures,
+      c10 .truth-bit2 .ensures,
+      c7 .end-of3 .ensures,
+      c4 .before .before .wide3 .ensures,
+      c4 .before .end-of4 .ensures,
+      c4 .wide4 .ensures,
+    ) at (c .before .before .less-fields .ensures k l) ∙ ap (λ (t : Bool). tested t (ltb (right s k) (left s k)) (bit (turned (s .args .asked .turned)
+    true)) (bit (turned (s .args .asked .turned) false))) (and-comm (digitsIn 8 (right s k)) (digitsIn 8 (left s k))))
 
 end-of-requires-5 : tie.Need-end-of-requires-5
 end-of-requires-5 c κs = search needs
@@ -111,16 +114,20 @@ same-length-3 : tie.Need-same-length-3
 same-length-3 c = search needs
 
 returns-3 : tie.Need-returns-3
-returns-3 c = λ k l.
-    let s = c .before .before .before .before .before .before .before .before .before .before .before .before .before .before in
-    asked-related (s .args .asked) (left s k) (right s k) (valid s k) (ltb (left s k) (right s k)) (rw (c .before .before .before .before .before .before .before .before .before .if1 .left, c .before .before .before .before .before .before .before .before .if2 .left))
+returns-3 c =
+    let c4 = c .before .before .before .before in
+    let c7 = c4 .before .before .before in
+    let c10 = c7 .before .before .before in
+    let c14 = c10 .before .before .before .before in
+    λ k l. let s = c14 in
+    asked-related (s .args .asked) (left s k) (right s k) (valid s k) (ltb (left s k) (right s k)) (rw (c7 .before .before .if1 .left, c7 .before .if2 .left))
     (rw (
-      c .before .before .before .before .before .before .before .before .before .before .before .truth-bit .ensures,
-      c .before .before .before .before .before .before .before .before .before .before .truth-bit2 .ensures,
-      c .before .before .before .before .before .before .before .end-of5 .ensures,
-      c .before .before .before .before .before .before .wide5 .ensures,
-      c .before .before .before .before .before .end-of6 .ensures,
-      c .before .before .before .before .wide6 .ensures,
+      c10 .before .truth-bit .ensures,
+      c10 .truth-bit2 .ensures,
+      c7 .end-of5 .ensures,
+      c4 .before .before .wide5 .ensures,
+      c4 .before .end-of6 .ensures,
+      c4 .wide6 .ensures,
     ) at (c .before .before .less-fields2 .ensures k l))
 
 pub relate-fields-spec : {M : Type 1} → statement M

@@ -23,7 +23,9 @@ next : (c : tie.After-known-told Inv-loop μ-loop) →
     let (a, (n, (b, (place, (carry, _))))) = c .before .single .given .0 in
     Progress (c .before .before .before .before .before .before .before .before .args .tokens .now) (l .inv .0 ++ full-form a n b) place (l .written + length (full-form a n b)) carry
     × (n < 64) × (l .at < place)
-next c = further (c .before .before .before .before .before .loop .inv .1) (c .before .before .before .before .loop-test .taken) (c .before .before .before .read-part .ensures) (c .before .single .given .1)
+next c =
+    let c4 = c .before .before .before .before in
+    further (c4 .before .loop .inv .1) (c4 .loop-test .taken) (c .before .before .before .read-part .ensures) (c .before .single .given .1)
 
 room : (c : tie.After-known-told Inv-loop μ-loop) →
     let (a, (n, (b, _))) = c .before .single .given .0 in
@@ -52,11 +54,16 @@ part-write-simple-start c = let f = c .before .before .before .before .before .l
 
 write-simple-requires : tie.Need-write-simple-requires Inv-loop μ-loop
 write-simple-requires c κs =
-    let l = c .before .before .before .before .before .before .loop in
-    (next (c .before) .1, rw (front-rest (l .inv .2)) (omega (arith, room (c .before), length-drop (l .written) (c .before .before .before .before .before .before .before .before .before .args .out .now))))
+    let c6 = c .before .before .before .before .before .before in
+    let c9 = c6 .before .before .before in
+    let l = c6 .loop in
+    (next (c .before) .1, rw (front-rest (l .inv .2)) (omega (arith, room (c .before), length-drop (l .written) (c9 .args .out .now))))
 
 add-written : tie.Need-add-written Inv-loop μ-loop
-add-written c = omega (arith, room (c .before .before .before .before), c .before .before .write-simple .ensures .0, c .before .before .before .before .before .before .before .before .before .before .before .before .good)
+add-written c =
+    let c4 = c .before .before .before .before in
+    let c12 = c4 .before .before .before .before .before .before .before .before in
+    omega (arith, room (c4), c .before .before .write-simple .ensures .0, c12 .good)
 
 loop-less : tie.Need-loop-less Inv-loop μ-loop
 loop-less c =

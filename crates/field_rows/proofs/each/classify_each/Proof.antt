@@ -34,7 +34,10 @@ shared-slice-read-if1 : tie.Need-shared-slice-read-if1 Inv-loop μ-loop
 shared-slice-read-if1 c = omega (arith, c .before .before .before .before .before .before .pre .0 .0 .few)
 
 add-record : tie.Need-add-record Inv-loop μ-loop
-add-record c = let l = c .before .before .before .loop in omega (arith, l .inv .1, c .before .before .before .before .before .before .before .pre .0 .0 .within (l .j) (c .before .before .loop-test .taken))
+add-record c =
+    let c7 = c .before .before .before .before .before .before .before in
+    let l = c .before .before .before .loop in
+    omega (arith, l .inv .1, c7 .pre .0 .0 .within (l .j) (c .before .before .loop-test .taken))
 
 sub-record : tie.Need-sub-record Inv-loop μ-loop
 sub-record c = omega arith
@@ -43,19 +46,26 @@ part-record-start : tie.Need-part-record-start Inv-loop μ-loop
 part-record-start c = omega arith
 
 part-record-end : tie.Need-part-record-end Inv-loop μ-loop
-part-record-end c = let l = c .before .before .before .loop in omega (arith, l .inv .1, c .before .before .before .before .before .before .before .pre .0 .0 .within (l .j) (c .before .before .loop-test .taken))
+part-record-end c =
+    let c7 = c .before .before .before .before .before .before .before in
+    let l = c .before .before .before .loop in
+    omega (arith, l .inv .1, c7 .pre .0 .0 .within (l .j) (c .before .before .loop-test .taken))
 
 row-part-requires : tie.Need-row-part-requires Inv-loop μ-loop
 row-part-requires c κs =
-    let l = c .before .before .before .before .loop in
-    let a = c .before .before .before .before .before .before .before .before .args in
-    rw (at-record (now (a .records)) (a .from) (a .size) (l .j) (l .inv .1)) (part-inside true (a .row) _ (c .before .before .before .before .before .before .before .before .pre .1 (l .j) (c .before .before .before .loop-test .taken)))
+    let c4 = c .before .before .before .before in
+    let c8 = c4 .before .before .before .before in
+    let l = c4 .loop in
+    let a = c8 .args in
+    rw (at-record (now (a .records)) (a .from) (a .size) (l .j) (l .inv .1)) (part-inside true (a .row) _ (c8 .pre .1 (l .j) (c .before .before .before .loop-test .taken)))
 
 class-holds-requires : tie.Need-class-holds-requires Inv-loop μ-loop
 class-holds-requires c κs =
-    let l = c .before .before .before .before .before .loop in
-    let a = c .before .before .before .before .before .before .before .before .before .args in
-    rw (c .row-part .ensures, at-record (now (a .records)) (a .from) (a .size) (l .j) (l .inv .1)) (some-bytes (c .before .before .before .before .before .before .before .before .before .pre .1 (l .j) (c .before .before .before .before .loop-test .taken)))
+    let c4 = c .before .before .before .before in
+    let c9 = c4 .before .before .before .before .before in
+    let l = c4 .before .loop in
+    let a = c9 .args in
+    rw (c .row-part .ensures, at-record (now (a .records)) (a .from) (a .size) (l .j) (l .inv .1)) (some-bytes (c9 .pre .1 (l .j) (c4 .loop-test .taken)))
 
 truth-value-requires : tie.Need-truth-value-requires Inv-loop μ-loop
 truth-value-requires c κs = search needs
@@ -64,10 +74,16 @@ truth-number-requires : tie.Need-truth-number-requires Inv-loop μ-loop
 truth-number-requires c κs = search needs
 
 slice-write-truths : tie.Need-slice-write-truths Inv-loop μ-loop
-slice-write-truths c = omega (arith, c .before .before .before .before .before .before .before .before .loop .inv .2 .long, c .before .before .before .before .before .before .before .before .before .before .before .before .pre .0 .0 .few)
+slice-write-truths c =
+    let c8 = c .before .before .before .before .before .before .before .before in
+    let c12 = c8 .before .before .before .before in
+    omega (arith, c8 .loop .inv .2 .long, c12 .pre .0 .0 .few)
 
 add-base : tie.Need-add-base Inv-loop μ-loop
-add-base c = let l = c .before .before .before .loop in omega (arith, l .inv .1, c .before .before .before .before .before .before .before .pre .0 .0 .within (l .j) (c .before .before .loop-test .taken))
+add-base c =
+    let c7 = c .before .before .before .before .before .before .before in
+    let l = c .before .before .before .loop in
+    omega (arith, l .inv .1, c7 .pre .0 .0 .within (l .j) (c .before .before .loop-test .taken))
 
 add-j : tie.Need-add-j Inv-loop μ-loop
 add-j c = omega arith

@@ -34,7 +34,10 @@ shared-slice-read-if1 : tie.Need-shared-slice-read-if1 Inv-loop μ-loop
 shared-slice-read-if1 c = omega (arith, c .before .before .before .before .before .before .before .before .pre .0 .0 .few)
 
 add-record : tie.Need-add-record Inv-loop μ-loop
-add-record c = let l = c .before .before .before .loop in omega (arith, l .inv .1, c .before .before .before .before .before .before .before .before .before .pre .0 .0 .within (l .j) (c .before .before .loop-test .taken))
+add-record c =
+    let c9 = c .before .before .before .before .before .before .before .before .before in
+    let l = c .before .before .before .loop in
+    omega (arith, l .inv .1, c9 .pre .0 .0 .within (l .j) (c .before .before .loop-test .taken))
 
 sub-record : tie.Need-sub-record Inv-loop μ-loop
 sub-record c = omega arith
@@ -43,21 +46,28 @@ part-record-start : tie.Need-part-record-start Inv-loop μ-loop
 part-record-start c = omega arith
 
 part-record-end : tie.Need-part-record-end Inv-loop μ-loop
-part-record-end c = let l = c .before .before .before .loop in omega (arith, l .inv .1, c .before .before .before .before .before .before .before .before .before .pre .0 .0 .within (l .j) (c .before .before .loop-test .taken))
+part-record-end c =
+    let c9 = c .before .before .before .before .before .before .before .before .before in
+    let l = c .before .before .before .loop in
+    omega (arith, l .inv .1, c9 .pre .0 .0 .within (l .j) (c .before .before .loop-test .taken))
 
 side-bytes-requires : tie.Need-side-bytes-requires Inv-loop μ-loop
-side-bytes-requires c κs = λ i.
-    let l = c .before .before .before .before .loop in
-    let a = c .before .before .before .before .before .before .before .before .before .before .args in
-    rw (at-record (now (a .records)) (a .from) (a .size) (l .j) (l .inv .1))
-    (item-inside (a .item1) (a .row1) _ (now (a .left)) (c .before .before .before .before .before .before .before .before .before .before .pre .1 (l .j) (c .before .before .before .loop-test .taken) .0) i)
+side-bytes-requires c κs =
+    let c4 = c .before .before .before .before in
+    let c10 = c4 .before .before .before .before .before .before in
+    λ i. let l = c4 .loop in
+    let a = c10 .args in
+    rw (at-record (now (a .records)) (a .from) (a .size) (l .j) (l .inv .1)) (item-inside (a .item1) (a .row1) _ (now (a .left)) (c10 .pre .1 (l .j)
+    (c .before .before .before .loop-test .taken) .0) i)
 
 side-bytes-requires-2 : tie.Need-side-bytes-requires-2 Inv-loop μ-loop
-side-bytes-requires-2 c κs = λ i.
-    let l = c .before .before .before .before .before .loop in
-    let a = c .before .before .before .before .before .before .before .before .before .before .before .args in
-    rw (at-record (now (a .records)) (a .from) (a .size) (l .j) (l .inv .1))
-    (item-inside (a .item2) (a .row2) _ (now (a .right)) (c .before .before .before .before .before .before .before .before .before .before .before .pre .1 (l .j) (c .before .before .before .before .loop-test .taken) .1) i)
+side-bytes-requires-2 c κs =
+    let c4 = c .before .before .before .before in
+    let c11 = c4 .before .before .before .before .before .before .before in
+    λ i. let l = c4 .before .loop in
+    let a = c11 .args in
+    rw (at-record (now (a .records)) (a .from) (a .size) (l .j) (l .inv .1)) (item-inside (a .item2) (a .row2) _ (now (a .right)) (c11 .pre .1 (l .j)
+    (c4 .loop-test .taken) .1) i)
 
 side-truth-requires : tie.Need-side-truth-requires Inv-loop μ-loop
 side-truth-requires c κs =
@@ -68,10 +78,16 @@ side-truth-requires c κs =
     rw (c .before .side-bytes .ensures, c .side-bytes2 .ensures, at-record (now (a .records)) (a .from) (a .size) (l .j) (l .inv .1)) (f .0, f .1, start .pre .0 .3)
 
 slice-write-truths : tie.Need-slice-write-truths Inv-loop μ-loop
-slice-write-truths c = omega (arith, c .before .before .before .before .before .before .before .loop .inv .2 .long, c .before .before .before .before .before .before .before .before .before .before .before .before .before .pre .0 .0 .few)
+slice-write-truths c =
+    let c7 = c .before .before .before .before .before .before .before in
+    let c13 = c7 .before .before .before .before .before .before in
+    omega (arith, c7 .loop .inv .2 .long, c13 .pre .0 .0 .few)
 
 add-base : tie.Need-add-base Inv-loop μ-loop
-add-base c = let l = c .before .before .before .loop in omega (arith, l .inv .1, c .before .before .before .before .before .before .before .before .before .pre .0 .0 .within (l .j) (c .before .before .loop-test .taken))
+add-base c =
+    let c9 = c .before .before .before .before .before .before .before .before .before in
+    let l = c .before .before .before .loop in
+    omega (arith, l .inv .1, c9 .pre .0 .0 .within (l .j) (c .before .before .loop-test .taken))
 
 add-j : tie.Need-add-j Inv-loop μ-loop
 add-j c = omega arith

@@ -35,24 +35,25 @@ truth-number-requires : tie.Need-truth-number-requires
 truth-number-requires c κs = search needs
 
 returns-2 : tie.Need-returns-2
-returns-2 c = λ i j.
-    let start = c .before .before .before .before .before .before .before .before .before .before .before in
+returns-2 c =
+    let c4 = c .before .before .before .before in
+    let c7 = c4 .before .before .before in
+    let c11 = c7 .before .before .before .before in
+    λ i j. let start = c11 in
     let a = start .args in
     let s = side i (a .row1) (now (a .bytes1)) in
     let o = side j (a .row2) (now (a .bytes2)) in
     let m = start .pre .0 .kind in
     let n = start .pre .1 .kind in
-    let one = c .before .before .before .before .before .before .before .before .read-number .ensures in
-    let other = c .before .before .before .before .before .before .before .read-number2 .ensures in
-    let fine = both (c .before .before .before .before .before .before .before .before .read-number .result .valid) (c .before .before .before .before .before .before .before .read-number2 .result .valid) (not-false _ (c .before .before .before .before .if1 .left)) in
+    let one = c7 .before .read-number .ensures in
+    let other = c7 .read-number2 .ensures in
+    let fine = both (c7 .before .read-number .result .valid) (c7 .read-number2 .result .valid) (not-false _ (c4 .if1 .left)) in
     let order = rw (one, other) at (c .before .before .before .compare-scaled .ensures) in
-    let f1 : i && not (c .before .before .before .before .before .before .before .before .read-number .result .valid) ≡ false = rw (fine .0) (and-false i) in
-    let f2 : j && not (c .before .before .before .before .before .before .before .read-number2 .result .valid) ≡ false = rw (fine .1) (and-false j) in
-    right-for
-    (rw (c .before .before .relation-holds .ensures) at (c .before .truth-value .ensures)
-    ∙ relation-goes (a .word) (a .negated) {s = s} {s' = s} {o = o} {o' = o} refl refl
-    (sym (number-faulty s (o .row) n one) ∙ f1) (sym (number-faulty o (s .row) m other) ∙ f2) (order ∙ sym (by-value s o m n)))
-    (c .truth-number .ensures)
+    let f1 : i && not (c7 .before .read-number .result .valid) ≡ false = rw (fine .0) (and-false i) in
+    let f2 : j && not (c7 .read-number2 .result .valid) ≡ false = rw (fine .1) (and-false j) in
+    right-for (rw (c .before .before .relation-holds .ensures) at (c .before .truth-value .ensures) ∙ relation-goes (a .word) (a .negated) {s = s} {s'
+    = s} {o = o} {o' = o} refl refl (sym (number-faulty s (o .row) n one) ∙ f1) (sym (number-faulty o (s .row) m other) ∙ f2) (order ∙ sym (by-value s
+    o m n))) (c .truth-number .ensures)
 
 pub value-truth-spec : {M : Type 1} → statement M
 value-truth-spec =

@@ -7,7 +7,9 @@ use Rattle.field_rows.proofs.rows.judge_class.Statement.{statement}
 use Rattle.field_rows.proofs.rows.judge_class.Tie as tie
 
 row-of-requires : tie.Need-row-of-requires
-row-of-requires c κs = read-class (first-readable (c .before .before .before .before .before .before .before .pre .0 .0)) (c .before .before .before .before .before .before .before .pre .1) .within .there
+row-of-requires c κs =
+    let c7 = c .before .before .before .before .before .before .before in
+    read-class (first-readable (c7 .pre .0 .0)) (c7 .pre .1) .within .there
 
 classify-each-requires : tie.Need-classify-each-requires
 classify-each-requires c κs =

@@ -12,13 +12,19 @@ enum-known-test : tie.Need-enum-known-test
 enum-known-test c = search needs
 
 judge-relation-requires : tie.Need-judge-relation-requires
-judge-relation-requires c κs = (c .before .before .before .before .before .before .before .before .before .before .before .before .pre, sym (c .before .before .before .before .test-of .ensures) ∙ c .before .before .test .given .1)
+judge-relation-requires c κs =
+    let c4 = c .before .before .before .before in
+    let c12 = c4 .before .before .before .before .before .before .before .before in
+    (c12 .pre, sym (c4 .test-of .ensures) ∙ c .before .before .test .given .1)
 
 enum-known-test-2 : tie.Need-enum-known-test-2
 enum-known-test-2 c = search needs
 
 judge-class-requires : tie.Need-judge-class-requires
-judge-class-requires c κs = (c .before .before .before .before .before .before .before .before .before .before .before .before .pre, sym (c .before .before .before .before .test-of .ensures) ∙ c .before .before .test2 .given .1)
+judge-class-requires c κs =
+    let c4 = c .before .before .before .before in
+    let c12 = c4 .before .before .before .before .before .before .before .before in
+    (c12 .pre, sym (c4 .test-of .ensures) ∙ c .before .before .test2 .given .1)
 
 enum-told : tie.Need-enum-told
 enum-told c = search needs

@@ -25,16 +25,24 @@ part-first-end : tie.Need-part-first-end
 part-first-end c = omega (arith, first-within (c .before .before .before .before .before .before .before .pre .0 .0))
 
 row-of-requires : tie.Need-row-of-requires
-row-of-requires c κs = read-relation (first-readable (c .before .before .before .before .before .before .before .before .pre .0 .0)) (c .before .before .before .before .before .before .before .before .pre .1) .0 .within .there
+row-of-requires c κs =
+    let c8 = c .before .before .before .before .before .before .before .before in
+    read-relation (first-readable (c8 .pre .0 .0)) (c8 .pre .1) .0 .within .there
 
 row-of-requires-2 : tie.Need-row-of-requires-2
-row-of-requires-2 c κs = read-relation (first-readable (c .before .before .before .before .before .before .before .before .before .pre .0 .0)) (c .before .before .before .before .before .before .before .before .before .pre .1) .1 .within .there
+row-of-requires-2 c κs =
+    let c9 = c .before .before .before .before .before .before .before .before .before in
+    read-relation (first-readable (c9 .pre .0 .0)) (c9 .pre .1) .1 .within .there
 
 operand-bytes-requires : tie.Need-operand-bytes-requires
-operand-bytes-requires c κs = within-unnamed (read-relation (first-readable (c .before .before .before .before .before .before .before .before .before .before .pre .0 .0)) (c .before .before .before .before .before .before .before .before .before .before .pre .1) .0)
+operand-bytes-requires c κs =
+    let c10 = c .before .before .before .before .before .before .before .before .before .before in
+    within-unnamed (read-relation (first-readable (c10 .pre .0 .0)) (c10 .pre .1) .0)
 
 operand-bytes-requires-2 : tie.Need-operand-bytes-requires-2
-operand-bytes-requires-2 c κs = within-unnamed (read-relation (first-readable (c .before .before .before .before .before .before .before .before .before .before .before .pre .0 .0)) (c .before .before .before .before .before .before .before .before .before .before .before .pre .1) .1)
+operand-bytes-requires-2 c κs =
+    let c11 = c .before .before .before .before .before .before .before .before .before .before .before in
+    within-unnamed (read-relation (first-readable (c11 .pre .0 .0)) (c11 .pre .1) .1)
 
 is-item-requires : tie.Need-is-item-requires
 is-item-requires c κs = search needs
@@ -50,15 +58,19 @@ is-numeric-requires-2 c κs = search needs
 
 relate-each-requires : tie.Need-relate-each-requires
 relate-each-requires c κs =
-    let start = c .before .before .before .before .before .before .before .before .before .before .before .before .before .before .before .before .before in
+    let c4 = c .before .before .before .before in
+    let c7 = c4 .before .before .before in
+    let c17 = c7 .before .before .before .before .before .before .before .before .before .before in
+    let start = c17 in
     let a = start .args in
     let lent = lendNames (now (a .items)) (now (a .literals)) (now (a .bytes)) (now (a .names)) in (
       (start .pre .0 .0 .laid, start .pre .0 .1, start .pre .0 .2, ap₂ _&&_ (c .before .before .is-numeric .ensures) (c .before .is-numeric2 .ensures)),
-      (λ k l.
-          let s = read-relation (start .pre .0 .0 .readable k l) (start .pre .1) in
+      (λ k l. let s = read-relation (start .pre .0 .0 .readable k l) (start .pre .1) in
           let content = recordAt (now (a .records)) (a .from) (a .size) k in (
-            side-fits lent _ content (a .condition .subject) (c .before .before .before .before .is-item .ensures) (c .before .before .before .before .before .before .before .before .row-of .ensures) (c .before .before .before .before .before .before .operand-bytes .ensures) (s .0),
-            side-fits lent _ content (a .condition .object) (c .before .before .before .is-item2 .ensures) (c .before .before .before .before .before .before .before .row-of2 .ensures) (c .before .before .before .before .before .operand-bytes2 .ensures) (s .1),
+            side-fits lent _ content (a .condition .subject) (c4 .is-item .ensures) (c7 .before .row-of .ensures) (c4 .before .before .operand-bytes .ensures)
+                (s .0),
+            side-fits lent _ content (a .condition .object) (c .before .before .before .is-item2 .ensures) (c7 .row-of2 .ensures) (c4 .before .operand-bytes2 .ensures)
+                (s .1),
           )),
     )
 
@@ -66,15 +78,17 @@ same-length : tie.Need-same-length
 same-length c = search needs
 
 returns : tie.Need-returns
-returns c = λ k l e.
-    let start = c .before .before .before .before .before .before .before .before .before .before .before .before .before .before .before .before .before .before .before .before in
+returns c =
+    let c6 = c .before .before .before .before .before .before in
+    let c9 = c6 .before .before .before in
+    let c20 = c9 .before .before .before .before .before .before .before .before .before .before .before in
+    λ k l e. let start = c20 in
     let a = start .args in
     let lent = lendNames (now (a .items)) (now (a .literals)) (now (a .bytes)) (now (a .names)) in
     let content = recordAt (now (a .records)) (a .from) (a .size) k in
-    right-for
-    (relation-is lent content (a .switches) (a .condition .subject) (a .condition .relation) (a .condition .object) (start .pre .1)
-    (side-here lent _ content (a .condition .subject) (c .before .before .before .before .before .before .before .is-item .ensures) (c .before .before .before .before .before .before .before .before .before .before .before .row-of .ensures) (c .before .before .before .before .before .before .before .before .before .operand-bytes .ensures))
-    (side-here lent _ content (a .condition .object) (c .before .before .before .before .before .before .is-item2 .ensures) (c .before .before .before .before .before .before .before .before .before .before .row-of2 .ensures) (c .before .before .before .before .before .before .before .before .operand-bytes2 .ensures)))
+    right-for (relation-is lent content (a .switches) (a .condition .subject) (a .condition .relation) (a .condition .object) (start .pre .1)
+    (side-here lent _ content (a .condition .subject) (c6 .before .is-item .ensures) (c9 .before .before .row-of .ensures) (c9 .operand-bytes .ensures))
+    (side-here lent _ content (a .condition .object) (c6 .is-item2 .ensures) (c9 .before .row-of2 .ensures) (c6 .before .before .operand-bytes2 .ensures)))
     (c .before .before .relate-each .ensures k l e)
 
 pub judge-relation-spec : {M : Type 1} → statement M

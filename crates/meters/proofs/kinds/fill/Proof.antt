@@ -31,7 +31,9 @@ same-length : tie.Need-same-length Inv-loop μ-loop
 same-length c = c .before .before .before .before .before .loop .inv .long
 
 returns : tie.Need-returns Inv-loop μ-loop
-returns c = filling-stop (c .before .before .before .before .before .loop .inv) (c .before .before .before .before .loop-test .taken) (eqb-false _ _ (sym (c .before .is-space .ensures) ∙ not-true _ (c .if1 .taken)))
+returns c =
+    let c4 = c .before .before .before .before in
+    filling-stop (c4 .before .loop .inv) (c4 .loop-test .taken) (eqb-false _ _ (sym (c .before .is-space .ensures) ∙ not-true _ (c .if1 .taken)))
 
 slice-write-bytes : tie.Need-slice-write-bytes Inv-loop μ-loop
 slice-write-bytes c = omega arith
@@ -43,7 +45,9 @@ loop-less : tie.Need-loop-less Inv-loop μ-loop
 loop-less c = omega arith
 
 loop-again : tie.Need-loop-again Inv-loop μ-loop
-loop-again c = filling-more (c .before .before .before .before .before .loop .inv) (c .before .before .before .before .loop-test .taken) (eqb-true _ _ (sym (c .before .is-space .ensures) ∙ not-false _ (c .if1 .left)))
+loop-again c =
+    let c4 = c .before .before .before .before in
+    filling-more (c4 .before .loop .inv) (c4 .loop-test .taken) (eqb-true _ _ (sym (c .before .is-space .ensures) ∙ not-false _ (c .if1 .left)))
 
 same-length-2 : tie.Need-same-length-2 Inv-loop μ-loop
 same-length-2 c = c .before .loop .inv .long

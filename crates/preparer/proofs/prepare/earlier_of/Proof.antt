@@ -26,10 +26,16 @@ returns-2 : tie.Need-returns-2
 returns-2 c = rw (c .before .before .before .parsed .given .1, c .enum-told2 .given .1)
 
 returns-3 : tie.Need-returns-3
-returns-3 c = rw (c .before .before .before .before .before .before .parsed .given .1, c .before .before .before .depth .given .1) (seven-first (c .before .before .before .before .before .before .parsed .given .0 .0) (c .before .before .before .depth .given .0 .0) (rw (c .before .place-of .ensures) at (c .if1 .taken)))
+returns-3 c =
+    let c6 = c .before .before .before .before .before .before in
+    rw (c6 .parsed .given .1, c .before .before .before .depth .given .1) (seven-first (c6 .parsed .given .0 .0) (c .before .before .before .depth .given .0 .0)
+    (rw (c .before .place-of .ensures) at (c .if1 .taken)))
 
 returns-4 : tie.Need-returns-4
-returns-4 c = rw (c .before .before .before .before .before .before .parsed .given .1, c .before .before .before .depth .given .1) (eight-first (c .before .before .before .before .before .before .parsed .given .0 .0) (c .before .before .before .depth .given .0 .0) (rw (c .before .place-of .ensures) at (c .if1 .left)))
+returns-4 c =
+    let c6 = c .before .before .before .before .before .before in
+    rw (c6 .parsed .given .1, c .before .before .before .depth .given .1) (eight-first (c6 .parsed .given .0 .0) (c .before .before .before .depth .given .0 .0)
+    (rw (c .before .place-of .ensures) at (c .if1 .left)))
 
 pub earlier-of-spec : {M : Type 1} → statement M
 earlier-of-spec =

@@ -15,7 +15,9 @@ place-of-requires : tie.Need-place-of-requires
 place-of-requires c κs = search needs
 
 add-result : tie.Need-add-result
-add-result c = omega (arith, eight-inside _ (c .before .before .before .before .before .pre) (c .before .before .depth .given .1), c .place-of .ensures, c .before .before .before .before .before .good .0 .0)
+add-result c =
+    let c5 = c .before .before .before .before .before in
+    omega (arith, eight-inside _ (c5 .pre) (c .before .before .depth .given .1), c .place-of .ensures, c5 .good .0 .0)
 
 returns : tie.Need-returns
 returns c = rw (c .enum-told .given .1) (omega arith)

@@ -35,7 +35,8 @@ not-tested c = word-here _ _ _ _ (c .before .before .before .before .peek2 .ensu
 neither : (c : tie.Else3) → let x = c .before .before .before .before .before .before .peek .result in 262149 ≤ x → 262160 < x
 neither c =
     let b = c .before .before .before in
-    no-word _ _ _ _ (b .before .before .is-order .ensures ∙ order-within _) (b .before .is-bound .ensures ∙ bound-within _) (b .if1 .left) (c .before .before .is-test .ensures ∙ test-within _) (c .before .if2 .left)
+    no-word _ _ _ _ (b .before .before .is-order .ensures ∙ order-within _) (b .before .is-bound .ensures ∙ bound-within _) (b .if1 .left) (c .before .before .is-test .ensures
+    ∙ test-within _) (c .before .if2 .left)
 
 sub-read-object : tie.Need-sub-read-object
 sub-read-object c = omega (arith, relation c)

@@ -47,7 +47,8 @@ filled c = rw (c .before .before .before .before .before .before .row-of .ensure
 -- the file's bytes, and the literals'
 in-file : (c : tie.After-filled-size) → Bytes (now (entry c .args .records)) × Bytes (now (entry c .args .bytes))
 in-file c =
-    (bytes-of _ (λ i. c .before .before .before .before .before .before .before .before .shared-slice-known5 .given i .fits), bytes-of _ (λ i. c .before .before .before .before .before .before .before .before .before .before .shared-slice-known3 .given i .fits))
+    let c8 = c .before .before .before .before .before .before .before .before in
+    (bytes-of _ (λ i. c8 .shared-slice-known5 .given i .fits), bytes-of _ (λ i. c8 .before .before .shared-slice-known3 .given i .fits))
 
 row-of-requires : tie.Need-row-of-requires
 row-of-requires c κs = sides (c .before .before .before .before .before .before) .0 .within .there
@@ -93,17 +94,23 @@ same-length : tie.Need-same-length
 same-length c = search needs
 
 returns-2 : tie.Need-returns-2
-returns-2 c = (
-  λ _ k l.
-      let e = c .before .before .before .before .before .before .before .before in
-      let s = entry e in
-      let J = s .pre .0 .0 in
-      let i = sym (c .before .before .before .before .before .before .before .is-item .ensures) ∙ c .before .before .before .before .before .before .if2 .taken in
-      let j = sym (c .before .before .before .before .before .is-item2 .ensures) ∙ c .before .before .before .before .if3 .taken in
-      items-right J (s .args .switches) (in-file e .0) (in-file e .1) k l (s .pre .1) (texts e) i j (item-inside J (sides s .0) i) (item-inside J (sides s .1) j)
-      (rw (e .before .before .before .before .before .before .row-of .ensures, e .before .before .before .before .before .row-of2 .ensures, e .before .asked-of .ensures, filled e) at (c .before .before .relate-texts .ensures k l)),
-  λ e. absurd (false≢true (sym e)),
-)
+returns-2 c =
+    let c4 = c .before .before .before .before in
+    let c7 = c4 .before .before .before in (
+      λ _ k l. let e = c7 .before in
+          let s = entry e in
+          let J = s .pre .0 .0 in
+          let i = sym (c7 .is-item .ensures) ∙ c4 .before .before .if2 .taken in
+          let j = sym (c4 .before .is-item2 .ensures) ∙ c4 .if3 .taken in
+          items-right J (s .args .switches) (in-file e .0) (in-file e .1) k l (s .pre .1) (texts e) i j (item-inside J (sides s .0) i) (item-inside J (sides
+          s .1) j) (rw (
+            e .before .before .before .before .before .before .row-of .ensures,
+            e .before .before .before .before .before .row-of2 .ensures,
+            e .before .asked-of .ensures,
+            filled e,
+          ) at (c .before .before .relate-texts .ensures k l)),
+      λ e. absurd (false≢true (sym e)),
+    )
 
 relate-literal-requires : tie.Need-relate-literal-requires
 relate-literal-requires c κs =

@@ -61,7 +61,10 @@ returns-3 c =
     (sym (c .before .before .before .before .is-faulty .ensures) ∙ c .before .before .before .if2 .left) (sym (c .before .before .is-faulty2 .ensures) ∙ c .before .if3 .taken) (c .stop-at2 .ensures)
 
 compare-sides-requires : tie.Need-compare-sides-requires
-compare-sides-requires c κs = (c .before .before .before .before .before .before .before .before .before .pre, sym (ap₂ _&&_ (c .before .before .before .before .before .before .is-numeric .ensures) (c .before .before .before .before .before .is-numeric2 .ensures)) ∙ c .before .before .before .before .if1 .left)
+compare-sides-requires c κs =
+    let c4 = c .before .before .before .before in
+    let c9 = c4 .before .before .before .before .before in
+    (c9 .pre, sym (ap₂ _&&_ (c4 .before .before .is-numeric .ensures) (c4 .before .is-numeric2 .ensures)) ∙ c4 .if1 .left)
 
 relation-holds-requires : tie.Need-relation-holds-requires
 relation-holds-requires c κs = search needs
@@ -71,12 +74,14 @@ truth-value-requires c κs = search needs
 
 returns-4 : tie.Need-returns-4
 returns-4 c =
-    let start = c .before .before .before .before .before .before .before .before .before .before .before .before in
+    let c4 = c .before .before .before .before in
+    let c12 = c4 .before .before .before .before .before .before .before .before in
+    let start = c12 in
     let s = side (start .args .item1) (start .args .row1) (now (start .args .left)) in
     let o = side (start .args .item2) (start .args .row2) (now (start .args .right)) in
-    rw (c .before .relation-holds .ensures) at (c .truth-value .ensures)
-    ∙ relation-goes (start .args .word) (start .args .negated) {s = s} {s' = s} {o = o} {o' = o} refl refl
-    (sym (c .before .before .before .before .before .before .is-faulty .ensures) ∙ c .before .before .before .before .before .if2 .left) (sym (c .before .before .before .before .is-faulty2 .ensures) ∙ c .before .before .before .if3 .left) (c .before .before .compare-sides .ensures)
+    rw (c .before .relation-holds .ensures) at (c .truth-value .ensures) ∙ relation-goes (start .args .word) (start .args .negated) {s = s} {s' = s}
+    {o = o} {o' = o} refl refl (sym (c4 .before .before .is-faulty .ensures) ∙ c4 .before .if2 .left) (sym (c4 .is-faulty2 .ensures) ∙ c .before .before .before .if3 .left)
+    (c .before .before .compare-sides .ensures)
 
 pub sides-outcome-spec : {M : Type 1} → statement M
 sides-outcome-spec =
