@@ -67,8 +67,9 @@ returns c =
     let r = c .before .before .before .before .before in
     let k = r .before .before .before .before in
     let found = rw (r .plan-row .ensures, r .before .wide .ensures) at (c .before .before .before .before .truth-of .ensures) in
-    rw (c .refusal-of .ensures, r .before .wide .ensures) (stops _ _ _ (k .before .before .before .before .before .before .before .before .pre) _ (k .loop .target .number) (k .loop .count) (k .loop .inv) (omega arith)
-    (sym found ∙ c .before .before .found .given .1))
+    let p = k .before .before .before .before .before .before .before .before .pre in
+    rw (c .refusal-of .ensures)
+    (rw (← r .before .wide .ensures) at (stops _ _ _ p _ (k .loop .target .number) (k .loop .count) (k .loop .inv) (omega arith) (sym found ∙ c .before .before .found .given .1)))
 
 returns-2 : tie.Need-returns-2 Inv-loop μ-loop
 returns-2 c =
