@@ -24,10 +24,9 @@ plan-row-requires c κs = omega (arith, c .wide .ensures, c .before .before .bef
 
 truth-of-requires : tie.Need-truth-of-requires Inv-loop μ-loop
 truth-of-requires c κs =
-    let c4 = c .before .before .before .before in
-    let k = c4 in
-    rw (c .plan-row .ensures, c .before .wide .ensures) (readable _ _ _ (k .before .before .before .before .before .before .before .before .pre) (k .loop .target .number)
-    (k .loop .inv .inside (omega arith)))
+    let k = c .before .before .before .before in
+    let p = k .before .before .before .before .before .before .before .before .pre in
+    rw (c .plan-row .ensures, c .before .wide .ensures) (readable _ _ _ p (k .loop .target .number) (k .loop .inv .inside (omega arith)))
 
 add-count : tie.Need-add-count Inv-loop μ-loop
 add-count c =
@@ -46,8 +45,9 @@ loop-again c =
     let r = c .before .before .before in
     let k = r .before .before .before .before in
     let found = rw (r .plan-row .ensures, r .before .wide .ensures) at (c .before .before .truth-of .ensures) in
-    rw (r .plan-row .ensures, r .before .wide .ensures) (goes-true _ _ _ (k .before .before .before .before .before .before .before .before .pre) _ (k .loop .target .number)
-    (k .loop .count) (k .loop .inv) (omega arith) (sym found ∙ c .enum-told .given .1))
+    let p = k .before .before .before .before .before .before .before .before .pre in
+    rw (r .plan-row .ensures, r .before .wide .ensures) (goes-true _ _ _ p _ (k .loop .target .number) (k .loop .count) (k .loop .inv) (omega arith)
+    (sym found ∙ c .enum-told .given .1))
 
 loop-less-2 : tie.Need-loop-less-2 Inv-loop μ-loop
 loop-less-2 c =
@@ -61,17 +61,18 @@ loop-again-2 c =
     let r = c .before .before .before in
     let k = r .before .before .before .before in
     let found = rw (r .plan-row .ensures, r .before .wide .ensures) at (c .before .before .truth-of .ensures) in
-    rw (r .plan-row .ensures, r .before .wide .ensures) (goes-false _ _ _ (k .before .before .before .before .before .before .before .before .pre) _
-    (k .loop .target .number) (k .loop .count) (k .loop .inv) (omega arith) (sym found ∙ c .enum-told2 .given .1))
+    let p = k .before .before .before .before .before .before .before .before .pre in
+    rw (r .plan-row .ensures, r .before .wide .ensures) (goes-false _ _ _ p _ (k .loop .target .number) (k .loop .count) (k .loop .inv) (omega arith)
+    (sym found ∙ c .enum-told2 .given .1))
 
 returns : tie.Need-returns Inv-loop μ-loop
 returns c =
-    let c4 = c .before .before .before .before in
-    let r = c4 .before in
+    let r = c .before .before .before .before .before in
     let k = r .before .before .before .before in
-    let found = rw (r .plan-row .ensures, r .before .wide .ensures) at (c4 .truth-of .ensures) in
-    rw (c .refusal-of .ensures, r .before .wide .ensures) (stops _ _ _ (k .before .before .before .before .before .before .before .before .pre) _ (k .loop .target .number)
-    (k .loop .count) (k .loop .inv) (omega arith) (sym found ∙ c .before .before .found .given .1))
+    let found = rw (r .plan-row .ensures, r .before .wide .ensures) at (c .before .before .before .before .truth-of .ensures) in
+    let p = k .before .before .before .before .before .before .before .before .pre in
+    rw (c .refusal-of .ensures)
+    (rw (← r .before .wide .ensures) at (stops _ _ _ p _ (k .loop .target .number) (k .loop .count) (k .loop .inv) (omega arith) (sym found ∙ c .before .before .found .given .1)))
 
 returns-2 : tie.Need-returns-2 Inv-loop μ-loop
 returns-2 c =
