@@ -10,7 +10,7 @@ use Rattle.tables.specs.declared.Verdict.the-variants.{True, False, Refused}
 use Rattle.tables.specs.declared.Judged.{Judged}
 use Rattle.rules.specs.Calls.{Gives, Leaves as Left}
 use Rattle.rules.specs.Places.{Small, Modest}
-use Rattle.answers.specs.Answer.{writtenNumber, writtenPlace, writtenCount, writtenNumbers, verdictValue, verdictByte, Told, Leaves, Tells}
+use Rattle.answers.specs.Answer.{writtenNumber, writtenPlace, writtenCount, writtenNumbers, listedNumbers, verdictValue, verdictByte, Told, Leaves, Lists}
 
 pub place-small : (written : Written) → Small written → writtenPlace written ≤ 640
 place-small (Count n) h = omega arith
@@ -38,5 +38,13 @@ pub left-told : {gives : Gives} {written : Written} {output : List ℕ} {returne
 left-told l t =
     record {
       told = record { returns = t .returns ∙ ap writtenNumber (l .answered); answers = t .answers ∙ ap writtenNumbers (l .answered) };
+      left = l .left;
+    }
+
+pub list-told : {gives : Gives} {written : Written} {output : List ℕ} {returned : ℕ} {answer : List ℕ} → Left gives written output →
+    Told (writtenNumber written) (listedNumbers written) returned answer → Lists gives returned answer output
+list-told l t =
+    record {
+      told = record { returns = t .returns ∙ ap writtenNumber (l .answered); answers = t .answers ∙ ap listedNumbers (l .answered) };
       left = l .left;
     }

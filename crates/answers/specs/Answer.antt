@@ -71,5 +71,10 @@ pub record Leaves (gives : Gives) (returned : ℕ) (answer output : List ℕ) : 
   pub told : Told (writtenNumber (gives .answer)) (writtenNumbers (gives .answer)) returned answer
   pub left : output ≡ gives .output
 
+-- and so do the calls that list
+pub record Lists (gives : Gives) (returned : ℕ) (answer list : List ℕ) : Type 0 where
+  pub told : Told (writtenNumber (gives .answer)) (listedNumbers (gives .answer)) returned answer
+  pub left : list ≡ gives .output
+
 abbrev pub Tells : Judged → ℕ → List ℕ → Type 0
 Tells judged returned answer = Told (verdictNumber (judged .verdict)) (judgedNumbers judged) returned answer

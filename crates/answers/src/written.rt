@@ -34,7 +34,7 @@ pub(crate) fn answer_numbers(value: usize, byte: usize, judged: usize, written: 
     ]
 }
 
-pub fn written_number(written: Written) -> u32
+fn written_number(written: Written) -> u32
     ensures { λ r. ⌜ r ≡ writtenNumber written ⌝ }
 {
     match written {
@@ -70,10 +70,17 @@ pub fn tell_written(written: Written, answer: &mut [u32; 9]) -> u32
 }
 
 // Of a call whose counts and places are not as small as those of expand and plan.
-pub fn listed_numbers(written: Written) -> [u32; 9]
+fn listed_numbers(written: Written) -> [u32; 9]
     ensures { λ r. ⌜ r ≡ listedNumbers written ⌝ }
 {
     let place = narrow(written_place(written));
     let count = narrow(written_count(written));
     [place, 0, 0, count, 0, 0, 0, 0, 0]
+}
+
+pub fn tell_listed(written: Written, answer: &mut [u32; 9]) -> u32
+    ensures { λ r. ⌜ Told (writtenNumber written) (listedNumbers written) r (now (answer .exit)) ⌝ }
+{
+    *answer = listed_numbers(written);
+    written_number(written)
 }

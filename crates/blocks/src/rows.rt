@@ -3,8 +3,9 @@ ghost use mathlib.Core.Path.{_≡_};
 ghost use lib.ListN.{length};
 ghost use Rattle.tables.specs.Operands.{lendNames};
 ghost use Rattle.values.specs.Truth.{outcome, Readable};
-ghost use Rattle.columns.specs.Columns.{Judgeable};
+ghost use Rattle.block_words.specs.Columns.{Judgeable};
 ghost use Rattle.blocks.specs.Blocks.{truthNumber, Judges};
+use block_words::Block;
 use columns::rows::judge_columns;
 use field_rows::rows::judge_fields;
 use grammar::PlanRow;
@@ -61,20 +62,20 @@ fn judge_each<'a>(
     bytes: &'a [u8],
     names: &[u32],
     records: &'a [u8],
-    from: usize,
-    size: usize,
-    n: usize,
+    block: Block,
     switches: u8,
     condition: PlanRow,
     at: &[u8],
     row: u8,
     truths: &mut [u8],
 )
-    requires { ⌜ Judgeable (lendNames (now items) (now literals) (now bytes) (now names)) (now records) from size n condition ⌝ }
+    requires { ⌜ Judgeable (lendNames (now items) (now literals) (now bytes) (now names)) (now records) (block .from) (block .size) (block .n) condition ⌝ }
     requires { ⌜ (length (now at) ≡ 64) × (length (now truths) ≡ 64) ⌝ }
-    ensures { λ _. ⌜ Judges (lendNames (now (items .entry)) (now (literals .entry)) (now (bytes .entry)) (now (names .entry))) (now (records .entry)) from size n switches condition (now (at .entry)) row (now (truths .exit)) ⌝ }
+    ensures { λ _. ⌜ Judges (lendNames (now (items .entry)) (now (literals .entry)) (now (bytes .entry)) (now (names .entry))) (now (records .entry)) (block .from) (block .size) (block .n) switches condition (now (at .entry)) row (now (truths .exit)) ⌝ }
 {
-    let mut base = from;
+    let size = block.size;
+    let n = block.n;
+    let mut base = block.from;
     let mut j: usize = 0;
     while j < n {
         if at[j] == row {
@@ -94,22 +95,22 @@ pub(crate) fn judge_row<'a>(
     bytes: &'a [u8],
     names: &[u32],
     records: &'a [u8],
-    from: usize,
-    size: usize,
-    n: usize,
+    block: Block,
     switches: u8,
     condition: PlanRow,
     at: &[u8],
     row: u8,
     truths: &mut [u8],
 )
-    requires { ⌜ Judgeable (lendNames (now items) (now literals) (now bytes) (now names)) (now records) from size n condition ⌝ }
+    requires { ⌜ Judgeable (lendNames (now items) (now literals) (now bytes) (now names)) (now records) (block .from) (block .size) (block .n) condition ⌝ }
     requires { ⌜ (length (now at) ≡ 64) × (length (now truths) ≡ 64) ⌝ }
-    ensures { λ _. ⌜ Judges (lendNames (now (items .entry)) (now (literals .entry)) (now (bytes .entry)) (now (names .entry))) (now (records .entry)) from size n switches condition (now (at .entry)) row (now (truths .exit)) ⌝ }
+    ensures { λ _. ⌜ Judges (lendNames (now (items .entry)) (now (literals .entry)) (now (bytes .entry)) (now (names .entry))) (now (records .entry)) (block .from) (block .size) (block .n) switches condition (now (at .entry)) row (now (truths .exit)) ⌝ }
 {
     let subject = condition.subject;
     let relation = condition.relation;
     if (relation == 0) & (subject / SPAN != NAME) {
+        let from = block.from;
+        let size = block.size;
         let first = &records[from..from + size];
         let truth = judge_record(items, literals, bytes, names, first, switches, condition);
         fill(truths, truth);
@@ -121,9 +122,7 @@ pub(crate) fn judge_row<'a>(
         bytes,
         names,
         records,
-        from,
-        size,
-        n,
+        block,
         switches,
         condition,
         truths,
@@ -136,9 +135,7 @@ pub(crate) fn judge_row<'a>(
         bytes,
         names,
         records,
-        from,
-        size,
-        n,
+        block,
         switches,
         condition,
         truths,
@@ -151,9 +148,7 @@ pub(crate) fn judge_row<'a>(
         bytes,
         names,
         records,
-        from,
-        size,
-        n,
+        block,
         switches,
         condition,
         at,
@@ -168,9 +163,7 @@ pub(crate) fn judge_row<'a>(
         bytes,
         names,
         records,
-        from,
-        size,
-        n,
+        block,
         switches,
         condition,
         at,

@@ -6,9 +6,10 @@ ghost use Rattle.tables.specs.Operands.{lendNames};
 ghost use Rattle.values.specs.Truth.{outcome};
 ghost use Rattle.grammar.specs.Plan.{running};
 ghost use Rattle.rules.specs.Calls.{told};
-ghost use Rattle.columns.specs.Columns.{recordAt};
+ghost use Rattle.block_words.specs.Columns.{recordAt};
 ghost use Rattle.blocks.specs.Blocks.{placeOf, Placed, Walkable, Settled};
 use crate::rows::judge_row;
+use block_words::Block;
 use places::AT_FALSE;
 use places::AT_TRUE;
 use places::advance;
@@ -46,20 +47,18 @@ pub fn walk_block<'a>(
     names: &[u32],
     plan: &[u32],
     records: &'a [u8],
-    from: usize,
-    size: usize,
-    n: usize,
+    block: Block,
     switches: u8,
     at: &mut [u8],
     counts: &mut [u8],
     truths: &mut [u8],
 )
-    requires { ⌜ Walkable (lendNames (now items) (now literals) (now bytes) (now names)) (now plan) (now records) from size n ⌝ }
+    requires { ⌜ Walkable (lendNames (now items) (now literals) (now bytes) (now names)) (now plan) (now records) (block .from) (block .size) (block .n) ⌝ }
     requires { ⌜ (length (now at) ≡ 64) × (length (now counts) ≡ 64) × (length (now truths) ≡ 64) ⌝ }
-    ensures { λ _. ⌜ ((j : ℕ) → j < 64 → Settled (told (running (outcome (lendNames (now (items .entry)) (now (literals .entry)) (now (bytes .entry)) (now (names .entry))) (recordAt (now (records .entry)) from size j) switches) (now (plan .entry)))) (getD (now (at .exit)) j 0) (getD (now (counts .exit)) j 0)) ⌝ }
+    ensures { λ _. ⌜ ((j : ℕ) → j < 64 → Settled (told (running (outcome (lendNames (now (items .entry)) (now (literals .entry)) (now (bytes .entry)) (now (names .entry))) (recordAt (now (records .entry)) (block .from) (block .size) j) switches) (now (plan .entry)))) (getD (now (at .exit)) j 0) (getD (now (counts .exit)) j 0)) ⌝ }
 {
     let rows = (plan.len() / 5) as u8;
-    start(at, n);
+    start(at, block.n);
     fill(counts, 0);
     let mut row = least(at);
     while row < rows {
@@ -70,9 +69,7 @@ pub fn walk_block<'a>(
             bytes,
             names,
             records,
-            from,
-            size,
-            n,
+            block,
             switches,
             condition,
             at,

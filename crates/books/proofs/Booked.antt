@@ -15,7 +15,7 @@ use Rattle.description.proofs.Keeping.{within}
 use Rattle.spelling.specs.Names.{numbers}
 use Rattle.spelling.proofs.Describing.{length-map, few-bytes}
 use Rattle.lexer.proofs.Writing.{bytes-over, rest-length}
-use Rattle.literal_words.specs.Found.{writtenOver}
+use Rattle.literal_bytes.specs.Written.{writtenOver}
 use Rattle.name_entries.specs.Named.{pairNumbers}
 use Rattle.storing.specs.Naming.{rowNumbers as nameRowNumbers, nameNumbers}
 use Rattle.layouts.specs.Layouts.{rowNumbers}

@@ -13,7 +13,7 @@ use Rattle.spelling.specs.Reading.{pieces, Found, none, refusal, faultOf, token
 use Rattle.description.specs.Limits.{Outcome, table, refusal as undescribed, describe}
 use Rattle.spelling.specs.Names.{Book, bookOf}
 use Rattle.naming.specs.Named.{Listed, knownAt}
-use Rattle.literal_words.specs.Found.{writtenOver}
+use Rattle.literal_bytes.specs.Written.{writtenOver}
 use Rattle.lexer.specs.declared.Gathered.{Gathered}
 use Rattle.lexer.specs.declared.Lexed.{Lexed}
 use Rattle.lexer.specs.declared.Lexed.the-variants.{Whole, Fault}

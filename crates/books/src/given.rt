@@ -2,15 +2,15 @@
 ghost use mathlib.Core.Path.{_≡_};
 ghost use Prim.Native.Nat.{_*_, _≤_};
 ghost use lib.ListN.{length, take};
-ghost use Rattle.literal_words.specs.Found.{writtenOver};
+ghost use Rattle.literal_bytes.specs.Written.{writtenOver};
 ghost use Rattle.books.specs.Calls.{Gives};
 ghost use Rattle.content.specs.Kinds.{rowWidth};
 use crate::Recognized;
 use content::Row;
 use lexer::Gathered;
-use literal_words::copies::copy_bytes;
+use literal_bytes::copies::copy_bytes;
 
-// The numbers of a row.
+// Numbers over the start of an output.
 pub(crate) fn copy_numbers(from: &[u32], to: &mut [u32])
     requires { ⌜ length (now from) ≤ length (now to) ⌝ }
     ensures { λ _. ⌜ now (to .exit) ≡ writtenOver (now (from .entry)) (now (to .entry)) ⌝ }

@@ -11,7 +11,6 @@ use describing::Described;
 use descriptions::calls::describe;
 use tables::rows::NAME_TABLE;
 
-// The numbers of a row.
 // The places of the names, or FILLER, of a description's rows, those of its conditions after them; and its literals.
 pub fn book_of(description: &[u8], places: &mut [u32], rows: &mut [u32], bytes: &mut [u8]) -> Named
     requires { ⌜ (128 ≤ length (now places)) × (320 ≤ length (now rows)) × (4096 ≤ length (now bytes)) ⌝ }

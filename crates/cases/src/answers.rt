@@ -8,7 +8,6 @@ use crate::store::TOKENS;
 use crate::store::keep;
 use crate::store::part;
 use crate::store::switches;
-use conditions::calls;
 use fronts::front;
 use tables::Written;
 
@@ -20,7 +19,7 @@ fn expand_in(store: &[u32], bytes: &[u8], output: &mut [u32]) -> Written {
     let literals = part(store, LITERALS);
     let names = part(store, NAMES);
     let tokens = part(store, TOKENS);
-    calls::expand(items, literals, bytes, names, tokens, output)
+    forms::calls::expand(items, literals, bytes, names, tokens, output)
 }
 
 pub(crate) fn expand(store: &[u32], bytes: &[u8], room: usize) {
@@ -37,7 +36,7 @@ fn plan_in(store: &[u32], bytes: &[u8], output: &mut [u32]) -> Written {
     let literals = part(store, LITERALS);
     let names = part(store, NAMES);
     let tokens = part(store, TOKENS);
-    calls::plan(items, literals, bytes, names, tokens, output)
+    forms::calls::plan(items, literals, bytes, names, tokens, output)
 }
 
 // What is written is the plan to run from now on.
@@ -61,7 +60,7 @@ pub(crate) fn judge<'a>(store: &[u32], bytes: &'a [u8], record: &'a [u8]) {
     let literals = part(store, LITERALS);
     let names = part(store, NAMES);
     let tokens = part(store, TOKENS);
-    let given = calls::judge(
+    let given = conditions::calls::judge(
         items,
         literals,
         bytes,
@@ -78,7 +77,15 @@ pub(crate) fn run<'a>(store: &[u32], bytes: &'a [u8], record: &'a [u8]) {
     let literals = part(store, LITERALS);
     let names = part(store, NAMES);
     let plan = part(store, PLAN);
-    let given = calls::run(items, literals, bytes, names, plan, record, switches(store));
+    let given = conditions::calls::run(
+        items,
+        literals,
+        bytes,
+        names,
+        plan,
+        record,
+        switches(store),
+    );
     print::judged(b"run: ", given);
 }
 

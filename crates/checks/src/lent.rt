@@ -1,11 +1,15 @@
 // The lines of the table of refusals that look at tables and the record: 1 to 4 and 12.
 ghost use mathlib.Core.Path.{_≡_};
+ghost use mathlib.Core.Bool.{false};
 ghost use mathlib.Core.List.{[]};
+ghost use lib.Dec.{eqb};
+ghost use Rattle.compare.specs.Fields.{NumberField};
+ghost use Rattle.content.specs.WrongByte.{validContent};
 ghost use Rattle.tables.specs.Operands.{lend};
 ghost use Rattle.tables.specs.Refusals.{firstOf};
 ghost use Rattle.tables.specs.Tables.{lengthSound, literalSound, itemRowCheck, literalRowCheck, tableLines, recordCheck};
 use content::Row;
-use fields::held::valid_content;
+use numbers::reading::read_number;
 use tables::Check;
 use tables::Refusal;
 use tables::rows::ends_within;
@@ -34,6 +38,18 @@ fn check_item_rows(items: &[u32]) -> Check
     Check::Sound
 }
 
+// A literal's content; of a number its digits are read eight at once, which costs less than to ask for each.
+fn literal_valid(row: Row, bytes: &[u8]) -> bool
+    requires { ⌜ (eqb (row .kind) 2 ≡ false → NumberField (row .kind) (now bytes)) ⌝ }
+    ensures { λ r. ⌜ r ≡ validContent (row .kind) (row .digits) (now (bytes .entry)) ⌝ }
+{
+    if row.kind == Row::ALPHANUMERIC {
+        return true;
+    }
+    let number = read_number(row, bytes);
+    number.valid
+}
+
 fn literal_sound(row: Row, bytes: &[u8]) -> bool
     ensures { λ r. ⌜ r ≡ literalSound (now (bytes .entry)) row ⌝ }
 {
@@ -47,7 +63,7 @@ fn literal_sound(row: Row, bytes: &[u8]) -> bool
     if !ends_within(row, bytes.len()) {
         return false;
     }
-    valid_content(row, row_part(row, bytes))
+    literal_valid(row, row_part(row, bytes))
 }
 
 // 4: the first literal row that breaks its rules.

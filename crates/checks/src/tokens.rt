@@ -4,10 +4,10 @@ ghost use mathlib.Core.List.{[]};
 ghost use Rattle.tables.specs.Operands.{lendNames, under};
 ghost use Rattle.tables.specs.Tables.{tokenCountCheck, tokenCheck};
 use content::Row;
+use operands::tokens::token_there;
 use tables::Check;
 use tables::Refusal;
 use tables::rows::NAME_WIDTH;
-use tables::tokens::token_there;
 
 // 5: a condition has 1 to 256 tokens.
 pub fn check_token_count(tokens: &[u32]) -> Check

@@ -1,3 +1,1 @@
-pub mod Bases
-pub mod Rights
 pub mod Sides

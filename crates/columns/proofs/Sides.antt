@@ -1,31 +1,28 @@
--- The sides of a row over a block of records: what holds of the first record holds of the fields of all.
+-- The sides of a row over a block of records, read as words.
 use mathlib.Core.Path.{_≡_, refl, sym, ap, ap₂, _∙_}
 use mathlib.Core.Bool.{Bool, true, false, cond, _&&_}
 use mathlib.Core.List.{List}
 use Prim.Native.Nat.{ℕ, _+_, _-_, _*_, _<_, _≤_}
-use native.Mathlib.Omega.{arith}
-use native.Mathlib.Nat.{zero-mul}
 use lib.Dec.{eqb, leb}
-use lib.ListN.{length, getD, take, drop, length-drop}
-use lib.Seq.{length-take-le}
-use borrow.Author.Tests.{eqb-true, leb-true}
+use lib.ListN.{take, drop}
+use borrow.Author.Tests.{leb-true}
 use Rattle.content.specs.declared.Row.{Row}
-use Rattle.tables.specs.Rows.{rowAt}
-use Rattle.tables.specs.Tokens.{isItem, indexOf}
-use Rattle.tables.specs.Operands.{Lent, lend, lendNames, rowOf, operandBytes, Within}
+use Rattle.tables.specs.Tokens.{isItem}
+use Rattle.tables.specs.Operands.{Lent, rowOf, operandBytes}
 use Rattle.tables.proofs.Bytes.{row-facts}
 use Rattle.tables.proofs.Tests.{both}
 use Rattle.typing.specs.declared.Test.the-variants.{Relation, Class}
 use Rattle.typing.specs.Tests.{testOf}
-use Rattle.values.specs.Truth.{truth, turned, Readable, Sided}
+use Rattle.values.specs.Truth.{truth, turned, Sided}
 use Rattle.grammar.specs.declared.PlanRow.{PlanRow}
 use Rattle.byte_words.specs.Words.{digitWord, digitsIn}
 use Rattle.digit_words.specs.Words.{fitsWord}
 use Rattle.digit_words.specs.Asked.{askedOf, answered}
-use Rattle.byte_words.proofs.WordLaws.{Bytes, bytes-take, bytes-drop}
-use Rattle.digit_words.proofs.Outcomes.{operand-small, item-field, relation-by-words, numeric-by-word}
-use Rattle.columns.specs.Columns.{recordAt, outcomeAt, bit, fieldAt, related, relatedTo, Right, Laid, Judgeable, Field}
-use Rattle.columns.proofs.Rights.{bit-right, related-right, first-right, second-right}
+use Rattle.byte_words.proofs.WordLaws.{Bytes}
+use Rattle.digit_words.proofs.Outcomes.{item-field, relation-by-words, numeric-by-word}
+use Rattle.block_words.specs.Columns.{recordAt, outcomeAt, bit, fieldAt, related, relatedTo, Right, Judgeable, FieldOf}
+use Rattle.block_words.proofs.Rights.{bit-right, related-right, first-right, second-right}
+use Rattle.block_words.proofs.Firsts.{item-inside, small}
 
 -- a row that is read as a word has at most 8 bytes
 pub word-size : (row : Row) → fitsWord row ≡ true → row .size ≤ 8
@@ -37,42 +34,12 @@ pub record Worded (lent : Lent) (r : PlanRow) : Type 0 where
   pub object : fitsWord (rowOf lent (r .object)) ≡ true
   pub scale : rowOf lent (r .subject) .scale ≡ rowOf lent (r .object) .scale
 
--- the first record
-module _ {lent : Lent} {records : List ℕ} {from size n : ℕ} {r : PlanRow} (J : Judgeable lent records from size n r) where
-  here : from + 0 * size ≡ from
-  here = omega (arith, zero-mul size)
-
-  pub first-within : from + size ≤ length records
-  first-within = omega (arith, here, J .laid .within 0 (omega (arith, J .laid .some)))
-
-  pub first-readable : Readable lent (take (from + size - from) (drop from records)) (r .subject) (r .relation) (r .object)
-  first-readable =
-      let width : from + size - from ≡ size = omega arith in
-      rw width (rw here at (J .readable 0 (omega (arith, J .laid .some))))
-
-  first-length : length (take (from + size - from) (drop from records)) ≡ size
-  first-length =
-      let width : from + size - from ≡ size = omega arith in
-      rw width (length-take-le size (drop from records) (omega (arith, first-within, length-drop from records)))
-
-  -- an item ends in each record
-  pub item-inside : {token : ℕ} → Sided lent (take (from + size - from) (drop from records)) token → isItem token ≡ true
-      → rowOf lent token .offset + rowOf lent token .size ≤ size
-  item-inside {token} s i =
-      let row = rowAt (lent .items) (indexOf token) in
-      let lies = leb-true (row .offset + row .size) (length (take (from + size - from) (drop from records))) (rw i at (s .within .lies)) in
-      rw i (omega (arith, lies, first-length))
-
-  -- one that is read as a word is a field of it
-  pub field-of : {token : ℕ} → Sided lent (take (from + size - from) (drop from records)) token → isItem token ≡ true → fitsWord (rowOf lent token) ≡ true
-      → Field size (rowOf lent token .offset + rowOf lent token .size) (rowOf lent token .size)
-  field-of {token} s i f =
-      record { some = row-facts (rowOf lent token) (s .fit .sound) .some; most = word-size (rowOf lent token) f; inside = item-inside s i }
-
--- what is read of an operand needs no names
-pub within-unnamed : {items literals bytes names content : List ℕ} {token : ℕ} → Sided (lendNames items literals bytes names) content token
-    → Within (lend items literals bytes) content token
-within-unnamed s = record { there = s .within .there; lies = s .within .lies }
+-- an item that is read as a word is a field of each record
+pub field-of : {lent : Lent} {records : List ℕ} {from size n : ℕ} {r : PlanRow} (J : Judgeable lent records from size n r) {token : ℕ}
+    → Sided lent (take (from + size - from) (drop from records)) token → isItem token ≡ true → fitsWord (rowOf lent token) ≡ true
+    → FieldOf size (rowOf lent token)
+field-of {lent} J {token} s i f =
+    record { some = row-facts (rowOf lent token) (s .fit .sound) .some; most = word-size (rowOf lent token) f; inside = item-inside J s i }
 
 -- the word of an item in record k
 pub item-word : (lent : Lent) (records : List ℕ) (from size token k : ℕ) → isItem token ≡ true → rowOf lent token .offset + rowOf lent token .size ≤ size
@@ -81,9 +48,6 @@ item-word lent records from size token k i l = ap digitWord (sym (item-field len
     (rowOf lent token .offset + rowOf lent token .size)) i l refl))
 
 module _ (lent : Lent) (records : List ℕ) (from size switches : ℕ) (r : PlanRow) (b : Bytes records) (m : Bytes (lent .bytes)) (k : ℕ) where
-  pub small : (token : ℕ) → Bytes (operandBytes lent (recordAt records from size k) token)
-  small token = operand-small lent (recordAt records from size k) token (bytes-take size (bytes-drop (from + k * size) b)) m
-
   -- the words of the two sides
   left : ℕ
   left = digitWord (operandBytes lent (recordAt records from size k) (r .subject))
@@ -96,7 +60,8 @@ module _ (lent : Lent) (records : List ℕ) (from size switches : ℕ) (r : Plan
     by-words : digitsIn 8 left ≡ true → digitsIn 8 right ≡ true → outcomeAt lent records from size switches r k ≡ truth (answered (askedOf word negated) left right)
     unfolding left right
     by-words d1 d2 =
-        relation-by-words lent (recordAt records from size k) switches (r .subject) (r .relation) (r .object) e f g scale (small (r .subject)) (small (r .object)) d1 d2
+        relation-by-words lent (recordAt records from size k) switches (r .subject) (r .relation) (r .object) e f g scale
+        (small lent records from size b m k (r .subject)) (small lent records from size b m k (r .object)) d1 d2
 
     -- two items
     pub items-right : isItem (r .subject) ≡ true → isItem (r .object) ≡ true
@@ -146,7 +111,7 @@ module _ (lent : Lent) (records : List ℕ) (from size switches : ℕ) (r : Plan
   unfolding left
   numeric-right {negated} e f i l h =
       bit-right (turned negated (digitsIn 8 left))
-      (numeric-by-word lent (recordAt records from size k) switches (r .subject) (r .relation) (r .object) e f (small (r .subject)))
+      (numeric-by-word lent (recordAt records from size k) switches (r .subject) (r .relation) (r .object) e f (small lent records from size b m k (r .subject)))
       (h ∙ ap (λ (a : ℕ). cond (digitsIn 8 a) (bit (turned negated true)) (bit (turned negated false))) (item-word lent records from size (r .subject) k i l)
       ∙ either-way (digitsIn 8 left))
     where

@@ -1,4 +1,3 @@
-// A row of a plan over a block of records whose fields are unsigned digits: each field is one word, and the row is judged without a branch.
+// Which rows of a plan are judged over a block of records by the words of digit fields.
 
-pub mod rows; // which rows are judged so
-pub mod words; // the words of a field, record by record
+pub mod rows; // relations at one scale, and NUMERIC

@@ -3,10 +3,10 @@ ghost use mathlib.Core.Path.{_≡_};
 ghost use Prim.Native.Nat.{_≤_};
 ghost use lib.ListN.{length};
 ghost use Rattle.compare.specs.Classes.{classHolds};
+use alphabets::all_in_alphabet;
 use content::Row;
-use content::letters::all_in_alphabet;
 use content::relations::NUMERIC;
-use fields::held::all_digits;
+use field_digits::digits::all_digits;
 use fields::held::valid_content;
 
 pub fn class_holds(word: u32, row: Row, bytes: &[u8]) -> bool

@@ -5,16 +5,16 @@ ghost use Prim.Native.Nat.{_-_};
 ghost use lib.ListN.{length, take, drop};
 ghost use Rattle.description.specs.Limits.{barredAlone};
 ghost use Rattle.description.specs.Stages.{literalIn};
-ghost use Rattle.ranges.specs.Spelling.{Written};
+ghost use Rattle.literal_rows.specs.Spelling.{Written};
 ghost use Rattle.condition_names.specs.Values.{Stands, shown, valueOf, weighed};
 use crate::Found;
 use crate::Weighed;
 use content::Row;
+use literal_rows::literals::literal_row;
+use literal_rows::pairs::may_compare;
+use literal_rows::pairs::unlike;
 use literal_words::Number;
 use ranges::ends::exceeds;
-use ranges::ends::unlike;
-use ranges::literals::literal_row;
-use ranges::literals::may_compare;
 
 // The high end of a range whose low end may stand.
 fn weigh_high(text: &[u8], item: Row, low: Row, found: Found) -> Weighed

@@ -1,3 +1,3 @@
-// The calls that users make: expand, plan and judge a condition, and run a plan. None asks anything of its caller.
+// The calls that judge a condition and run a plan. None asks anything of its caller.
 
-pub mod calls; // expand, plan, judge, run
+pub mod calls; // judge, run

@@ -1,8 +1,5 @@
 // The calls on conditions for C and COBOL. A slice passes as a pointer and then a length. A call returns the refusal's number, 0 for
 // success, and leaves the rest in a lent answer of nine numbers (answers/specs/Answer.antt), each of which is written.
-pub mod convert; // switch-off words converted
-
-ghost use mathlib.Core.Path.{_≡_};
 ghost use Rattle.tables.specs.Operands.{lendNames};
 ghost use Rattle.rules.specs.Calls.{expandGives, planGives, judgeGives, runGives};
 ghost use Rattle.answers.specs.Answer.{Leaves, Tells};
@@ -22,7 +19,7 @@ pub extern "C" fn oboecurlew_expand(
     ensures { λ r. ⌜ Leaves (expandGives (lendNames (now (items .entry)) (now (literals .entry)) (now (bytes .entry)) (now (names .entry))) (now (tokens .entry)) (now (output .entry))) r (now (answer .exit)) (now (output .exit)) ⌝ }
 {
     tell_written(
-        conditions::calls::expand(items, literals, bytes, names, tokens, output),
+        forms::calls::expand(items, literals, bytes, names, tokens, output),
         answer,
     )
 }
@@ -40,7 +37,7 @@ pub extern "C" fn oboecurlew_plan(
     ensures { λ r. ⌜ Leaves (planGives (lendNames (now (items .entry)) (now (literals .entry)) (now (bytes .entry)) (now (names .entry))) (now (tokens .entry)) (now (output .entry))) r (now (answer .exit)) (now (output .exit)) ⌝ }
 {
     tell_written(
-        conditions::calls::plan(items, literals, bytes, names, tokens, output),
+        forms::calls::plan(items, literals, bytes, names, tokens, output),
         answer,
     )
 }

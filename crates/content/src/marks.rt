@@ -62,7 +62,7 @@ pub fn is_upper(marks: &[u64; 16], b: u8) -> bool
     mark_of(marks, b) >> 1 & 1 == 1
 }
 
-pub(crate) fn is_lower(marks: &[u64; 16], b: u8) -> bool
+pub fn is_lower(marks: &[u64; 16], b: u8) -> bool
     requires { ⌜ agree (now marks) ≡ true ⌝ }
     ensures { λ r. ⌜ r ≡ isLower b ⌝ }
 {

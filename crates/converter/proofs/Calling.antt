@@ -24,8 +24,8 @@ use Rattle.rules.specs.Calls.{conditionLines, roomCheck, Leaves}
 use Rattle.rules.specs.Converting.{fitCheck, convertGives, convertPlanGives}
 use Rattle.rules.proofs.Passing.{after-lines, both-sound}
 use Rattle.rules.proofs.Answers.{leaves-as}
-use Rattle.preparer.specs.declared.Prepared.{Prepared}
-use Rattle.preparer.specs.declared.Prepared.the-variants.{Rows, Refused as Unprepared}
+use Rattle.resolver.specs.declared.Prepared.{Prepared}
+use Rattle.resolver.specs.declared.Prepared.the-variants.{Rows, Refused as Unprepared}
 use Rattle.preparer.specs.Prepared.{Prepares}
 
 -- a condition

@@ -17,7 +17,6 @@ use tables::rows::is_group;
 use tables::rows::row_at;
 use tables::rows::row_part;
 
-// The numbers of a row.
 // What an item becomes: one of its three contents.
 fn merged_item<'a>(old: &'a [u8], first: &'a [u8], second: &'a [u8], verdict: Verdict) -> &'a [u8]
     ensures { λ r. ⌜ now r ≡ mergedItem verdict (now (old .entry)) (now (first .entry)) (now (second .entry)) ⌝ }

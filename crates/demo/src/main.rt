@@ -3,7 +3,6 @@
 ghost use Prim.Native.Nat.{_≤_};
 use books::Printed;
 use books::Recognized;
-use conditions::calls;
 use content::Row;
 use content::relations::NEGATED;
 use content::relations::NUMERIC;
@@ -98,7 +97,7 @@ fn words(literals: &[u32], bytes: &[u8], tokens: &[u32], width: usize) {
 
 fn in_full(rows: &[u32], literals: &[u32], bytes: &[u8], tokens: &[u32]) {
     let mut full = [0u32; 634];
-    let expanded = calls::expand(rows, literals, bytes, &NAMES, tokens, &mut full);
+    let expanded = forms::calls::expand(rows, literals, bytes, &NAMES, tokens, &mut full);
     if let Written::Count(n) = expanded {
         write(b"  ");
         words(literals, bytes, front(&full, n), 0);
@@ -241,8 +240,8 @@ fn judged_by<'a>(
     record: &'a [u8],
 ) -> Judged {
     match by {
-        By::Tokens => calls::judge(rows, literals, bytes, &NAMES, numbers, record, 0),
-        By::Plan => calls::run(rows, literals, bytes, &NAMES, numbers, record, 0),
+        By::Tokens => conditions::calls::judge(rows, literals, bytes, &NAMES, numbers, record, 0),
+        By::Plan => conditions::calls::run(rows, literals, bytes, &NAMES, numbers, record, 0),
     }
 }
 
@@ -410,7 +409,7 @@ fn the_looks(rows: &[u32], literals: &[u32], bytes: &[u8], plan: &[u32]) {
 fn guarded(rows: &[u32], literals: &[u32], bytes: &[u8], tokens: &[u32]) {
     let mut numbers = [0u32; 640];
     the_rule(rows, literals, bytes, tokens);
-    let planned = calls::plan(rows, literals, bytes, &NAMES, tokens, &mut numbers);
+    let planned = forms::calls::plan(rows, literals, bytes, &NAMES, tokens, &mut numbers);
     if let Written::Count(n) = planned {
         let plan = front(&numbers, n);
         the_plan(literals, bytes, plan);

@@ -33,7 +33,7 @@ use Rattle.name_entries.specs.Taking.{tally}
 use Rattle.name_entries.specs.Named.{Span, Noted as NotesHold}
 use Rattle.entries.proofs.Bounds.{Wholes}
 use Rattle.entries.proofs.Leads.{groupsAfter, onEntry, entry-leads, entry-whole, Deep, entry-deep}
-use Rattle.storing.specs.Stored.{numbersOf, notedAt, notedFrom, pushed, waitingAfter, Scaled}
+use Rattle.noting.specs.Stored.{numbersOf, notedAt, notedFrom, pushed, waitingAfter, Scaled}
 use Rattle.storing.specs.Naming.{names, Kept, NameReady, Stepped, NameBy}
 use Rattle.storing.specs.Reads.{readingOf, ReadBy}
 use Rattle.storing.specs.declared.Names.{Names}
@@ -41,7 +41,7 @@ use Rattle.storing.specs.declared.NameStep.{NameStep}
 use Rattle.storing.specs.declared.NameStep.the-variants.{Read, Fault as Faulty}
 use Rattle.describer.proofs.Labels.{none-kept, kept-item, kept-more}
 use Rattle.storing.specs.declared.Found.{Found}
-use Rattle.storing.proofs.Flat.{kept, held-there, noted-same, noted-snoc}
+use Rattle.noting.proofs.Flat.{kept, held-there, noted-same, noted-snoc}
 
 -- Without an item before it no entry is one of level 88.
 no-item : (l d p n : ℕ) (x : Clauses) → itemOf l d p n x ≡ Name → ⊥

@@ -24,7 +24,7 @@ use Rattle.name_entries.specs.Taking.{tally}
 use Rattle.name_entries.specs.Named.{Span, literalsIn, notesOf, pairNumbers, overValues, Left, Held, Noted as NotesHold}
 use Rattle.name_entries.specs.declared.Tally.{Tally}
 use Rattle.name_entries.proofs.Holding.{in-append, in-length, numbers-length, taken-next}
-use Rattle.storing.specs.Stored.{notedAt}
+use Rattle.noting.specs.Stored.{notedAt}
 use Rattle.storing.specs.Naming.{itemRow, names, startOf, passedBy, rowNumbers, nameNumbers, nameOf, limitOf, Items, Stores, Kept, NameStored, Stepped}
 use Rattle.storing.specs.declared.Names.{Names}
 

@@ -8,13 +8,13 @@ ghost use Rattle.storing.specs.Reads.{ReadBy};
 ghost use Rattle.tables.specs.Rows.{nameWidth};
 use entries::EntryRead;
 use entries::entry::entry_at;
+use noting::store::push;
+use noting::store::store;
+use noting::store::waiting_after;
 use storing::Found;
 use storing::NameStep;
 use storing::Names;
 use storing::naming::name_step;
-use storing::store::push;
-use storing::store::store;
-use storing::store::waiting_after;
 use text_bytes::blanks::next_ink;
 use text_bytes::bytes::is_blank;
 

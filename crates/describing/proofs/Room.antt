@@ -10,7 +10,7 @@ use lib.ListN.{length, take, drop}
 use lib.Seq.{length-take-le}
 use Rattle.description.proofs.Bytes.{leb-so, leb-no}
 use Rattle.storing.specs.declared.Found.{Found}
-use Rattle.storing.specs.Stored.{notedFrom}
+use Rattle.noting.specs.Stored.{notedFrom}
 use Rattle.outputs.specs.Noted.{namedOf, rowsFrom, bytesFrom}
 use Rattle.outputs.proofs.Copying.{named-length, rows-length}
 use Rattle.describing.specs.Calls.{roomFor, needed, sizes, over, Ready, Roomy, Wrote, Given}

@@ -14,7 +14,7 @@ use Rattle.entries.specs.declared.Noted.{Noted}
 use Rattle.entries.specs.Entries.{capNoted, entryOf}
 use Rattle.storing.specs.declared.Found.{Found}
 use Rattle.storing.specs.declared.Names.{Names}
-use Rattle.storing.specs.Stored.{notedFrom, Scaled}
+use Rattle.noting.specs.Stored.{notedFrom, Scaled}
 use Rattle.storing.specs.Naming.{nameNumbers, nameOf, limitOf, Stores}
 use Rattle.storing.specs.Reads.{readingOf}
 use Rattle.layouts.specs.declared.Laid.{Laid}

@@ -1,12 +1,14 @@
 -- The call's answer, from what its parts promise.
 use mathlib.Core.Path.{_≡_, refl, sym, ap, _∙_}
-use mathlib.Core.Bool.{Bool, true, false, cond}
+use mathlib.Core.Bool.{Bool, true, false, cond, _&&_}
 use mathlib.Core.Option.{none, some}
 use mathlib.Core.List.{List, [], _∷_, map}
-use Prim.Native.Nat.{ℕ, _*_, _-_, _≤_, _<_}
+use Prim.Native.Nat.{ℕ, _*_, _-_, _≤_, _<_, min}
 use native.Mathlib.Omega.{arith}
+use borrow.Author.Tests.{leb-true, leb-false, lt-ltb, ltb-true}
+use lib.Dec.{leb, ltb}
 use lib.ListN.{length, take}
-use lib.Seq.{length-take-le}
+use lib.Seq.{length-take-le, take-all}
 use Rattle.description.specs.Grammar.{Entry, Condition, Literal, literalRows, literalBytes, Table}
 use Rattle.description.specs.Reader.{layout, Parts, parts, tableOf, readText}
 use Rattle.description.specs.Limits.{itemMarks, nameMarks, marks, least, table, refusal, judged}
@@ -20,7 +22,7 @@ use Rattle.entries.specs.declared.Noted.{Noted}
 use Rattle.entries.specs.Entries.{capNoted, entryOf}
 use Rattle.storing.specs.declared.Found.{Found}
 use Rattle.storing.specs.declared.Names.{Names}
-use Rattle.storing.specs.Stored.{notedFrom}
+use Rattle.noting.specs.Stored.{notedFrom}
 use Rattle.storing.specs.Naming.{limitOf, Stores}
 use Rattle.storing.specs.Reads.{readingOf, ReadBy}
 use Rattle.layouts.specs.declared.Laid.{Laid}
@@ -49,7 +51,7 @@ smallest-of text w es cs p s e f =
     least-of (parts es cs) (r .0) (r .1) ∙ ap (sooner (F.firstOver (itemMarks 0 es (layout 0 es)))) f
 
 module _ (text flat named spots notes : List ℕ) (r : Found) where
-  pub within-short : length text ≤ 4096 → ReadBy text text (readText text) flat named spots notes r → ReadsWithin text flat named spots notes r
+  within-short : length text ≤ 4096 → ReadBy text text (readText text) flat named spots notes r → ReadsWithin text flat named spots notes r
   within-short l R =
       record {
         exact = R .exact;
@@ -67,7 +69,7 @@ module _ (text flat named spots notes : List ℕ) (r : Found) where
         ≡ sooner (F.firstOver (itemMarks 0 (map entryOf (R .exact)) (layout 0 (map entryOf (R .exact))))) (limitOf (r .names))
     least-there = smallest-of (take 4096 text) (r .whole) (map entryOf (R .exact)) (R .conditions) (r .place) (r .names) (R .reading) (R .limit)
 
-    pub within-long : r .whole ≡ false → ReadsWithin text flat named spots notes r
+    within-long : r .whole ≡ false → ReadsWithin text flat named spots notes r
     within-long w =
         record {
           exact = R .exact;
@@ -80,7 +82,7 @@ module _ (text flat named spots notes : List ℕ) (r : Found) where
           stores = λ e o. apart e w;
         }
 
-    pub within-cut : r .whole ≡ true → ReadsWithin text flat named spots notes (record { count = r .count; whole = false; place = 4096; names = r .names })
+    within-cut : r .whole ≡ true → ReadsWithin text flat named spots notes (record { count = r .count; whole = false; place = 4096; names = r .names })
     within-cut w =
         record {
           exact = R .exact;
@@ -92,6 +94,40 @@ module _ (text flat named spots notes : List ℕ) (r : Found) where
           smallest = least-there;
           stores = λ e o. apart e refl;
         }
+
+  -- The bytes before 4,096 are read.
+  module _ {e : ℕ} (m : e ≡ min (length text) 4096) (R : ReadBy (take e text) (take e text) (readText (take e text)) flat named spots notes r) where
+    pub within-whole : r .whole && ltb e (length text) ≡ true → ReadsWithin text flat named spots notes (record { count = r .count; whole = false; place = 4096; names = r .names })
+    within-whole g =
+        let l : 4096 < length text = over (r .whole) (ltb e (length text)) refl g in
+        let i : e ≡ 4096 = omega arith in
+        within-cut l (rw i at R) (left (r .whole) (ltb e (length text)) g)
+      where
+        left : (a b : Bool) → a && b ≡ true → a ≡ true
+        left true b h = refl
+        left false b h = h
+
+        over : (a b : Bool) → ltb e (length text) ≡ b → a && b ≡ true → 4096 < length text
+        over true true i h = let k : e < length text = ltb-true e (length text) i in omega arith
+        over true false i h = apart refl (sym h)
+        over false b i h = apart refl (sym h)
+
+    pub within-rest : r .whole && ltb e (length text) ≡ false → ReadsWithin text flat named spots notes r
+    within-rest g = by (leb (length text) 4096) refl
+      where
+        left : (a b : Bool) → b ≡ true → a && b ≡ false → a ≡ false
+        left true b i h = apart i h
+        left false b i h = refl
+
+        by : (t : Bool) → leb (length text) 4096 ≡ t → ReadsWithin text flat named spots notes r
+        by true i =
+            let l : length text ≤ 4096 = leb-true (length text) 4096 i in
+            let k : take e text ≡ text = take-all e text (omega arith) in
+            within-short l (rw k at R)
+        by false i =
+            let l : 4096 < length text = leb-false (length text) 4096 i in
+            let k : e ≡ 4096 = omega arith in
+            within-long l (rw k at R) (left (r .whole) (ltb e (length text)) (lt-ltb e (length text) (omega arith)) g)
 
 -- The smaller of two places.
 pub sooner-none : (x : Laid) (s : Names) → s .over ≡ false → SoonerBy x s x

@@ -1,9 +1,8 @@
 // The call that users make.
 ghost use mathlib.Core.Path.{_≡_};
-ghost use Prim.Native.Nat.{_≤_};
+ghost use Prim.Native.Nat.{_≤_, min};
 ghost use lib.ListN.{length};
 ghost use Rattle.describing.specs.Calls.{ReadsWithin, SoonerBy, DescribedBy};
-ghost use Rattle.tables.specs.Rows.{nameWidth};
 use content::Row;
 use describer::reading::read_entries;
 use describing::Described;
@@ -15,26 +14,38 @@ use storing::Names;
 use tables::rows::NAME_TABLE;
 use tables::rows::NAME_WIDTH;
 
+// How much of a text may be a description.
+fn readable(n: usize) -> usize
+    ensures { λ r. ⌜ r ≡ min n 4096 ⌝ }
+{
+    if 4096 < n { 4096 } else { n }
+}
+
 // The entries of a text: byte 4,096 is faulty.
 fn read_within(
     text: &[u8],
     entries: &mut [u32],
-    stack: &mut [u32],
     named: &mut [u32],
     spots: &mut [u32],
     notes: &mut [u32],
-    row: &mut [u32],
 ) -> Found
-    requires { ⌜ (5747 ≤ length (now entries)) × (821 ≤ length (now stack)) ⌝ }
-    requires { ⌜ (1152 ≤ length (now named)) × ((64 ≤ length (now spots)) × ((448 ≤ length (now notes)) × (length (now row) ≡ nameWidth))) ⌝ }
+    requires { ⌜ (5747 ≤ length (now entries)) × ((1152 ≤ length (now named)) × ((64 ≤ length (now spots)) × (448 ≤ length (now notes)))) ⌝ }
     ensures { λ r. ⌜ ReadsWithin (now (text .entry)) (now (entries .exit)) (now (named .exit)) (now (spots .exit)) (now (notes .exit)) r ⌝ }
 {
-    if text.len() <= 4096 {
-        return read_entries(text, entries, stack, named, spots, notes, row);
-    }
-    let found = read_entries(&text[..4096], entries, stack, named, spots, notes, row);
+    let mut stack = [0u32; 821];
+    let mut row = [0u32; NAME_WIDTH];
+    let end = readable(text.len());
+    let found = read_entries(
+        &text[..end],
+        entries,
+        &mut stack,
+        named,
+        spots,
+        notes,
+        &mut row,
+    );
     let names = found.names;
-    if found.whole {
+    if found.whole & (end < text.len()) {
         return Found {
             count: found.count,
             whole: false,
@@ -63,15 +74,13 @@ fn sooner_of(laid: Laid, names: Names) -> Laid
     }
 }
 
-// The same as `describe`, with room for the entries, the open groups, the rows, and names with their literals.
+// The same as `describe`, with room for the entries, the rows, and names with their literals.
 fn describe_with(
     text: &[u8],
     entries: &mut [u32],
-    stack: &mut [u32],
     named: &mut [u32],
     spots: &mut [u32],
     notes: &mut [u32],
-    row: &mut [u32],
     laid: &mut [u32],
     rows: &mut [u32],
     places: &mut [u32],
@@ -80,11 +89,11 @@ fn describe_with(
     literals: &mut [u32],
     bytes: &mut [u8],
 ) -> Described
-    requires { ⌜ (5747 ≤ length (now entries)) × ((821 ≤ length (now stack)) × (320 ≤ length (now laid))) ⌝ }
-    requires { ⌜ (1152 ≤ length (now named)) × ((64 ≤ length (now spots)) × ((448 ≤ length (now notes)) × (length (now row) ≡ nameWidth))) ⌝ }
+    requires { ⌜ (5747 ≤ length (now entries)) × ((1152 ≤ length (now named)) × ((64 ≤ length (now spots)) × (448 ≤ length (now notes)))) ⌝ }
+    requires { ⌜ 320 ≤ length (now laid) ⌝ }
     ensures { λ r. ⌜ DescribedBy (now (text .entry)) (now (rows .entry)) (now (places .entry)) (now (names .entry)) (now («name_places» .entry)) (now (literals .entry)) (now (bytes .entry)) r (now (rows .exit)) (now (places .exit)) (now (names .exit)) (now («name_places» .exit)) (now (literals .exit)) (now (bytes .exit)) ⌝ }
 {
-    let found = read_within(text, entries, stack, named, spots, notes, row);
+    let found = read_within(text, entries, named, spots, notes);
     let kept = found.names;
     match sooner_of(lay_rows(entries, found.count, laid), kept) {
         Laid::Over(p) => Described::Faulty(p),
@@ -126,20 +135,16 @@ pub fn describe(
     ensures { λ r. ⌜ DescribedBy (now (text .entry)) (now (rows .entry)) (now (places .entry)) (now (names .entry)) (now («name_places» .entry)) (now (literals .entry)) (now (bytes .entry)) r (now (rows .exit)) (now (places .exit)) (now (names .exit)) (now («name_places» .exit)) (now (literals .exit)) (now (bytes .exit)) ⌝ }
 {
     let mut entries = [0u32; 5747];
-    let mut stack = [0u32; 821];
     let mut named = [0u32; NAME_TABLE];
     let mut spots = [0u32; 64];
     let mut notes = [0u32; 448];
-    let mut row = [0u32; NAME_WIDTH];
     let mut laid = [0u32; Row::TABLE];
     describe_with(
         text,
         &mut entries,
-        &mut stack,
         &mut named,
         &mut spots,
         &mut notes,
-        &mut row,
         &mut laid,
         rows,
         places,

@@ -26,7 +26,8 @@ use Rattle.tables.specs.Operands.{lend}
 use Rattle.tables.specs.Refusals.{firstOf}
 use Rattle.tables.specs.Tables.{itemRowCheck}
 use Rattle.tables.proofs.Tests.{both}
-use Rattle.tables.proofs.Bytes.{sound-part, digits-fit, packed-fits, display-kinds, scale-small}
+use Rattle.tables.proofs.Bytes.{scale-small}
+use Rattle.numbers.proofs.FieldLaws.{number-field}
 use Rattle.tables.proofs.Lines.{every-sound, lines-before, lines-sound, line-sound, line-refused, line-last}
 use Rattle.items.specs.Items.{listed}
 use Rattle.items.specs.Lines.{itemLines, roomCheck}
@@ -34,17 +35,6 @@ use Rattle.items.proofs.Listing.{count-more}
 use Rattle.items.proofs.Facts.{row-sound-at, few-fact}
 use Rattle.differences.specs.Differ.{letterV, letterB, letterI, sameValue, bothValid, differs, mark, entryOf, entryAt, differences}
 use Rattle.differences.specs.Differ.{liesInBoth, endCheck, differLines, Differing, differBy, differing, Held}
-
--- a numeric part holds a number
-number-field : (r : Row) (content : List ℕ) → rowSound r ≡ true → liesIn r content ≡ true → isNumeric r ≡ true → NumberField (r .kind) (part r content)
-number-field r content e l n =
-    let s = sound-part r content e (leb-true _ _ l) in
-    record {
-      some = omega (arith, s .0, s .1);
-      packed = λ p. packed-fits r (part r content) e p (s .0);
-      display = λ p. display-kinds (r .kind) n p;
-      digits = digits-fit r (part r content) e n (s .0);
-    }
 
 module _ {r : Row} {first second : List ℕ} (h : Held r first second) where
   pub first-lies : r .offset + r .size ≤ length first

@@ -6,16 +6,17 @@ ghost use lib.ListN.{length, getD};
 ghost use Rattle.tables.specs.Rows.{part, isNumeric};
 ghost use Rattle.values.specs.Comparison.{side};
 ghost use Rattle.values.specs.Truth.{relationOutcome, classOutcome, Fit, Numeral};
-ghost use Rattle.columns.specs.Columns.{recordAt, Right, Laid};
+ghost use Rattle.block_words.specs.Columns.{recordAt, Right, Laid};
+use block_words::Block;
 use compare::classes::class_holds;
 use compare::orders::relation_holds;
 use content::Row;
 use numbers::reading::read_number;
+use outcomes::sides::sides_outcome;
+use outcomes::sides::truth_value;
 use scaled::compare_scaled;
 use tables::Outcome;
 use tables::rows::row_part;
-use truth::conditions::sides_outcome;
-use truth::conditions::truth_value;
 
 fn truth_number(found: Outcome) -> u8
     ensures { λ r. ⌜ Right found r ⌝ }
@@ -82,9 +83,7 @@ fn side_truth(
 
 pub(crate) fn relate_each<'a>(
     records: &'a [u8],
-    from: usize,
-    size: usize,
-    n: usize,
+    block: Block,
     numeric: bool,
     item1: bool,
     row1: Row,
@@ -98,11 +97,13 @@ pub(crate) fn relate_each<'a>(
     place: u8,
     truths: &mut [u8],
 )
-    requires { ⌜ Laid (now records) from size n × (length (now at) ≡ 64) × (length (now truths) ≡ 64) × (numeric ≡ isNumeric row1 && isNumeric row2) ⌝ }
-    requires { ⌜ ((k : ℕ) → k < n → Fit (side item1 row1 (cond item1 (part row1 (recordAt (now records) from size k)) (now left))) × Fit (side item2 row2 (cond item2 (part row2 (recordAt (now records) from size k)) (now right)))) ⌝ }
-    ensures { λ _. ⌜ ((k : ℕ) → k < n → getD (now (at .entry)) k 0 ≡ place → Right (relationOutcome word negated (side item1 row1 (cond item1 (part row1 (recordAt (now (records .entry)) from size k)) (now (left .entry)))) (side item2 row2 (cond item2 (part row2 (recordAt (now (records .entry)) from size k)) (now (right .entry))))) (getD (now (truths .exit)) k 0)) ⌝ }
+    requires { ⌜ Laid (now records) (block .from) (block .size) (block .n) × (length (now at) ≡ 64) × (length (now truths) ≡ 64) × (numeric ≡ isNumeric row1 && isNumeric row2) ⌝ }
+    requires { ⌜ ((k : ℕ) → k < block .n → Fit (side item1 row1 (cond item1 (part row1 (recordAt (now records) (block .from) (block .size) k)) (now left))) × Fit (side item2 row2 (cond item2 (part row2 (recordAt (now records) (block .from) (block .size) k)) (now right)))) ⌝ }
+    ensures { λ _. ⌜ ((k : ℕ) → k < block .n → getD (now (at .entry)) k 0 ≡ place → Right (relationOutcome word negated (side item1 row1 (cond item1 (part row1 (recordAt (now (records .entry)) (block .from) (block .size) k)) (now (left .entry)))) (side item2 row2 (cond item2 (part row2 (recordAt (now (records .entry)) (block .from) (block .size) k)) (now (right .entry))))) (getD (now (truths .exit)) k 0)) ⌝ }
 {
-    let mut base = from;
+    let size = block.size;
+    let n = block.n;
+    let mut base = block.from;
     let mut j: usize = 0;
     while j < n {
         if at[j] == place {
@@ -128,9 +129,7 @@ pub(crate) fn relate_each<'a>(
 
 pub(crate) fn classify_each(
     records: &[u8],
-    from: usize,
-    size: usize,
-    n: usize,
+    block: Block,
     row: Row,
     word: u32,
     negated: bool,
@@ -138,11 +137,13 @@ pub(crate) fn classify_each(
     place: u8,
     truths: &mut [u8],
 )
-    requires { ⌜ Laid (now records) from size n × (length (now at) ≡ 64) × (length (now truths) ≡ 64) ⌝ }
-    requires { ⌜ ((k : ℕ) → k < n → Fit (side true row (part row (recordAt (now records) from size k)))) ⌝ }
-    ensures { λ _. ⌜ ((k : ℕ) → k < n → getD (now (at .entry)) k 0 ≡ place → Right (classOutcome word negated (side true row (part row (recordAt (now (records .entry)) from size k)))) (getD (now (truths .exit)) k 0)) ⌝ }
+    requires { ⌜ Laid (now records) (block .from) (block .size) (block .n) × (length (now at) ≡ 64) × (length (now truths) ≡ 64) ⌝ }
+    requires { ⌜ ((k : ℕ) → k < block .n → Fit (side true row (part row (recordAt (now records) (block .from) (block .size) k)))) ⌝ }
+    ensures { λ _. ⌜ ((k : ℕ) → k < block .n → getD (now (at .entry)) k 0 ≡ place → Right (classOutcome word negated (side true row (part row (recordAt (now (records .entry)) (block .from) (block .size) k)))) (getD (now (truths .exit)) k 0)) ⌝ }
 {
-    let mut base = from;
+    let size = block.size;
+    let n = block.n;
+    let mut base = block.from;
     let mut j: usize = 0;
     while j < n {
         if at[j] == place {

@@ -6,16 +6,17 @@ ghost use lib.ListN.{length, getD};
 ghost use Rattle.tables.specs.Operands.{lendNames};
 ghost use Rattle.typing.specs.declared.Test.the-variants.{Relation, Class};
 ghost use Rattle.typing.specs.Tests.{testOf};
-ghost use Rattle.columns.specs.Columns.{outcomeAt, Right, Judgeable};
+ghost use Rattle.block_words.specs.Columns.{outcomeAt, Right, Judgeable};
 use crate::each::classify_each;
 use crate::each::relate_each;
+use block_words::Block;
 use grammar::PlanRow;
-use tables::operands::operand_bytes;
-use tables::operands::row_of;
+use operands::named::operand_bytes;
+use operands::named::row_of;
+use operands::tokens::is_item;
 use tables::rows::is_numeric;
-use tables::tokens::is_item;
 use typing::Test;
-use typing::shape::test_of;
+use typing::sides::test_of;
 
 fn judge_relation<'a>(
     items: &[u32],
@@ -23,9 +24,7 @@ fn judge_relation<'a>(
     bytes: &'a [u8],
     names: &[u32],
     records: &'a [u8],
-    from: usize,
-    size: usize,
-    n: usize,
+    block: Block,
     switches: u8,
     condition: PlanRow,
     word: u32,
@@ -34,12 +33,14 @@ fn judge_relation<'a>(
     place: u8,
     truths: &mut [u8],
 )
-    requires { ⌜ Judgeable (lendNames (now items) (now literals) (now bytes) (now names)) (now records) from size n condition × (length (now at) ≡ 64) × (length (now truths) ≡ 64) ⌝ }
+    requires { ⌜ Judgeable (lendNames (now items) (now literals) (now bytes) (now names)) (now records) (block .from) (block .size) (block .n) condition × (length (now at) ≡ 64) × (length (now truths) ≡ 64) ⌝ }
     requires { ⌜ testOf (condition .relation) ≡ Relation word negated ⌝ }
-    ensures { λ _. ⌜ ((k : ℕ) → k < n → getD (now (at .entry)) k 0 ≡ place → Right (outcomeAt (lendNames (now (items .entry)) (now (literals .entry)) (now (bytes .entry)) (now (names .entry))) (now (records .entry)) from size switches condition k) (getD (now (truths .exit)) k 0)) ⌝ }
+    ensures { λ _. ⌜ ((k : ℕ) → k < block .n → getD (now (at .entry)) k 0 ≡ place → Right (outcomeAt (lendNames (now (items .entry)) (now (literals .entry)) (now (bytes .entry)) (now (names .entry))) (now (records .entry)) (block .from) (block .size) switches condition k) (getD (now (truths .exit)) k 0)) ⌝ }
 {
     let subject = condition.subject;
     let object = condition.object;
+    let from = block.from;
+    let size = block.size;
     let first = &records[from..from + size];
     let row1 = row_of(subject, items, literals);
     let row2 = row_of(object, items, literals);
@@ -50,9 +51,7 @@ fn judge_relation<'a>(
     let numeric = is_numeric(row1) & is_numeric(row2);
     relate_each(
         records,
-        from,
-        size,
-        n,
+        block,
         numeric,
         item1,
         row1,
@@ -74,9 +73,7 @@ fn judge_class<'a>(
     bytes: &'a [u8],
     names: &[u32],
     records: &'a [u8],
-    from: usize,
-    size: usize,
-    n: usize,
+    block: Block,
     switches: u8,
     condition: PlanRow,
     word: u32,
@@ -85,23 +82,12 @@ fn judge_class<'a>(
     place: u8,
     truths: &mut [u8],
 )
-    requires { ⌜ Judgeable (lendNames (now items) (now literals) (now bytes) (now names)) (now records) from size n condition × (length (now at) ≡ 64) × (length (now truths) ≡ 64) ⌝ }
+    requires { ⌜ Judgeable (lendNames (now items) (now literals) (now bytes) (now names)) (now records) (block .from) (block .size) (block .n) condition × (length (now at) ≡ 64) × (length (now truths) ≡ 64) ⌝ }
     requires { ⌜ testOf (condition .relation) ≡ Class word negated ⌝ }
-    ensures { λ _. ⌜ ((k : ℕ) → k < n → getD (now (at .entry)) k 0 ≡ place → Right (outcomeAt (lendNames (now (items .entry)) (now (literals .entry)) (now (bytes .entry)) (now (names .entry))) (now (records .entry)) from size switches condition k) (getD (now (truths .exit)) k 0)) ⌝ }
+    ensures { λ _. ⌜ ((k : ℕ) → k < block .n → getD (now (at .entry)) k 0 ≡ place → Right (outcomeAt (lendNames (now (items .entry)) (now (literals .entry)) (now (bytes .entry)) (now (names .entry))) (now (records .entry)) (block .from) (block .size) switches condition k) (getD (now (truths .exit)) k 0)) ⌝ }
 {
     let row = row_of(condition.subject, items, literals);
-    classify_each(
-        records,
-        from,
-        size,
-        n,
-        row,
-        word,
-        negated,
-        at,
-        place,
-        truths,
-    );
+    classify_each(records, block, row, word, negated, at, place, truths);
 }
 
 // Whether a row is judged here; if so, its truths for each record that stands at it.
@@ -111,17 +97,15 @@ pub fn judge_fields<'a>(
     bytes: &'a [u8],
     names: &[u32],
     records: &'a [u8],
-    from: usize,
-    size: usize,
-    n: usize,
+    block: Block,
     switches: u8,
     condition: PlanRow,
     at: &[u8],
     place: u8,
     truths: &mut [u8],
 ) -> bool
-    requires { ⌜ Judgeable (lendNames (now items) (now literals) (now bytes) (now names)) (now records) from size n condition × (length (now at) ≡ 64) × (length (now truths) ≡ 64) ⌝ }
-    ensures { λ r. ⌜ (r ≡ true → (k : ℕ) → k < n → getD (now (at .entry)) k 0 ≡ place → Right (outcomeAt (lendNames (now (items .entry)) (now (literals .entry)) (now (bytes .entry)) (now (names .entry))) (now (records .entry)) from size switches condition k) (getD (now (truths .exit)) k 0)) ⌝ }
+    requires { ⌜ Judgeable (lendNames (now items) (now literals) (now bytes) (now names)) (now records) (block .from) (block .size) (block .n) condition × (length (now at) ≡ 64) × (length (now truths) ≡ 64) ⌝ }
+    ensures { λ r. ⌜ (r ≡ true → (k : ℕ) → k < block .n → getD (now (at .entry)) k 0 ≡ place → Right (outcomeAt (lendNames (now (items .entry)) (now (literals .entry)) (now (bytes .entry)) (now (names .entry))) (now (records .entry)) (block .from) (block .size) switches condition k) (getD (now (truths .exit)) k 0)) ⌝ }
     ensures { λ r. ⌜ (r ≡ false → now (truths .exit) ≡ now (truths .entry)) ⌝ }
 {
     let test = test_of(condition.relation);
@@ -133,9 +117,7 @@ pub fn judge_fields<'a>(
                 bytes,
                 names,
                 records,
-                from,
-                size,
-                n,
+                block,
                 switches,
                 condition,
                 word,
@@ -153,9 +135,7 @@ pub fn judge_fields<'a>(
                 bytes,
                 names,
                 records,
-                from,
-                size,
-                n,
+                block,
                 switches,
                 condition,
                 word,

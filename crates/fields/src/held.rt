@@ -1,88 +1,23 @@
-// Valid content, and the digits and sign of the numeric kinds.
+// Valid content, and where a field is wrong.
 ghost use mathlib.Core.Path.{_≡_};
 ghost use mathlib.Core.Bool.{true, false};
 ghost use Prim.Native.Nat.{_≤_};
 ghost use lib.ListN.{length};
-ghost use Rattle.content.specs.Content.{all, isDigit, isSign, isSignedDigit, digitBytes, isMinus};
 ghost use Rattle.content.specs.Marks.{agree};
 ghost use Rattle.content.specs.WrongByte.{At, rightByte, firstWrong, validContent};
-use crate::packed::packed_right;
-use crate::packed::packed_valid;
+use alphabets::all_in_alphabet;
+use alphabets::in_alphabet;
 use content::Row;
-use content::letters::all_in_alphabet;
-use content::letters::in_alphabet;
 use content::marks::is_digit;
 use content::marks::marks;
 use content::relations::ALPHABETIC;
 use content::rows::is_packed;
 use content::rows::is_zoned;
-
-pub fn is_sign(b: u8) -> bool
-    ensures { λ r. ⌜ r ≡ isSign b ⌝ }
-{
-    (b == 0x2b) | (b == 0x2d)
-}
-
-pub fn is_signed_digit(b: u8) -> bool
-    ensures { λ r. ⌜ r ≡ isSignedDigit b ⌝ }
-{
-    ((b / 16 == 3) | (b / 16 == 4)) & (b % 16 <= 9)
-}
-
-fn few_digits(marks: &[u64; 16], bytes: &[u8]) -> bool
-    requires { ⌜ agree (now marks) ≡ true ⌝ }
-    ensures { λ r. ⌜ r ≡ all isDigit (now (bytes .entry)) ⌝ }
-{
-    let mut i: usize = 0;
-    while i < bytes.len() {
-        if !is_digit(marks, bytes[i]) {
-            return false;
-        }
-        i += 1;
-    }
-    true
-}
-
-// The loop has no exit: marks are joined, and one test follows.
-fn many_digits(marks: &[u64; 16], bytes: &[u8]) -> bool
-    requires { ⌜ agree (now marks) ≡ true ⌝ }
-    ensures { λ r. ⌜ r ≡ all isDigit (now (bytes .entry)) ⌝ }
-{
-    let mut fine = true;
-    let mut k: usize = 0;
-    while k < bytes.len() {
-        fine = fine & is_digit(marks, bytes[k]);
-        k += 1;
-    }
-    fine
-}
-
-// Most items are short, and there the loop with an exit costs less.
-pub fn all_digits(bytes: &[u8]) -> bool
-    ensures { λ r. ⌜ r ≡ all isDigit (now (bytes .entry)) ⌝ }
-{
-    let marks = marks();
-    if bytes.len() < 16 {
-        return few_digits(&marks, bytes);
-    }
-    many_digits(&marks, bytes)
-}
-
-// The bytes that hold digits: after a leading sign they start at 1, before a trailing one they end early.
-pub fn digit_bytes(row: Row, bytes: &[u8]) -> &[u8]
-    requires { ⌜ 1 ≤ length (now bytes) ⌝ }
-    ensures { λ r. ⌜ now r ≡ digitBytes (row .kind) (now (bytes .entry)) ⌝ }
-{
-    let kind = row.kind;
-    if kind == Row::SIGN_LEADING {
-        return &bytes[1..];
-    }
-    if kind == Row::SIGN_TRAILING {
-        let last = bytes.len() - 1;
-        return &bytes[..last];
-    }
-    bytes
-}
+use field_digits::digits::all_digits;
+use field_digits::signs::is_sign;
+use field_digits::signs::is_signed_digit;
+use packed::halves::packed_right;
+use packed::halves::packed_valid;
 
 pub fn valid_content(row: Row, bytes: &[u8]) -> bool
     requires { ⌜ 1 ≤ length (now bytes) ⌝ }
@@ -109,27 +44,6 @@ pub fn valid_content(row: Row, bytes: &[u8]) -> bool
         return packed_valid(row, bytes);
     }
     true
-}
-
-pub fn is_minus(row: Row, bytes: &[u8]) -> bool
-    requires { ⌜ 1 ≤ length (now bytes) ⌝ }
-    ensures { λ r. ⌜ r ≡ isMinus (row .kind) (now (bytes .entry)) ⌝ }
-{
-    let kind = row.kind;
-    let last = bytes.len() - 1;
-    if kind == Row::SIGNED {
-        return bytes[last] / 16 == 4;
-    }
-    if kind == Row::SIGN_LEADING {
-        return bytes[0] == 0x2d;
-    }
-    if kind == Row::SIGN_TRAILING {
-        return bytes[last] == 0x2d;
-    }
-    if is_packed(row) {
-        return bytes[last] % 16 == 4;
-    }
-    false
 }
 
 // Whether a byte may stand in a field, as its first byte or not and as its last or not.

@@ -1,4 +1,3 @@
-// What the bytes of a field hold: its validity, its first wrong byte, its digits and its sign.
+// What the bytes of a field hold: its validity, its first wrong byte.
 
-pub mod held; // valid content, its first wrong byte, digits and sign
-pub mod packed; // packed fields
+pub mod held; // valid content, its first wrong byte

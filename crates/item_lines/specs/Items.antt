@@ -7,7 +7,7 @@ use Rattle.content.specs.declared.Row.{Row}
 use Rattle.description.specs.Grammar.{bytes}
 use Rattle.lines.specs.Put.{hexadecimal}
 use Rattle.lines.specs.Parts.{Part, say, count, column, countColumn}
-use Rattle.wordings.specs.Sentences.{kindWords}
+use Rattle.kind_words.specs.Kinds.{kindWords}
 
 -- a byte that has a character, the stroke apart
 abbrev pub isShown : ℕ → Bool

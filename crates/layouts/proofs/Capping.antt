@@ -14,7 +14,7 @@ use Rattle.description.specs.Stages as F
 use Rattle.description.proofs.Bytes.{apart}
 use Rattle.entries.specs.declared.Noted.{Noted}
 use Rattle.entries.specs.Entries.{cap, capNoted, contentOf, entryOf}
-use Rattle.storing.specs.Stored.{Scaled}
+use Rattle.noting.specs.Stored.{Scaled}
 use Rattle.layouts.specs.Layouts.{firstOver}
 use Rattle.layouts.proofs.Laying.{most-le, not-over}
 

@@ -15,7 +15,7 @@ use Rattle.description.specs.Reader.{sizeOf, below, signedBelow, rowOf, layout}
 use Rattle.description.specs.Limits.{most, over, passes}
 use Rattle.description.proofs.Bytes.{apart, eqb-no}
 use Rattle.entries.specs.Entries.{contentOf, entryOf}
-use Rattle.storing.specs.Stored.{notedAt, notedFrom}
+use Rattle.noting.specs.Stored.{notedAt, notedFrom}
 use Rattle.layouts.specs.Layouts.{firstOver, shownRow, entriesIn, Sized, Signed, Summed, rowIn, numbersOf, rowNumbers, overPlace, LaidOut}
 use Rattle.layouts.specs.declared.ItemRow.{ItemRow}
 use Rattle.layouts.specs.declared.Laid.{Laid}

@@ -9,7 +9,7 @@ use Rattle.description.specs.Grammar.{Row, row, Entry, isSigned}
 use Rattle.description.specs.Reader.{sizeOf, below, signedBelow, rowOf, layout}
 use Rattle.description.specs.Limits.{over}
 use Rattle.entries.specs.Entries.{entryOf}
-use Rattle.storing.specs.Stored.{notedAt, notedFrom}
+use Rattle.noting.specs.Stored.{notedAt, notedFrom}
 use Rattle.layouts.specs.declared.ItemRow.{ItemRow}
 use Rattle.layouts.specs.declared.Laid.{Laid}
 use Rattle.layouts.specs.declared.Laid.the-variants.{Over, Fine}

@@ -15,7 +15,7 @@ use Rattle.spelling.specs.Literals.{Literal, rowOfLiteral, laid}
 use Rattle.spelling.specs.Keywords.{Piece as Spelt, token, literal, fault}
 use Rattle.spelling.specs.Reading.{Placed, placed, pieces, Found, none, refusal, before, faultAt, after, firstFault, tokensFrom, rowsFrom, bytesOf}
 use Rattle.splitter.specs.Splits.{between}
-use Rattle.literal_words.specs.Found.{literalBy}
+use Rattle.literal_bytes.specs.Written.{literalBy}
 use Rattle.senses.specs.declared.Met.the-variants.{Token as MetToken, Literal as MetLiteral, Fault as MetFault}
 use Rattle.senses.specs.declared.Piece.{Piece}
 use Rattle.senses.specs.Senses.{metOf}

@@ -25,7 +25,7 @@ use Rattle.spelling.proofs.Accepted.{small-size}
 use Rattle.spelling.proofs.Laying.{ofLiteralKind}
 use Rattle.splitter.specs.declared.Next.the-variants.{Word as Span}
 use Rattle.splitter.specs.Splits.{wordsAt, between, fromNext}
-use Rattle.literal_words.specs.Found.{literalBy}
+use Rattle.literal_bytes.specs.Written.{literalBy}
 use Rattle.senses.specs.declared.Piece.{Piece}
 use Rattle.senses.specs.Senses.{metOf, PieceBy}
 use Rattle.lexer.specs.Gathers.{left, Made, MadeBy, Meets}

@@ -7,7 +7,7 @@ use borrow.Rule.Slice.PartMut.{putMid}
 use lib.ListN.{length, take, drop, set, length-append, length-take, length-drop, take-append-drop}
 use lib.Seq.{sets-eq, length-take-le, take-at}
 use Rattle.tables.proofs.Front.{Front, front-part}
-use Rattle.literal_words.specs.Found.{writtenOver}
+use Rattle.literal_bytes.specs.Written.{writtenOver}
 use Rattle.lexer.specs.Gathers.{overAt}
 
 pub row-over : (rows : List ℕ) (at k o n s d : ℕ) → at + 5 ≤ length rows

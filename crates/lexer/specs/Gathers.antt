@@ -11,7 +11,7 @@ use Rattle.spelling.specs.Literals.{Literal, rowOfLiteral, laid}
 use Rattle.spelling.specs.Keywords.{Piece as Spelt, token, literal, fault}
 use Rattle.spelling.specs.Reading.{Placed, piecesFrom, placed, pieces, Found, none, refusal, firstFault, faultOf, tokensFrom, rowsFrom, bytesOf, literalsBefore, tokensOf}
 use Rattle.splitter.specs.Splits.{wordsAt, between}
-use Rattle.literal_words.specs.Found.{literalBy}
+use Rattle.literal_bytes.specs.Written.{literalBy}
 use Rattle.senses.specs.declared.Piece.{Piece}
 use Rattle.senses.specs.Senses.{metOf}
 use Rattle.lexer.specs.declared.Gathered.{Gathered}

@@ -1,4 +1,3 @@
-pub mod Points
+pub mod Contents
 pub mod Numerals
 pub mod Holding
-pub mod Copying

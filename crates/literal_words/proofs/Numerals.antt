@@ -16,7 +16,8 @@ use Rattle.tables.proofs.Bytes.{row-facts}
 use Rattle.literal_words.specs.declared.Number.the-variants.{Is, Not}
 use Rattle.spelling.specs.Literals.{isPoint, withoutPoint, afterPoint, pointPlace, numberOf, rowOfLiteral, fits, isNumber}
 use Rattle.literal_words.specs.Found.{numberFound, rowBy}
-use Rattle.literal_words.proofs.Points.{content-split, row-by, point-out, place-within}
+use Rattle.literal_bytes.proofs.Parting.{point-out, place-within}
+use Rattle.literal_words.proofs.Contents.{content-split, row-by}
 
 first-false : (a b c : Bool) → a ≡ false → a && b && c ≡ false
 first-false true b c e = absurd (true≢false e)

@@ -1,18 +1,17 @@
 -- Literals as code finds them in a word.
-use mathlib.Core.Bool.{Bool, true, false, cond, not, _&&_}
-use mathlib.Core.Path.{_≡_}
-use mathlib.Core.List.{List, [], _∷_, _++_}
-use Prim.Native.Nat.{ℕ, suc, _-_, _≤_}
-use lib.Dec.{ltb, leb, eqb}
-use lib.ListN.{length, drop}
+use mathlib.Core.Bool.{Bool, true, false, cond, _&&_}
+use mathlib.Core.List.{List, [], _∷_}
+use Prim.Native.Nat.{ℕ, suc, _-_}
+use lib.Dec.{ltb, leb}
+use lib.ListN.{length}
 use Rattle.content.specs.declared.Row.{Row}
 use Rattle.spelling.specs.Words.{isQuote}
-use Rattle.spelling.specs.Literals.{Literal, literalDigits, rowOfLiteral, numberOf, isNumber, textOf, isText}
+use Rattle.spelling.specs.Literals.{literalDigits, rowOfLiteral, numberOf, isNumber, textOf, isText}
 use Rattle.literal_words.specs.declared.Number.{Number}
 use Rattle.literal_words.specs.declared.Number.the-variants.{Is, Not}
 use Rattle.literal_words.specs.declared.Text.{Text}
 use Rattle.literal_words.specs.declared.Text.the-variants.{Is as Held, Not as NoText}
-use Rattle.content.specs.Kinds.{kindAlphanumeric, kindUnsigned, kindSignLeading}
+use Rattle.content.specs.Kinds.{kindUnsigned, kindSignLeading}
 
 -- the row of the numeric literal that a word writes, if it writes one
 abbrev pub numberFound : List ℕ → Number
@@ -52,11 +51,3 @@ withinLimits NoText = NoText
 
 abbrev pub textFound : List ℕ → Text
 textFound word = cond (isText word) (Held (length (textOf word .bytes))) NoText
-
--- the literal of a kind that a word writes
-abbrev pub literalBy : ℕ → List ℕ → Literal
-literalBy kind word = cond (eqb kind kindAlphanumeric) (textOf word) (numberOf word)
-
--- an output with these bytes written over its start
-abbrev pub writtenOver : List ℕ → List ℕ → List ℕ
-writtenOver bytes before = bytes ++ drop (length bytes) before

@@ -1,6 +1,5 @@
-// Literals as they are written: their rows and their bytes.
+// Literals as they are written: their rows.
 
-pub mod copies; // the bytes of a literal
 pub mod numbers; // numeric literals
 pub mod quotes; // nonnumeric literals
 

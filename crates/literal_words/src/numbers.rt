@@ -11,24 +11,10 @@ ghost use Rattle.content.specs.WrongByte.{validContent};
 ghost use Rattle.content.specs.Kinds.{kindUnsigned, kindSignLeading};
 use crate::Number;
 use content::Row;
-use fields::held::all_digits;
-use fields::held::is_sign;
+use field_digits::digits::all_digits;
+use field_digits::signs::is_sign;
+use literal_bytes::points::point_place;
 use tables::rows::row_sound;
-
-// The place of the first point, or the length.
-pub(crate) fn point_place(word: &[u8]) -> usize
-    ensures { λ r. ⌜ r ≡ pointPlace (now (word .entry)) ⌝ }
-{
-    let mut i: usize = 0;
-    while i < word.len() {
-        let b = word[i];
-        if b == 0x2e {
-            return i;
-        }
-        i += 1;
-    }
-    i
-}
 
 // Whether all bytes after place `at` are digits.
 fn digits_after(word: &[u8], at: usize) -> bool

@@ -8,6 +8,9 @@ use content::Row;
 use fronts::front_bytes;
 use item_lines::rows::put_item;
 use libc::STDOUT_FILENO;
+use name_lines::put_heading;
+use name_lines::put_name;
+use name_lines::put_value;
 use tables::rows::NAME_WIDTH;
 use tables::rows::row_at;
 use tables::tokens::FIRST_LITERAL;
@@ -22,29 +25,39 @@ const LINE: usize = 128;
 // A literal of 256 quotes.
 const VALUE: usize = 520;
 
+// Two of them, and a word between.
+const RANGE: usize = 1064;
+
 fn row_line(description: &[u8], places: &[u32], v: usize, row: Row) {
     let mut line = [0u8; LINE];
     let end = put_item(&mut line, 0, v, item_name(description, places, v), row);
     text(STDOUT_FILENO, front_bytes(&line, end));
 }
 
-fn literal(description: &[u8], literals: &[u32], bytes: &[u8], row: u32) {
+// A literal as it is written, and how many bytes it has.
+fn literal(description: &[u8], literals: &[u32], bytes: &[u8], row: u32, out: &mut [u8]) -> usize {
     if row < SPAN {
         let token = [FIRST_LITERAL + row];
-        let mut value = [0u8; VALUE];
-        let n = words(description, literals, bytes, &token, &mut value);
-        text(STDOUT_FILENO, front_bytes(&value, n));
+        return words(description, literals, bytes, &token, out);
     }
+    0
 }
 
 // One value, or a range of them.
 fn value(description: &[u8], literals: &[u32], bytes: &[u8], low: u32, high: u32) {
-    text(STDOUT_FILENO, b" ");
-    literal(description, literals, bytes, low);
-    if low != high {
-        text(STDOUT_FILENO, b" THRU ");
-        literal(description, literals, bytes, high);
-    }
+    let mut least = [0u8; VALUE];
+    let mut most = [0u8; VALUE];
+    let mut line = [0u8; RANGE];
+    let n = literal(description, literals, bytes, low, &mut least);
+    let m = literal(description, literals, bytes, high, &mut most);
+    let end = put_value(
+        &mut line,
+        0,
+        front_bytes(&least, n),
+        front_bytes(&most, m),
+        low != high,
+    );
+    text(STDOUT_FILENO, front_bytes(&line, end));
 }
 
 // The values in a row of the name table.
@@ -81,9 +94,9 @@ fn names_from(names: &[u32], k: usize) -> &[u32] {
 }
 
 fn name_line(description: &[u8], place: usize, name: &[u32], literals: &[u32], bytes: &[u8]) {
-    text(STDOUT_FILENO, b"       88 ");
-    text(STDOUT_FILENO, name_at(description, place));
-    text(STDOUT_FILENO, b" VALUE");
+    let mut line = [0u8; LINE];
+    let end = put_name(&mut line, 0, name_at(description, place));
+    text(STDOUT_FILENO, front_bytes(&line, end));
     values(description, literals, bytes, name);
     text(STDOUT_FILENO, b"\n");
 }
@@ -149,10 +162,9 @@ pub(crate) fn list_items(
     literals: &[u32],
     bytes: &[u8],
 ) -> u32 {
-    text(
-        STDOUT_FILENO,
-        b"row  name                            kind                     offset  size   digits  scale\n",
-    );
+    let mut line = [0u8; LINE];
+    let end = put_heading(&mut line, 0);
+    text(STDOUT_FILENO, front_bytes(&line, end));
     row_lines(
         description,
         items,

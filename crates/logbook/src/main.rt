@@ -15,12 +15,12 @@ mod sweep_file; // sweep
 mod verdicts; // where a rule stops
 
 use books::Recognized;
-use conditions::calls::plan;
 use content::Row;
 use describing::Described;
 use descriptions::calls::describe;
 use files::Loaded;
 use files::load;
+use forms::calls::plan;
 use fronts::front;
 use fronts::front_bytes;
 use items::parts::same_bytes;

@@ -13,6 +13,8 @@ use refusal_numbers::place_of;
 use report::messages::put_caret;
 use report::messages::put_refusal;
 use report::messages::put_spot;
+use report::messages::put_unseen;
+use report::places::after_ink;
 use report::places::line_number;
 use report::places::line_rest;
 use report::places::line_start;
@@ -45,6 +47,13 @@ fn caret(begun: &[u8], rest: &[u8]) {
     text(STDERR_FILENO, front_bytes(&line, end));
 }
 
+// What nobody sees at the caret, or in the word there.
+fn told(rest: &[u8]) {
+    let mut line = [0u8; 32];
+    let end = put_unseen(&mut line, 0, after_ink(rest));
+    text(STDERR_FILENO, front_bytes(&line, end));
+}
+
 // Where a byte stands, by what is before it in its text and in its line.
 fn spot(before: &[u8], begun: &[u8]) {
     let mut line = [0u8; LINE];
@@ -59,7 +68,9 @@ pub(crate) fn in_text(refused: u32, i: usize, content: &[u8], place: usize) {
     sentence(refused);
     argument(STDERR_FILENO, i);
     spot(before, begun);
-    caret(begun, back_bytes(content, place));
+    let rest = back_bytes(content, place);
+    caret(begun, rest);
+    told(rest);
 }
 
 // The item of a refused row.

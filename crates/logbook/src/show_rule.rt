@@ -5,7 +5,7 @@ use crate::refusals::sentence;
 use crate::verdicts::condition;
 use crate::wording::item_name;
 use books::Printed;
-use conditions::calls::expand;
+use forms::calls::expand;
 use fronts::front;
 use fronts::front_bytes;
 use grammar::PlanRow;

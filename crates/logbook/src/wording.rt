@@ -29,7 +29,7 @@ pub(crate) fn name_at(description: &[u8], place: usize) -> &[u8] {
     if place < description.len() {
         return first_word(&description[place..]);
     }
-    description
+    front_bytes(description, 0)
 }
 
 // The place of row v, or the end of the description.

@@ -40,11 +40,11 @@ use Rattle.rules.specs.Calls.{conditionLines, roomCheck, writes, Leaves, number
 use Rattle.rules.specs.Footprint.{rowsAsked, footprint}
 use Rattle.rules.proofs.Passing.{after-lines, both-sound, read-as, condition-passes, tables-pass}
 use Rattle.rules.proofs.Answers.{plan-passes, judges-as, run-judges}
-use Rattle.preparer.specs.declared.Prepared.{Prepared}
-use Rattle.preparer.specs.declared.Prepared.the-variants.{Rows, Refused as Unprepared}
+use Rattle.resolver.specs.declared.Prepared.{Prepared}
+use Rattle.resolver.specs.declared.Prepared.the-variants.{Rows, Refused as Unprepared}
 use Rattle.preparer.specs.Prepared.{Prepares}
 use Rattle.runner.specs.Runs.{Runnable}
-use Rattle.conditions.proofs.Calling.{ready}
+use Rattle.preparer.proofs.Ready.{ready}
 use Rattle.walker.specs.Marks.{marked, markedRow, lentNames, AllMarkable, rowsAt}
 use Rattle.walker.proofs.Marking.{by-names, marked-length}
 use Rattle.walker.proofs.Range.{markable}

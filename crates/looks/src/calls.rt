@@ -10,8 +10,8 @@ use look_lists::lists::list_named;
 use look_lists::lists::list_reached;
 use name_tables::check_names;
 use plan_checks::check_plan;
-use preparer::Prepared;
 use preparer::prepare::prepare;
+use resolver::Prepared;
 use tables::Check;
 use tables::Written;
 

@@ -1,4 +1,3 @@
-// One item mended, and its changes listed.
+// One item mended.
 
 pub mod kinds; // one item
-pub mod listing; // the list of changes

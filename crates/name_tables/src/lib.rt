@@ -1,69 +1,22 @@
 // Refusal 18: the rows of the name table, of tables that 1 to 4 let pass.
 ghost use mathlib.Core.Path.{_≡_};
-ghost use mathlib.Core.List.{[]};
 ghost use Prim.Native.Nat.{_+_, _*_, _<_};
 ghost use lib.ListN.{length};
 ghost use Rattle.tables.specs.declared.Check.the-variants.{Sound};
-ghost use Rattle.tables.specs.Rows.{rowCount, nameWidth};
+ghost use Rattle.tables.specs.Rows.{nameWidth};
 ghost use Rattle.tables.specs.Operands.{lend, lendNames};
 ghost use Rattle.tables.specs.Refusals.{firstOf};
 ghost use Rattle.tables.specs.Tables.{tableLines};
-ghost use Rattle.values.specs.Names.{every, pairSound, nameSound, nameCheck, literalSide};
-ghost use Rattle.values.specs.Comparison.{comparison};
+ghost use Rattle.values.specs.Names.{every, nameSound, nameCheck};
 ghost use Rattle.names.specs.Ranges.{Literals, placeOf};
-use compare::Order;
-use compare::orders::relation_holds;
 use content::Row;
-use content::relations::GREATER;
-use names::ranges::compare_literal;
-use names::ranges::held;
+use name_pairs::pair_sound;
 use names::ranges::number_at;
 use tables::Check;
 use tables::Refusal;
 use tables::rows::NAME_TABLE;
 use tables::rows::NAME_WIDTH;
-use tables::rows::is_numeric;
 use tables::rows::row_at;
-use tables::rows::row_part;
-use typing::shape::sides_fit;
-
-// How the two ends of a range compare, by their own kinds.
-fn compare_ends(literals: &[u32], bytes: &[u8], low: usize, high: usize) -> Order
-    requires { ⌜ Literals (now literals) (now bytes) × (low < rowCount (now literals)) × (high < rowCount (now literals)) ⌝ }
-    ensures { λ r. ⌜ r ≡ comparison (literalSide (lend [] (now (literals .entry)) (now (bytes .entry))) low) (literalSide (lend [] (now (literals .entry)) (now (bytes .entry))) high) ⌝ }
-{
-    let first = row_at(literals, low);
-    let last = row_at(literals, high);
-    let value = row_part(first, bytes);
-    compare_literal(
-        false,
-        first,
-        value,
-        held(first, value),
-        last,
-        row_part(last, bytes),
-    )
-}
-
-// A value or a range that the item may be compared with.
-fn pair_sound(item: Row, literals: &[u32], bytes: &[u8], low: usize, high: usize) -> bool
-    requires { ⌜ Literals (now literals) (now bytes) ⌝ }
-    ensures { λ r. ⌜ r ≡ pairSound (lend [] (now (literals .entry)) (now (bytes .entry))) item low high ⌝ }
-{
-    let rows = literals.len() / Row::WIDTH;
-    if !((low < rows) & (high < rows)) {
-        return false;
-    }
-    let first = row_at(literals, low);
-    let last = row_at(literals, high);
-    if !(is_numeric(first) == is_numeric(last)) {
-        return false;
-    }
-    if relation_holds(GREATER, compare_ends(literals, bytes, low, high)) {
-        return false;
-    }
-    sides_fit(item, first) & sides_fit(item, last)
-}
 
 // Place k of the eight: a pair, or zeros.
 fn place_sound(item: Row, literals: &[u32], bytes: &[u8], names: &[u32], v: usize, k: usize) -> bool

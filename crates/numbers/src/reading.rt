@@ -13,13 +13,13 @@ use byte_words::words::field_word;
 use compare::Number;
 use content::Row;
 use content::rows::is_packed;
-use fields::held::is_minus;
-use fields::held::is_sign;
-use fields::held::is_signed_digit;
-use fields::packed::digit_and_sign;
-use fields::packed::left_half;
-use fields::packed::may_lead;
-use fields::packed::two_digits;
+use field_digits::signs::is_minus;
+use field_digits::signs::is_sign;
+use field_digits::signs::is_signed_digit;
+use packed::halves::digit_and_sign;
+use packed::halves::left_half;
+use packed::halves::may_lead;
+use packed::halves::two_digits;
 
 fn wide(x: u8) -> u64
     ensures { λ r. ⌜ r ≡ x ⌝ }

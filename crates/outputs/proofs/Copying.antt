@@ -9,9 +9,9 @@ use lib.ListN.{length, getD, take, drop, set, length-append, length-take, length
 use lib.Seq.{sets, drop-cons, set-at, take-suc, append-snoc, length-take-le}
 use Rattle.tables.proofs.Front.{Front, front-none, front-length, front-store, front-part}
 use Rattle.entries.specs.declared.Noted.{Noted}
-use Rattle.storing.specs.Stored.{notedAt, notedFrom}
-use Rattle.storing.proofs.Flat.{noted-snoc}
-use Rattle.literal_words.specs.Found.{literalBy, writtenOver}
+use Rattle.noting.specs.Stored.{notedAt, notedFrom}
+use Rattle.noting.proofs.Flat.{noted-snoc}
+use Rattle.literal_bytes.specs.Written.{literalBy, writtenOver}
 use Rattle.outputs.specs.Noted.{namedOf, rowAt, wordAt, bytesAt, rowsFrom, bytesFrom, Words}
 
 -- One number more.

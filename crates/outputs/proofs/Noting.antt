@@ -8,8 +8,8 @@ use lib.Seq.{getD-append-add, getD-take}
 use Rattle.description.specs.Grammar.{Literal, literalRow, literalRows, literalBytes}
 use Rattle.description.specs.Limits.{ruled}
 use Rattle.description.specs.Stages.{literalIn}
-use Rattle.literal_words.specs.Found.{literalBy}
-use Rattle.ranges.proofs.Words.{literal-bytes, literal-long}
+use Rattle.literal_bytes.specs.Written.{literalBy}
+use Rattle.literal_rows.proofs.Words.{literal-bytes, literal-long}
 use Rattle.name_entries.specs.Taking.{noteNumbers}
 use Rattle.name_entries.specs.Named.{Span, literalsIn, notesOf, Standing, Noted}
 use Rattle.name_entries.specs.declared.Tally.{Tally}

@@ -5,7 +5,7 @@ use Prim.Native.Nat.{ℕ, zero, suc, _+_, _-_, _*_, _≤_, _<_}
 use lib.ListN.{length, getD, take, drop}
 use Rattle.content.specs.declared.Row.{Row}
 use Rattle.entries.specs.declared.Noted.{Noted}
-use Rattle.literal_words.specs.Found.{literalBy}
+use Rattle.literal_bytes.specs.Written.{literalBy}
 
 -- the place of an entry's name or FILLER
 abbrev pub namedOf : Noted → ℕ

@@ -3,7 +3,7 @@ ghost use mathlib.Core.Path.{_≡_};
 ghost use mathlib.Core.List.{_++_, map};
 ghost use Prim.Native.Nat.{_*_, _≤_};
 ghost use lib.ListN.{length, take, drop};
-ghost use Rattle.storing.specs.Stored.{notedFrom};
+ghost use Rattle.noting.specs.Stored.{notedFrom};
 ghost use Rattle.outputs.specs.Noted.{namedOf};
 
 pub fn copy_numbers(from: &[u32], n: usize, to: &mut [u32])

@@ -4,11 +4,11 @@ ghost use mathlib.Core.Path.{_≡_};
 ghost use mathlib.Core.List.{_++_};
 ghost use Prim.Native.Nat.{_+_, _*_, _≤_, _<_};
 ghost use lib.ListN.{length, drop};
-ghost use Rattle.literal_words.specs.Found.{writtenOver};
+ghost use Rattle.literal_bytes.specs.Written.{writtenOver};
 ghost use Rattle.outputs.specs.Noted.{notedRow, rowsFrom, bytesFrom, Words};
 ghost use Rattle.content.specs.Kinds.{rowWidth};
 use content::Row;
-use literal_words::copies::copy_literal;
+use literal_bytes::copies::copy_literal;
 
 pub fn copy_rows(notes: &[u32], n: usize, to: &mut [u32])
     requires { ⌜ (n * 7 ≤ length (now notes)) × (n * rowWidth ≤ length (now to)) ⌝ }

@@ -8,10 +8,10 @@ ghost use Rattle.grammar.specs.Plan.{planRow, targetSound, planRowSound, planCh
 ghost use Rattle.grammar.specs.Typed.{typedRows, Shaped};
 use grammar::PlanRow;
 use plans::Target;
+use shapes::condition_sound;
 use tables::Check;
 use tables::Refusal;
-use typing::shape::condition_sound;
-use typing::shape::well_typed;
+use typing::sides::well_typed;
 
 // The five numbers of row k.
 pub fn plan_row(plan: &[u32], k: usize) -> PlanRow

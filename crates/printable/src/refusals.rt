@@ -11,10 +11,10 @@ use keywords::same_bytes;
 use naming::Called;
 use naming::names::row_named;
 use naming::parts::name_part;
+use operands::tokens::token_there;
 use tables::tokens::ITEM;
 use tables::tokens::NAME;
 use tables::tokens::SPAN;
-use tables::tokens::token_there;
 
 // Whether there is such a token: an off switch is none.
 fn may_print(token: u32, items: usize, literals: usize, names: usize) -> bool

@@ -18,7 +18,7 @@ use Rattle.spelling.specs.Literals.{quoted, doubled, pointed, written}
 use Rattle.spelling.specs.Names.{leading}
 use Rattle.naming.specs.Named.{knownAt}
 use Rattle.spelling.specs.Printing.{wordOf, spaced, line, printed}
-use Rattle.literal_words.specs.Found.{writtenOver}
+use Rattle.literal_bytes.specs.Written.{writtenOver}
 use Rattle.naming.proofs.Finding.{leading-short}
 use Rattle.vocabulary.specs.Spellings.{spelt}
 use Rattle.vocabulary.proofs.Cells.{allBelow, below}

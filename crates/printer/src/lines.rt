@@ -5,7 +5,7 @@ ghost use Prim.Native.Nat.{_≤_};
 ghost use lib.ListN.{length};
 ghost use Rattle.naming.specs.Named.{knownAt};
 ghost use Rattle.spelling.specs.Printing.{wordOf, spaced, printed};
-ghost use Rattle.literal_words.specs.Found.{writtenOver};
+ghost use Rattle.literal_bytes.specs.Written.{writtenOver};
 ghost use Rattle.printer.specs.Prints.{AllPrintable};
 use crate::tokens::put_token;
 use crate::tokens::token_size;

@@ -11,7 +11,7 @@ use lib.Seq.{drop-cons, drop-drop, set-set}
 use Rattle.tables.proofs.Front.{Front, front-none, front-store, front-part, front-length, front-rest, Copied, copied-none, copied-more, copied-left}
 use Rattle.spelling.specs.Words.{isQuote}
 use Rattle.spelling.specs.Literals.{doubled, quoted}
-use Rattle.literal_words.specs.Found.{writtenOver}
+use Rattle.literal_bytes.specs.Written.{writtenOver}
 
 here : (part : List ℕ) (i : ℕ) → i < length part
     → doubled (drop i part) ≡ cond (isQuote (getD part i 0)) (getD part i 0 ∷ getD part i 0 ∷ doubled (drop (i + 1) part)) (getD part i 0 ∷ doubled (drop (i + 1) part))

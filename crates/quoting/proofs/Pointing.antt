@@ -11,7 +11,7 @@ use lib.Seq.{length-take-le}
 use borrow.Author.Tests.{eq-eqb, ne-eqb}
 use Rattle.tables.proofs.Front.{Front, front-store, front-part, front-length, front-rest}
 use Rattle.spelling.specs.Literals.{pointed}
-use Rattle.literal_words.specs.Found.{writtenOver}
+use Rattle.literal_bytes.specs.Written.{writtenOver}
 
 module _ (scale : ℕ) (part : List ℕ) where
   pub whole : scale ≡ 0 → pointed scale part ≡ part

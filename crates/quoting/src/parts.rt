@@ -3,9 +3,9 @@ ghost use mathlib.Core.Path.{_≡_};
 ghost use Prim.Native.Nat.{_≤_};
 ghost use lib.ListN.{length};
 ghost use Rattle.spelling.specs.Literals.{doubled, quoted, pointed};
-ghost use Rattle.literal_words.specs.Found.{writtenOver};
-use literal_words::copies::copy_bytes;
-use literal_words::copies::stride;
+ghost use Rattle.literal_bytes.specs.Written.{writtenOver};
+use literal_bytes::copies::copy_bytes;
+use literal_bytes::copies::stride;
 
 // The number of bytes with each quote doubled.
 fn doubled_size(part: &[u8]) -> usize

@@ -7,25 +7,15 @@ ghost use Rattle.compare.specs.Order.{isGreater};
 ghost use Rattle.values.specs.Comparison.{side, comparison};
 ghost use Rattle.values.specs.Truth.{Fit, Numeral};
 ghost use Rattle.description.specs.Limits.{above};
-ghost use Rattle.ranges.specs.Spelling.{literalOf, Written, unlikeRows};
+ghost use Rattle.literal_rows.specs.Spelling.{literalOf, Written};
 use compare::orders::relation_holds;
 use content::Row;
 use content::relations::GREATER;
-use literal_words::copies::copy_literal;
+use literal_bytes::copies::copy_literal;
 use numbers::reading::read_number;
 use scaled::compare_scaled;
 use tables::rows::is_numeric;
 use values::sides::compare_sides;
-
-// Whether one end only is numeric.
-pub fn unlike(low: Row, high: Row) -> bool
-    ensures { λ r. ⌜ r ≡ unlikeRows low high ⌝ }
-{
-    if is_numeric(low) {
-        return !is_numeric(high);
-    }
-    is_numeric(high)
-}
 
 fn above_by_value(low: Row, left: &[u8], high: Row, right: &[u8]) -> bool
     requires { ⌜ Numeral low (now left) × Numeral high (now right) ⌝ }

@@ -1,4 +1,3 @@
-// Values of level 88 entries: what 01's limits and refusal 18 bar.
+// Ranges of level 88 entries: whether the low end exceeds the high end.
 
 pub mod ends; // two ends of a range, as they are written
-pub mod literals; // one literal, as it is written

@@ -4,9 +4,14 @@ use mathlib.Core.List.{List}
 use Prim.Native.Nat.{ℕ}
 use Rattle.sweeps.specs.declared.Swept.{Swept}
 use Rattle.sweeps.specs.Sweep.{Sweep, Leaves}
-use Rattle.records_c.specs.Sweeping.{sweptNumber, sweptNumbers, SweepsTo}
+use Rattle.answers.specs.Answer.{Told}
+use Rattle.record_answers.specs.Sweeping.{sweptNumber, sweptNumbers}
+use Rattle.records_c.specs.Sweeping.{SweepsTo}
 
 pub sweep-told : {sweep : Sweep} {given : Swept} {returned : ℕ} {answer answers : List ℕ} → Leaves sweep given answers
-    → answer ≡ sweptNumbers given → returned ≡ sweptNumber given → SweepsTo sweep returned answer answers
-sweep-told l a r =
-    record { told = record { returns = r ∙ ap sweptNumber (l .answered); answers = a ∙ ap sweptNumbers (l .answered) }; left = l .left }
+    → Told (sweptNumber given) (sweptNumbers given) returned answer → SweepsTo sweep returned answer answers
+sweep-told l t =
+    record {
+      told = record { returns = t .returns ∙ ap sweptNumber (l .answered); answers = t .answers ∙ ap sweptNumbers (l .answered) };
+      left = l .left;
+    }

@@ -1,5 +1,3 @@
-pub mod Mending
-pub mod Merging
-pub mod Sweeping
 pub mod Differences
-pub mod Looking
+pub mod Mending
+pub mod Sweeping

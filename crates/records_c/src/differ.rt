@@ -1,8 +1,6 @@
 // What differs between two copies of a record, for C and COBOL.
-ghost use mathlib.Core.Path.{_≡_};
 ghost use Rattle.records_c.specs.Differences.{Differs};
-use answers::written::listed_numbers;
-use answers::written::written_number;
+use answers::written::tell_listed;
 
 #[no_mangle]
 pub extern "C" fn oboecurlew_differ(
@@ -14,7 +12,8 @@ pub extern "C" fn oboecurlew_differ(
 ) -> u32
     ensures { λ r. ⌜ Differs (now (items .entry)) (now (first .entry)) (now (second .entry)) (now (output .entry)) r (now (answer .exit)) (now (output .exit)) ⌝ }
 {
-    let listed = differences::calls::differ(items, first, second, output);
-    *answer = listed_numbers(listed);
-    written_number(listed)
+    tell_listed(
+        differences::calls::differ(items, first, second, output),
+        answer,
+    )
 }

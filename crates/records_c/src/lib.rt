@@ -1,7 +1,5 @@
 // The calls on records and files of them for C and COBOL, told as `answers` says.
 
 pub mod differ; // what differs between two copies
-pub mod looked; // what a rule looks at
 pub mod mend; // mending
-pub mod merge; // the merge desk
 pub mod sweep; // a plan over a whole file

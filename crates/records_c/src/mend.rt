@@ -1,8 +1,6 @@
 // Mending for C and COBOL.
-ghost use mathlib.Core.Path.{_≡_};
 ghost use Rattle.records_c.specs.Mending.{Mends};
-use answers::written::listed_numbers;
-use answers::written::written_number;
+use answers::written::tell_listed;
 
 #[no_mangle]
 pub extern "C" fn oboecurlew_mend(
@@ -13,7 +11,5 @@ pub extern "C" fn oboecurlew_mend(
 ) -> u32
     ensures { λ r. ⌜ Mends (now (items .entry)) (now («record» .entry)) (now (changes .entry)) r (now (answer .exit)) (now («record» .exit)) (now (changes .exit)) ⌝ }
 {
-    let mended = mender::calls::mend(items, record, changes);
-    *answer = listed_numbers(mended);
-    written_number(mended)
+    tell_listed(mender::calls::mend(items, record, changes), answer)
 }

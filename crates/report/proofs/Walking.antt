@@ -1,14 +1,15 @@
 -- A walk over the bytes of a text, one step.
 use mathlib.Core.Path.{_≡_, refl, sym, ap, _∙_}
-use mathlib.Core.Bool.{Bool, cond}
+use mathlib.Core.Bool.{Bool, true, false, cond, _||_}
 use mathlib.Core.List.{List, [], _∷_}
 use Prim.Native.Nat.{ℕ, suc, _+_, _≤_, _<_}
 use native.Mathlib.Omega.{arith}
 use native.Mathlib.Numerals.{add-one}
+use lib.Dec.{ltb}
 use lib.ListN.{length, drop, getD}
 use lib.Seq.{drop-cons, drop-length}
 use Rattle.description.proofs.Bytes.{eqb-no}
-use Rattle.report.specs.Places.{linesFrom, startFrom, endFrom}
+use Rattle.report.specs.Places.{linesFrom, startFrom, endFrom, afterInk}
 
 -- what is left begins with the next byte
 next : (l : List ℕ) (i : ℕ) → i < length l → drop i l ≡ getD l i 0 ∷ drop (i + 1) l
@@ -56,3 +57,15 @@ module _ (l : List ℕ) (i : ℕ) where
   pub end-done : i ≤ length l → length l ≤ i → endFrom i (drop i l) ≡ i
   unfolding endFrom
   end-done a b = rw (none l i a b) refl
+
+  pub ink-here : i < length l → ltb (getD l i 0) 0x21 || ltb 0x7E (getD l i 0) ≡ true → afterInk (drop i l) ≡ getD l i 0
+  unfolding afterInk
+  ink-here h e = rw (next l i h) (rw e refl)
+
+  pub ink-later : i < length l → ltb (getD l i 0) 0x21 || ltb 0x7E (getD l i 0) ≡ false → afterInk (drop (i + 1) l) ≡ afterInk (drop i l)
+  unfolding afterInk
+  ink-later h e = sym (rw (next l i h) (rw e refl))
+
+  pub ink-done : i ≤ length l → length l ≤ i → afterInk (drop i l) ≡ 0x0A
+  unfolding afterInk
+  ink-done a b = rw (none l i a b) refl

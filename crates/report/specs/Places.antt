@@ -1,9 +1,9 @@
 -- "the line and column, that line": where a byte stands in a text whose lines end with a line feed, by the bytes before it and those
 -- from it on. Lines count from 1.
-use mathlib.Core.Bool.{cond}
+use mathlib.Core.Bool.{cond, _||_}
 use mathlib.Core.List.{List, [], _∷_}
 use Prim.Native.Nat.{ℕ, _+_}
-use lib.Dec.{eqb}
+use lib.Dec.{eqb, ltb}
 
 -- a line, and one more for each line feed that follows
 unfoldable pub linesFrom : ℕ → List ℕ → ℕ
@@ -30,3 +30,9 @@ lineStart before = startFrom 0 0 before
 -- how much of a line is left
 abbrev pub lineRest : List ℕ → ℕ
 lineRest rest = endFrom 0 rest
+
+-- "a caret under the byte": what follows the characters with ink that stand there, a line feed where nothing does. A space or a line feed ends
+-- a word; anything else is what nobody sees in it.
+unfoldable pub afterInk : List ℕ → ℕ
+afterInk [] = 0x0A
+afterInk (byte ∷ rest) = cond (ltb byte 0x21 || ltb 0x7E byte) byte (afterInk rest)

@@ -2,7 +2,8 @@
 ghost use mathlib.Core.List.{[], _∷_, _++_};
 ghost use lib.ListN.{replicate};
 ghost use Rattle.lines.specs.Put.{Puts};
-ghost use Rattle.report.specs.Messages.{PutsRefusal, PutsSpot};
+ghost use Rattle.report.specs.Messages.{PutsRefusal, PutsSpot, unseen};
+use lines::numbers::put_hex;
 use lines::numbers::put_number;
 use lines::text::put;
 use lines::text::put_spaces;
@@ -36,4 +37,16 @@ pub fn put_caret(out: &mut [u8], at: usize, before: usize) -> usize
 {
     let under = put_spaces(out, at, before);
     put(out, under, b"^\n")
+}
+
+// What stands over the caret, where nobody can see it: a tab, a carriage return.
+pub fn put_unseen(out: &mut [u8], at: usize, byte: u8) -> usize
+    ensures { λ r. ⌜ Puts (now (out .entry)) at (unseen byte) r (now (out .exit)) ⌝ }
+{
+    if (0x20 <= byte) & (byte <= 0x7E) | (byte == 0x0A) {
+        return put(out, at, b"");
+    }
+    let lead = put(out, at, b"there stands hex ");
+    let told = put_hex(out, lead, byte);
+    put(out, told, b"\n")
 }

@@ -1,6 +1,6 @@
 // Where a byte stands in a text: what is before it gives its line and column, what follows gives where its line ends.
 ghost use mathlib.Core.Path.{_≡_};
-ghost use Rattle.report.specs.Places.{lineNumber, lineStart, lineRest};
+ghost use Rattle.report.specs.Places.{lineNumber, lineStart, lineRest, afterInk};
 
 // The number of the line that comes after so much text, from 1 on.
 pub fn line_number(before: &[u8]) -> usize
@@ -44,4 +44,19 @@ pub fn line_rest(rest: &[u8]) -> usize
         i += 1;
     }
     i
+}
+
+// What follows the characters with ink: the end of a word, or what nobody sees in it.
+pub fn after_ink(rest: &[u8]) -> u8
+    ensures { λ r. ⌜ r ≡ afterInk (now (rest .entry)) ⌝ }
+{
+    let mut i: usize = 0;
+    while i < rest.len() {
+        let byte = rest[i];
+        if (byte < 0x21) | (0x7E < byte) {
+            return byte;
+        }
+        i += 1;
+    }
+    0x0A
 }

@@ -1,9 +1,9 @@
 // Demand 3 shown of the code: plan, run, expand and plan again, called one after the other in buffers that the caller lends.
 ghost use Rattle.tables.specs.Operands.{lendNames};
 ghost use Rattle.show.specs.Shown.{Shows};
-use conditions::calls::expand;
-use conditions::calls::plan;
 use conditions::calls::run;
+use forms::calls::expand;
+use forms::calls::plan;
 use tables::Judged;
 use tables::Refusal;
 use tables::Written;

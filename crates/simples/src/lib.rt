@@ -1,6 +1,5 @@
-// One simple condition with what it carries on, and the brackets that are open.
+// One simple condition with what it carries on.
 
-pub mod depth; // brackets open at once
 pub mod simple; // one simple condition
 pub mod words; // tokens by class
 

@@ -16,7 +16,7 @@ use Rattle.name_entries.specs.Named.{Span, Ready, Left, Held, NamedBy, Noted as
 use Rattle.name_entries.specs.declared.Tally.{Tally}
 use Rattle.name_entries.specs.declared.NameRead.{NameRead}
 use Rattle.name_entries.specs.declared.NameRead.the-variants.{Whole, Fault}
-use Rattle.storing.specs.Stored.{notedAt}
+use Rattle.noting.specs.Stored.{notedAt}
 use Rattle.storing.specs.Naming.{itemRow, names, startOf, passedBy, NameReady, NameStored, Stepped, NameBy}
 use Rattle.storing.specs.declared.Names.{Names}
 use Rattle.storing.specs.declared.NameStep.the-variants.{Read, Fault as Faulty}

@@ -16,7 +16,7 @@ use Rattle.entries.specs.declared.Noted.{Noted}
 use Rattle.name_entries.specs.Taking.{tally}
 use Rattle.name_entries.specs.Named.{Span, literalsIn, pairNumbers, Held, Noted as NotesHold}
 use Rattle.name_entries.specs.declared.Tally.{Tally}
-use Rattle.storing.specs.Stored.{notedAt}
+use Rattle.noting.specs.Stored.{notedAt}
 use Rattle.storing.specs.declared.Names.{Names}
 use Rattle.storing.specs.declared.NameStep.{NameStep}
 use Rattle.storing.specs.declared.NameStep.the-variants.{Read, Fault}

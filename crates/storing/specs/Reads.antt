@@ -10,7 +10,7 @@ use Rattle.description.specs.Reader.{Parts, parts, tableOf, Reading, read, faul
 use Rattle.description.specs.Stages.{firstOver, ownRows}
 use Rattle.entries.specs.declared.Noted.{Noted}
 use Rattle.entries.specs.Entries.{capNoted, entryOf}
-use Rattle.storing.specs.Stored.{notedFrom, Scaled}
+use Rattle.noting.specs.Stored.{notedFrom, Scaled}
 use Rattle.storing.specs.Naming.{limitOf, Stores}
 use Rattle.storing.specs.declared.Found.{Found}
 use Rattle.content.specs.Kinds.{rowWidth}

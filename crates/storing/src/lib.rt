@@ -1,7 +1,6 @@
-// Entries of a description in lent buffers: those of items and those of level 88.
+// Level 88 entries of a description in lent buffers, and what reading a text leaves in them.
 
 pub mod naming; // a level 88 entry in lent buffers
-pub mod store; // an item's entry in a lent buffer
 
 // The level 88 entries of a text: whether one passes a limit, and where the first such starts; if none,
 // how many there are, how many literals they have, and how many bytes these.

@@ -4,7 +4,7 @@ ghost use mathlib.Core.Path.{_≡_};
 ghost use Prim.Native.Nat.{_+_, _*_, _<_, _≤_};
 ghost use lib.ListN.{length};
 ghost use lib.Seq.{sets};
-ghost use Rattle.storing.specs.Stored.{notedAt};
+ghost use Rattle.noting.specs.Stored.{notedAt};
 ghost use Rattle.storing.specs.Naming.{itemRow, startOf, passedBy, NameStored, NameBy, NameReady};
 ghost use Rattle.tables.specs.Rows.{nameWidth};
 use crate::NameStep;

@@ -57,7 +57,7 @@ plan-sound lent plan e =
 -- 12, where there is a record
 pub held : (lent : Lent) (size : ℕ) (file : List ℕ) → (length file ≡ 0 → ⊥) → {line : Check} → recordCheck lent (take size file) ≡ line
     → sizeCheck lent size file ≡ line
-held lent size file some e = rw (ne-eqb (length file) 0 some, e)
+held lent size file some e = rw (ne-eqb (length file) 0 some) e
 
 empty-list : (numbers : List ℕ) → length numbers ≡ 0 → numbers ≡ []
 empty-list [] e = refl

@@ -12,6 +12,7 @@ ghost use Rattle.blocks.specs.Blocks.{Walkable, Settled};
 ghost use Rattle.sweeps.specs.Sweep.{laid, answersOf, Sweepable};
 ghost use Rattle.sweeps.specs.Parts.{Part, Walked};
 use crate::answers::put_answer;
+use block_words::Block;
 use blocks::walk::walk_block;
 use places::AT_FALSE;
 use places::AT_TRUE;
@@ -107,21 +108,21 @@ fn answer_part<'a>(
     names: &[u32],
     plan: &[u32],
     records: &'a [u8],
-    from: usize,
-    size: usize,
-    n: usize,
+    block: Block,
     switches: u8,
     at: &[u8],
     counts: &[u8],
     answers: &mut [u32],
     out: usize,
 )
-    requires { ⌜ Sweepable (lendNames (now items) (now literals) (now bytes) (now names)) (now plan) (now records) size (length (now answers)) ⌝ }
-    requires { ⌜ Part (now records) size from n out (length (now answers)) ⌝ }
-    requires { ⌜ Walked (lendNames (now items) (now literals) (now bytes) (now names)) (now plan) (now records) from size switches (now at) (now counts) ⌝ }
-    ensures { λ _. ⌜ now (answers .exit) ≡ sets (now (answers .entry)) out (answersOf (λ content. runGives (lendNames (now (items .entry)) (now (literals .entry)) (now (bytes .entry)) (now (names .entry))) (now (plan .entry)) content switches) (laid n size (drop from (now (records .entry))))) ⌝ }
+    requires { ⌜ Sweepable (lendNames (now items) (now literals) (now bytes) (now names)) (now plan) (now records) (block .size) (length (now answers)) ⌝ }
+    requires { ⌜ Part (now records) (block .size) (block .from) (block .n) out (length (now answers)) ⌝ }
+    requires { ⌜ Walked (lendNames (now items) (now literals) (now bytes) (now names)) (now plan) (now records) (block .from) (block .size) switches (now at) (now counts) ⌝ }
+    ensures { λ _. ⌜ now (answers .exit) ≡ sets (now (answers .entry)) out (answersOf (λ content. runGives (lendNames (now (items .entry)) (now (literals .entry)) (now (bytes .entry)) (now (names .entry))) (now (plan .entry)) content switches) (laid (block .n) (block .size) (drop (block .from) (now (records .entry))))) ⌝ }
 {
-    let mut base = from;
+    let size = block.size;
+    let n = block.n;
+    let mut base = block.from;
     let mut to = out;
     let mut j: usize = 0;
     while j < n {
@@ -152,19 +153,17 @@ fn walk_part<'a>(
     names: &[u32],
     plan: &[u32],
     records: &'a [u8],
-    from: usize,
-    size: usize,
-    n: usize,
+    block: Block,
     switches: u8,
     at: &mut [u8],
     counts: &mut [u8],
     truths: &mut [u8],
 )
-    requires { ⌜ Walkable (lendNames (now items) (now literals) (now bytes) (now names)) (now plan) (now records) from size n ⌝ }
+    requires { ⌜ Walkable (lendNames (now items) (now literals) (now bytes) (now names)) (now plan) (now records) (block .from) (block .size) (block .n) ⌝ }
     requires { ⌜ (length (now at) ≡ 64) × (length (now counts) ≡ 64) × (length (now truths) ≡ 64) ⌝ }
-    ensures { λ _. ⌜ Walked (lendNames (now (items .entry)) (now (literals .entry)) (now (bytes .entry)) (now (names .entry))) (now (plan .entry)) (now (records .entry)) from size switches (now (at .exit)) (now (counts .exit)) ⌝ }
+    ensures { λ _. ⌜ Walked (lendNames (now (items .entry)) (now (literals .entry)) (now (bytes .entry)) (now (names .entry))) (now (plan .entry)) (now (records .entry)) (block .from) (block .size) switches (now (at .exit)) (now (counts .exit)) ⌝ }
 {
-    if n < FEW {
+    if block.n < FEW {
         fill(at, UNKNOWN);
         return;
     }
@@ -175,9 +174,7 @@ fn walk_part<'a>(
         names,
         plan,
         records,
-        from,
-        size,
-        n,
+        block,
         switches,
         at,
         counts,
@@ -192,16 +189,14 @@ pub fn sweep_part<'a>(
     names: &[u32],
     plan: &[u32],
     records: &'a [u8],
-    from: usize,
-    size: usize,
-    n: usize,
+    block: Block,
     switches: u8,
     answers: &mut [u32],
     out: usize,
 )
-    requires { ⌜ Sweepable (lendNames (now items) (now literals) (now bytes) (now names)) (now plan) (now records) size (length (now answers)) ⌝ }
-    requires { ⌜ Part (now records) size from n out (length (now answers)) ⌝ }
-    ensures { λ _. ⌜ now (answers .exit) ≡ sets (now (answers .entry)) out (answersOf (λ content. runGives (lendNames (now (items .entry)) (now (literals .entry)) (now (bytes .entry)) (now (names .entry))) (now (plan .entry)) content switches) (laid n size (drop from (now (records .entry))))) ⌝ }
+    requires { ⌜ Sweepable (lendNames (now items) (now literals) (now bytes) (now names)) (now plan) (now records) (block .size) (length (now answers)) ⌝ }
+    requires { ⌜ Part (now records) (block .size) (block .from) (block .n) out (length (now answers)) ⌝ }
+    ensures { λ _. ⌜ now (answers .exit) ≡ sets (now (answers .entry)) out (answersOf (λ content. runGives (lendNames (now (items .entry)) (now (literals .entry)) (now (bytes .entry)) (now (names .entry))) (now (plan .entry)) content switches) (laid (block .n) (block .size) (drop (block .from) (now (records .entry))))) ⌝ }
 {
     let mut at = [UNKNOWN; 64];
     let mut counts = [0u8; 64];
@@ -213,9 +208,7 @@ pub fn sweep_part<'a>(
         names,
         plan,
         records,
-        from,
-        size,
-        n,
+        block,
         switches,
         &mut at,
         &mut counts,
@@ -228,9 +221,7 @@ pub fn sweep_part<'a>(
         names,
         plan,
         records,
-        from,
-        size,
-        n,
+        block,
         switches,
         &at,
         &counts,

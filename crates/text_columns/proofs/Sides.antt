@@ -23,10 +23,10 @@ use Rattle.byte_words.proofs.WordLaws.{Bytes}
 use Rattle.digit_words.proofs.Outcomes.{item-field}
 use Rattle.text_words.specs.Texts.{fitsText, textWord}
 use Rattle.text_words.proofs.Outcomes.{texts-by-words}
-use Rattle.columns.specs.Columns.{recordAt, outcomeAt, related, relatedTo, Right, Laid, Judgeable}
-use Rattle.columns.proofs.Bases.{ends-inside}
-use Rattle.columns.proofs.Rights.{related-right, first-right, second-right}
-use Rattle.columns.proofs.Sides.{item-inside, small}
+use Rattle.block_words.specs.Columns.{recordAt, outcomeAt, related, relatedTo, Right, Laid, Judgeable}
+use Rattle.block_words.proofs.Bases.{ends-inside}
+use Rattle.block_words.proofs.Rights.{related-right, first-right, second-right}
+use Rattle.block_words.proofs.Firsts.{item-inside, small}
 use Rattle.text_columns.specs.TextColumns.{textOf, Text, Literal}
 
 -- a row that is read as a text has at most 8 bytes
@@ -88,7 +88,7 @@ module _ {lent : Lent} {records : List ℕ} {from size n : ℕ} {r : PlanRow} (J
   by-texts =
       let s = read-relation (J .readable k here) e in
       texts-by-words lent (recordAt records from size k) switches (r .subject) (r .relation) (r .object) e (w .subject) (w .object)
-      (small lent records from size switches r b m k (r .subject)) (small lent records from size switches r b m k (r .object))
+      (small lent records from size b m k (r .subject)) (small lent records from size b m k (r .object))
       (sym (ap₂ max (s .0 .fit .sized) (s .1 .fit .sized)))
 
   -- two items

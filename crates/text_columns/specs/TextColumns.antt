@@ -12,6 +12,10 @@ pub record Text (size end width filled : ℕ) : Type 0 where
   pub short : filled ≤ 8
   pub inside : end ≤ size
 
+-- an item of this row is one
+abbrev pub TextOf : ℕ → Row → ℕ → Type 0
+TextOf size row filled = Text size (row .offset + row .size) (row .size) filled
+
 -- "the shorter side filled on the right with hex 20": the word of that text in record k
 abbrev pub textAt : List ℕ → ℕ → ℕ → ℕ → ℕ → ℕ → ℕ → ℕ
 textAt records from size end width filled k = textWord filled (take width (drop (from + k * size + end - width) records))

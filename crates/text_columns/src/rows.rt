@@ -6,25 +6,30 @@ ghost use lib.ListN.{length, getD, take, drop};
 ghost use Rattle.tables.specs.Operands.{lend, lendNames, operandBytes, Within};
 ghost use Rattle.typing.specs.declared.Test.the-variants.{Relation};
 ghost use Rattle.typing.specs.Tests.{testOf};
-ghost use Rattle.columns.specs.Columns.{related, relatedTo, Laid, JudgesAll, Judgeable};
+ghost use Rattle.block_words.specs.Columns.{relatedTo, Laid, JudgesAll, Judgeable};
 ghost use Rattle.text_words.specs.Texts.{textWord};
-ghost use Rattle.text_columns.specs.TextColumns.{textOf, Text, Literal};
+ghost use Rattle.text_columns.specs.TextColumns.{textOf, TextOf, Literal};
 use crate::words::compare_text;
 use crate::words::compare_texts;
-use columns::rows::code;
-use columns::rows::end_of;
-use columns::rows::wide;
+use block_words::Block;
+use block_words::truths::order_bits;
 use content::Row;
 use digit_words::Asked;
 use digit_words::rows::asked_of;
 use grammar::PlanRow;
-use tables::operands::operand_bytes;
-use tables::operands::row_of;
-use tables::tokens::is_item;
+use operands::named::operand_bytes;
+use operands::named::row_of;
+use operands::tokens::is_item;
 use text_words::texts::fits_text;
 use text_words::texts::short_filled;
 use typing::Test;
-use typing::shape::test_of;
+use typing::sides::test_of;
+
+fn wide(x: u32) -> usize
+    ensures { λ r. ⌜ r ≡ x ⌝ }
+{
+    x as usize
+}
 
 // The bytes to which both sides are filled: the longer one's.
 fn filled_size(row1: Row, row2: Row) -> usize
@@ -36,87 +41,13 @@ fn filled_size(row1: Row, row2: Row) -> usize
     wide(row1.size)
 }
 
-// A relation of two items.
-fn relate_texts(
-    records: &[u8],
-    from: usize,
-    size: usize,
-    n: usize,
-    row1: Row,
-    row2: Row,
-    filled: usize,
-    asked: Asked,
-    truths: &mut [u8],
-)
-    requires { ⌜ Laid (now records) from size n × (8 ≤ from) × (length (now truths) ≡ 64) ⌝ }
-    requires { ⌜ Text size (row1 .offset + row1 .size) (row1 .size) filled × Text size (row2 .offset + row2 .size) (row2 .size) filled ⌝ }
-    ensures { λ _. ⌜ ((k : ℕ) → k < n → getD (now (truths .exit)) k 0 ≡ related asked true (textOf (now (records .entry)) from size row1 filled k) (textOf (now (records .entry)) from size row2 filled k)) ⌝ }
-{
-    let less = code(asked, true, false, false);
-    let same = code(asked, false, true, false);
-    let more = code(asked, false, false, true);
-    compare_texts(
-        records,
-        from,
-        size,
-        n,
-        end_of(row1),
-        wide(row1.size),
-        end_of(row2),
-        wide(row2.size),
-        filled,
-        less,
-        same,
-        more,
-        truths,
-    );
-}
-
-// A relation of an item and a word; or of a word and an item.
-fn relate_text(
-    records: &[u8],
-    from: usize,
-    size: usize,
-    n: usize,
-    row: Row,
-    filled: usize,
-    word: u64,
-    asked: Asked,
-    exchanged: bool,
-    truths: &mut [u8],
-)
-    requires { ⌜ Laid (now records) from size n × (8 ≤ from) × (length (now truths) ≡ 64) ⌝ }
-    requires { ⌜ Text size (row .offset + row .size) (row .size) filled ⌝ }
-    ensures { λ _. ⌜ ((k : ℕ) → k < n → getD (now (truths .exit)) k 0 ≡ relatedTo asked exchanged true (textOf (now (records .entry)) from size row filled k) word) ⌝ }
-{
-    let less = code(asked, !exchanged, false, exchanged);
-    let same = code(asked, false, true, false);
-    let more = code(asked, exchanged, false, !exchanged);
-    compare_text(
-        records,
-        from,
-        size,
-        n,
-        end_of(row),
-        wide(row.size),
-        filled,
-        word,
-        less,
-        same,
-        more,
-        truths,
-    );
-}
-
 // A relation of an item and a literal, or of a literal and an item. The literal's word is made once.
 fn relate_literal<'a>(
     items: &[u32],
     literals: &[u32],
     bytes: &'a [u8],
     records: &'a [u8],
-    from: usize,
-    size: usize,
-    n: usize,
+    block: Block,
     row: Row,
     filled: usize,
     token: u32,
@@ -124,25 +55,17 @@ fn relate_literal<'a>(
     exchanged: bool,
     truths: &mut [u8],
 )
-    requires { ⌜ Laid (now records) from size n × (8 ≤ from) × (length (now truths) ≡ 64) ⌝ }
-    requires { ⌜ Text size (row .offset + row .size) (row .size) filled × (from + size ≤ length (now records)) ⌝ }
-    requires { ⌜ Within (lend (now items) (now literals) (now bytes)) (take (from + size - from) (drop from (now records))) token × Literal (operandBytes (lend (now items) (now literals) (now bytes)) (take (from + size - from) (drop from (now records))) token) filled ⌝ }
-    ensures { λ _. ⌜ ((k : ℕ) → k < n → getD (now (truths .exit)) k 0 ≡ relatedTo asked exchanged true (textOf (now (records .entry)) from size row filled k) (textWord filled (operandBytes (lend (now (items .entry)) (now (literals .entry)) (now (bytes .entry))) (take (from + size - from) (drop from (now (records .entry)))) token))) ⌝ }
+    requires { ⌜ Laid (now records) (block .from) (block .size) (block .n) × (8 ≤ block .from) × (length (now truths) ≡ 64) ⌝ }
+    requires { ⌜ TextOf (block .size) row filled × (block .from + block .size ≤ length (now records)) ⌝ }
+    requires { ⌜ Within (lend (now items) (now literals) (now bytes)) (take (block .from + block .size - block .from) (drop (block .from) (now records))) token × Literal (operandBytes (lend (now items) (now literals) (now bytes)) (take (block .from + block .size - block .from) (drop (block .from) (now records))) token) filled ⌝ }
+    ensures { λ _. ⌜ ((k : ℕ) → k < block .n → getD (now (truths .exit)) k 0 ≡ relatedTo asked exchanged true (textOf (now (records .entry)) (block .from) (block .size) row filled k) (textWord filled (operandBytes (lend (now (items .entry)) (now (literals .entry)) (now (bytes .entry))) (take (block .from + block .size - block .from) (drop (block .from) (now (records .entry)))) token))) ⌝ }
 {
+    let from = block.from;
+    let size = block.size;
     let first = &records[from..from + size];
     let word = short_filled(operand_bytes(token, items, literals, bytes, first), filled);
-    relate_text(
-        records,
-        from,
-        size,
-        n,
-        row,
-        filled,
-        word,
-        asked,
-        exchanged,
-        truths,
-    );
+    let order = order_bits(asked, exchanged);
+    compare_text(records, block, row, filled, word, order, truths);
 }
 
 // A relation, where both sides are texts or groups of up to 8 bytes.
@@ -152,18 +75,16 @@ fn judge_relation<'a>(
     bytes: &'a [u8],
     names: &[u32],
     records: &'a [u8],
-    from: usize,
-    size: usize,
-    n: usize,
+    block: Block,
     switches: u8,
     condition: PlanRow,
     word: u32,
     negated: bool,
     truths: &mut [u8],
 ) -> bool
-    requires { ⌜ Judgeable (lendNames (now items) (now literals) (now bytes) (now names)) (now records) from size n condition × (8 ≤ from) × (length (now truths) ≡ 64) ⌝ }
+    requires { ⌜ Judgeable (lendNames (now items) (now literals) (now bytes) (now names)) (now records) (block .from) (block .size) (block .n) condition × (8 ≤ block .from) × (length (now truths) ≡ 64) ⌝ }
     requires { ⌜ testOf (condition .relation) ≡ Relation word negated ⌝ }
-    ensures { λ r. ⌜ (r ≡ true → JudgesAll (lendNames (now (items .entry)) (now (literals .entry)) (now (bytes .entry)) (now (names .entry))) (now (records .entry)) from size n switches condition (now (truths .exit))) ⌝ }
+    ensures { λ r. ⌜ (r ≡ true → JudgesAll (lendNames (now (items .entry)) (now (literals .entry)) (now (bytes .entry)) (now (names .entry))) (now (records .entry)) (block .from) (block .size) (block .n) switches condition (now (truths .exit))) ⌝ }
     ensures { λ r. ⌜ (r ≡ false → now (truths .exit) ≡ now (truths .entry)) ⌝ }
 {
     let subject = condition.subject;
@@ -177,7 +98,8 @@ fn judge_relation<'a>(
     let filled = filled_size(row1, row2);
     if is_item(subject) {
         if is_item(object) {
-            relate_texts(records, from, size, n, row1, row2, filled, asked, truths);
+            let order = order_bits(asked, false);
+            compare_texts(records, block, row1, row2, filled, order, truths);
             return true;
         }
         relate_literal(
@@ -185,9 +107,7 @@ fn judge_relation<'a>(
             literals,
             bytes,
             records,
-            from,
-            size,
-            n,
+            block,
             row1,
             filled,
             object,
@@ -203,9 +123,7 @@ fn judge_relation<'a>(
             literals,
             bytes,
             records,
-            from,
-            size,
-            n,
+            block,
             row2,
             filled,
             subject,
@@ -225,18 +143,16 @@ pub fn judge_texts<'a>(
     bytes: &'a [u8],
     names: &[u32],
     records: &'a [u8],
-    from: usize,
-    size: usize,
-    n: usize,
+    block: Block,
     switches: u8,
     condition: PlanRow,
     truths: &mut [u8],
 ) -> bool
-    requires { ⌜ Judgeable (lendNames (now items) (now literals) (now bytes) (now names)) (now records) from size n condition × (length (now truths) ≡ 64) ⌝ }
-    ensures { λ r. ⌜ (r ≡ true → JudgesAll (lendNames (now (items .entry)) (now (literals .entry)) (now (bytes .entry)) (now (names .entry))) (now (records .entry)) from size n switches condition (now (truths .exit))) ⌝ }
+    requires { ⌜ Judgeable (lendNames (now items) (now literals) (now bytes) (now names)) (now records) (block .from) (block .size) (block .n) condition × (length (now truths) ≡ 64) ⌝ }
+    ensures { λ r. ⌜ (r ≡ true → JudgesAll (lendNames (now (items .entry)) (now (literals .entry)) (now (bytes .entry)) (now (names .entry))) (now (records .entry)) (block .from) (block .size) (block .n) switches condition (now (truths .exit))) ⌝ }
     ensures { λ r. ⌜ (r ≡ false → now (truths .exit) ≡ now (truths .entry)) ⌝ }
 {
-    if from < 8 {
+    if block.from < 8 {
         return false;
     }
     let test = test_of(condition.relation);
@@ -247,9 +163,7 @@ pub fn judge_texts<'a>(
             bytes,
             names,
             records,
-            from,
-            size,
-            n,
+            block,
             switches,
             condition,
             word,

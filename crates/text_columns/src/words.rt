@@ -3,37 +3,43 @@ ghost use mathlib.Core.Path.{_≡_};
 ghost use mathlib.Core.Bool.{true};
 ghost use Prim.Native.Nat.{ℕ, _<_, _≤_};
 ghost use lib.ListN.{length, getD};
-ghost use Rattle.columns.specs.Columns.{compared, Laid};
-ghost use Rattle.text_columns.specs.TextColumns.{textAt, Text};
-use columns::words::compare_words;
+ghost use Rattle.block_words.specs.Columns.{compared, Laid};
+ghost use Rattle.text_columns.specs.TextColumns.{textOf, TextOf};
+use block_words::Block;
+use block_words::OrderBits;
+use block_words::words::compare_words;
+use block_words::words::extent_of;
+use content::Row;
 use text_words::texts::filled_text;
 
-// Two texts of each record, told by where they end in it and by their bytes.
+// Two texts of each record.
 pub(crate) fn compare_texts(
     records: &[u8],
-    from: usize,
-    size: usize,
-    n: usize,
-    end1: usize,
-    width1: usize,
-    end2: usize,
-    width2: usize,
+    block: Block,
+    row1: Row,
+    row2: Row,
     filled: usize,
-    less: u8,
-    same: u8,
-    more: u8,
+    order: OrderBits,
     truths: &mut [u8],
 )
-    requires { ⌜ Laid (now records) from size n × (8 ≤ from) × (length (now truths) ≡ 64) ⌝ }
-    requires { ⌜ Text size end1 width1 filled × Text size end2 width2 filled ⌝ }
-    ensures { λ _. ⌜ ((k : ℕ) → k < n → getD (now (truths .exit)) k 0 ≡ compared true less same more (textAt (now (records .entry)) from size end1 width1 filled k) (textAt (now (records .entry)) from size end2 width2 filled k)) ⌝ }
+    requires { ⌜ Laid (now records) (block .from) (block .size) (block .n) × (8 ≤ block .from) × (length (now truths) ≡ 64) ⌝ }
+    requires { ⌜ TextOf (block .size) row1 filled × TextOf (block .size) row2 filled ⌝ }
+    ensures { λ _. ⌜ ((k : ℕ) → k < block .n → getD (now (truths .exit)) k 0 ≡ compared true (order .less) (order .same) (order .more) (textOf (now (records .entry)) (block .from) (block .size) row1 filled k) (textOf (now (records .entry)) (block .from) (block .size) row2 filled k)) ⌝ }
 {
-    let mut base = from;
+    let first = extent_of(row1);
+    let second = extent_of(row2);
+    let end1 = first.end;
+    let width1 = first.width;
+    let end2 = second.end;
+    let width2 = second.width;
+    let size = block.size;
+    let n = block.n;
+    let mut base = block.from;
     let mut j: usize = 0;
     while j < n {
         let a = filled_text(records, base + end1, width1, filled);
         let b = filled_text(records, base + end2, width2, filled);
-        truths[j] = compare_words(true, a, b, less, same, more);
+        truths[j] = compare_words(true, a, b, order);
         base += size;
         j += 1;
     }
@@ -42,27 +48,27 @@ pub(crate) fn compare_texts(
 // One text of each record, and one word for all.
 pub(crate) fn compare_text(
     records: &[u8],
-    from: usize,
-    size: usize,
-    n: usize,
-    end: usize,
-    width: usize,
+    block: Block,
+    row: Row,
     filled: usize,
     word: u64,
-    less: u8,
-    same: u8,
-    more: u8,
+    order: OrderBits,
     truths: &mut [u8],
 )
-    requires { ⌜ Laid (now records) from size n × (8 ≤ from) × (length (now truths) ≡ 64) ⌝ }
-    requires { ⌜ Text size end width filled ⌝ }
-    ensures { λ _. ⌜ ((k : ℕ) → k < n → getD (now (truths .exit)) k 0 ≡ compared true less same more (textAt (now (records .entry)) from size end width filled k) word) ⌝ }
+    requires { ⌜ Laid (now records) (block .from) (block .size) (block .n) × (8 ≤ block .from) × (length (now truths) ≡ 64) ⌝ }
+    requires { ⌜ TextOf (block .size) row filled ⌝ }
+    ensures { λ _. ⌜ ((k : ℕ) → k < block .n → getD (now (truths .exit)) k 0 ≡ compared true (order .less) (order .same) (order .more) (textOf (now (records .entry)) (block .from) (block .size) row filled k) word) ⌝ }
 {
-    let mut base = from;
+    let text = extent_of(row);
+    let end = text.end;
+    let width = text.width;
+    let size = block.size;
+    let n = block.n;
+    let mut base = block.from;
     let mut j: usize = 0;
     while j < n {
         let a = filled_text(records, base + end, width, filled);
-        truths[j] = compare_words(true, a, word, less, same, more);
+        truths[j] = compare_words(true, a, word, order);
         base += size;
         j += 1;
     }

@@ -25,7 +25,7 @@ use Rattle.naming.proofs.Finding.{items-length, conditions-length}
 use Rattle.printer.proofs.Wording.{item-row, condition-there}
 use Rattle.printable.specs.Passing.{passing, mayPrint, AllThere}
 use Rattle.printer.specs.Prints.{Printable, AllPrintable}
-use Rattle.literal_words.specs.Found.{writtenOver}
+use Rattle.literal_bytes.specs.Written.{writtenOver}
 use Rattle.books.specs.declared.Printed.{Printed}
 use Rattle.books.specs.declared.Printed.the-variants.{Count, Description, Refused, Name}
 use Rattle.books.specs.declared.Named.{Named}

@@ -24,7 +24,7 @@ use printer::lines::put_line;
 use tables::Check;
 use tables::Refusal;
 
-// The numbers of a row.
+// The refusal of a text, by its number.
 fn refused(number: u32, place: usize) -> Recognized
     ensures { λ r. ⌜ r ≡ refusedAs number place ⌝ }
 {

@@ -1,6 +1,6 @@
 // Typing of a simple condition.
 
-pub mod shape; // what a relation number asks, and the shape and typing of a simple condition
+pub mod sides; // what a relation number asks, and the typing of a simple condition
 
 // What a relation number asks: a token that is a condition alone, a relation, a class or a sign, and whether NOT belongs to it.
 pub enum Test {

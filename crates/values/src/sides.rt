@@ -11,7 +11,7 @@ ghost use Rattle.values.specs.Truth.{Fit, Near, orStop};
 use characters::filled::compare_characters;
 use compare::Order;
 use content::Row;
-use fields::held::digit_bytes;
+use field_digits::digits::digit_bytes;
 use fields::held::first_wrong;
 use fields::held::valid_content;
 use tables::Outcome;

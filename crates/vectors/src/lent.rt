@@ -5,7 +5,6 @@ use crate::parts::NAMES;
 use crate::parts::TOKENS;
 use crate::parts::part;
 use crate::parts::switches;
-use conditions::calls;
 use tables::Judged;
 use tables::Written;
 
@@ -14,14 +13,14 @@ pub(crate) fn expand(words: &[u32], bytes: &[u8], output: &mut [u32]) -> Written
     let literals = part(words, LITERALS);
     let names = part(words, NAMES);
     let tokens = part(words, TOKENS);
-    calls::expand(items, literals, bytes, names, tokens, output)
+    forms::calls::expand(items, literals, bytes, names, tokens, output)
 }
 
 pub(crate) fn plan(words: &[u32], bytes: &[u8], tokens: &[u32], output: &mut [u32]) -> Written {
     let items = part(words, ITEMS);
     let literals = part(words, LITERALS);
     let names = part(words, NAMES);
-    calls::plan(items, literals, bytes, names, tokens, output)
+    forms::calls::plan(items, literals, bytes, names, tokens, output)
 }
 
 pub(crate) fn judge<'a>(words: &[u32], bytes: &'a [u8], record: &'a [u8]) -> Judged {
@@ -29,7 +28,7 @@ pub(crate) fn judge<'a>(words: &[u32], bytes: &'a [u8], record: &'a [u8]) -> Jud
     let literals = part(words, LITERALS);
     let names = part(words, NAMES);
     let tokens = part(words, TOKENS);
-    calls::judge(
+    conditions::calls::judge(
         items,
         literals,
         bytes,
@@ -44,5 +43,5 @@ pub(crate) fn run<'a>(words: &[u32], bytes: &'a [u8], plan: &[u32], record: &'a 
     let items = part(words, ITEMS);
     let literals = part(words, LITERALS);
     let names = part(words, NAMES);
-    calls::run(items, literals, bytes, names, plan, record, switches(words))
+    conditions::calls::run(items, literals, bytes, names, plan, record, switches(words))
 }

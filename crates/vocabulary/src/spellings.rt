@@ -5,10 +5,10 @@ ghost use Prim.Native.Nat.{_≤_, _<_, _-_};
 ghost use lib.ListN.{length, getD, take, drop};
 ghost use Rattle.description.specs.Grammar.{same};
 ghost use Rattle.spelling.specs.Meanings.{position};
-ghost use Rattle.literal_words.specs.Found.{writtenOver};
+ghost use Rattle.literal_bytes.specs.Written.{writtenOver};
 ghost use Rattle.vocabulary.specs.Spellings.{starts, spelt};
 use keywords::same_bytes;
-use literal_words::copies::copy_bytes;
+use literal_bytes::copies::copy_bytes;
 use text_bytes::bytes::byte_at;
 
 // Where the words stand in the list: first document 01's by their numbers, then the switches, then those that other words may join.

@@ -11,14 +11,14 @@ ghost use Rattle.rules.specs.Calls.{roomCheck, writes, Leaves};
 ghost use Rattle.walker.specs.Marks.{marked, markedRow, lentNames, AllBelow, Markable};
 use items::lines::check_room;
 use names::ranges::number_at;
+use operands::tokens::is_item;
 use tables::Check;
 use tables::Written;
 use tables::rows::NAME_WIDTH;
 use tables::tokens::NAME;
 use tables::tokens::SPAN;
-use tables::tokens::is_item;
 use typing::Test;
-use typing::shape::test_of;
+use typing::sides::test_of;
 
 fn wide(x: u32) -> usize
     ensures { λ r. ⌜ r ≡ x ⌝ }

@@ -1,4 +1,4 @@
--- What a member reads: a sentence for each line of the table "What each call may say", and words for each kind of row.
+-- What a member reads: a sentence for each line of the table "What each call may say".
 use mathlib.Core.List.{List, [], _∷_}
 use Prim.Native.Nat.{ℕ}
 use lib.ListN.{getD}
@@ -33,22 +33,3 @@ sentences =
 
 abbrev pub sentence : ℕ → List ℕ
 sentence number = getD sentences number []
-
--- "Kinds: 0 group, 1 alphabetic, 2 alphanumeric, 3 unsigned numeric, 4 signed with the sign in the last byte, 5 sign leading separate,
--- 6 sign trailing separate"; "kind 7, a group with no signed item"; "kind 8 is signed packed, kind 9 unsigned"
-abbrev pub kinds : List (List ℕ)
-kinds =
-    bytes "group"
-    ∷ bytes "alphabetic"
-    ∷ bytes "alphanumeric"
-    ∷ bytes "unsigned"
-    ∷ bytes "signed in its last byte"
-    ∷ bytes "sign leading"
-    ∷ bytes "sign trailing"
-    ∷ bytes "group without sign"
-    ∷ bytes "packed, signed"
-    ∷ bytes "packed, unsigned"
-    ∷ []
-
-abbrev pub kindWords : ℕ → List ℕ
-kindWords kind = getD kinds kind []

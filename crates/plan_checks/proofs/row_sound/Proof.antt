@@ -1,6 +1,14 @@
 -- Each answer rewrites with what the callees ensure and with the test that led there.
+use mathlib.Core.Path.{_≡_}
+use mathlib.Core.Bool.{true, false, _&&_}
+use mathlib.Core.List.{[]}
+use denote.Ref.{now}
 use borrow.Author.Needs.{needs}
+use Rattle.tables.specs.Operands.{lendNames, under}
 use Rattle.tables.proofs.Lines.{passes, fails}
+use Rattle.typing.specs.Tests.{testOf}
+use Rattle.typing.specs.Shape.{shapeSound}
+use Rattle.typing.specs.Typing.{typed}
 use Rattle.grammar.specs.Plan.{planRowSound}
 use Rattle.plan_checks.proofs.row_sound.Statement.{statement}
 use Rattle.plan_checks.proofs.row_sound.Tie as tie
@@ -10,7 +18,12 @@ condition-sound-requires c κs = search needs
 
 returns : tie.Need-returns
 unfolding planRowSound
-returns c = rw (fails (c .before .condition-sound .ensures) (c .if1 .taken))
+returns c =
+    let a = c .before .before .before .before .before .args in
+    let lent = under (a .off) (lendNames (now (a .items)) (now (a .literals)) [] (now (a .names))) in
+    let unsound : shapeSound lent (testOf (a .row .relation)) (a .row .subject) (a .row .object) && typed lent (a .row .subject) (a .row .relation) (a .row .object) ≡ false =
+    fails (c .before .condition-sound .ensures) (c .if1 .taken) in
+    rw unsound
 
 target-sound-requires : tie.Need-target-sound-requires
 target-sound-requires c κs = search needs

@@ -9,18 +9,18 @@ use borrow.Author.Needs.{needs}
 use Rattle.tables.specs.Operands.{lendNames}
 use Rattle.values.specs.Truth.{outcome, Readable}
 use Rattle.places.proofs.Storing.{Stored, none-stored, stores, skips}
-use Rattle.columns.proofs.Bases.{next-base}
+use Rattle.block_words.proofs.Bases.{next-base}
 use Rattle.blocks.proofs.Judging.{Told, judged, passed-by}
 use Rattle.blocks.proofs.rows.judge_each.Statement.{statement}
 use Rattle.blocks.proofs.rows.judge_each.Tie as tie
 
 abbrev Inv-loop : tie.InvT-loop
-Inv-loop items literals bytes names records from size n switches condition at row truths₀ base₀ j₀ truths base j =
-    (j ≤ n) × (base ≡ from + j * size)
-    × Stored (Told (lendNames items literals bytes names) records from size switches condition at row) truths₀ truths j
+Inv-loop items literals bytes names records switches condition at row truths₀ size n base₀ j₀ truths base j =
+    (j ≤ n) × (base ≡ base₀ + j * size)
+    × Stored (Told (lendNames items literals bytes names) records base₀ size switches condition at row) truths₀ truths j
 
 abbrev μ-loop : tie.MeasureT-loop
-μ-loop items literals bytes names records from size n switches condition at row truths₀ base₀ j₀ truths base j = n - j
+μ-loop items literals bytes names records switches condition at row truths₀ size n base₀ j₀ truths base j = n - j
 
 loop-holds : tie.Need-loop-holds Inv-loop μ-loop
 loop-holds c = (omega arith, omega arith, none-stored _ _)
@@ -48,7 +48,7 @@ judge-record-requires : tie.Need-judge-record-requires Inv-loop μ-loop
 judge-record-requires c κs =
     let l = c .before .before .before .before .loop in
     let a = c .before .before .before .before .before .before .before .before .before .before .before .before .args in
-    let e : l .base + a .size - l .base ≡ a .size = omega arith in
+    let e : l .base + a .block .size - l .base ≡ a .block .size = omega arith in
     rw (e, l .inv .1) (c .before .before .before .before .before .before .before .before .before .before .before .before .pre .0 .readable (l .j) (c .before .before .before .loop-test .taken))
 
 slice-write-truths : tie.Need-slice-write-truths Inv-loop μ-loop
@@ -77,11 +77,12 @@ loop-again c =
     let a = start .args in
     let lent = lendNames (now (a .items)) (now (a .literals)) (now (a .bytes)) (now (a .names)) in (
       omega arith,
-      next-base (a .from) (l .j) (a .size) (l .inv .1),
+      next-base (a .block .from) (l .j) (a .block .size) (l .inv .1),
       ⊎-elim
-          (λ w. judged lent (now (a .records)) (a .from) (a .size) (a .switches) (a .condition) (now (a .at)) (a .row) (now (a .truths)) (l .truths) (l .j) (l .base) (l .inv .2) (l .inv .1)
+          (λ w. judged lent (now (a .records)) (a .block .from) (a .block .size) (a .switches) (a .condition) (now (a .at)) (a .row)
+          (now (a .truths)) (l .truths) (l .j) (l .base) (l .inv .2) (l .inv .1)
           (omega (arith, start .pre .0 .laid .few, start .pre .1 .1)) (w .2 .result) (w .2 .ensures) (w .3))
-          (λ w. passed-by lent (now (a .records)) (a .from) (a .size) (a .switches) (a .condition) (now (a .at)) (a .row) (now (a .truths)) (l .truths) (l .j) (l .base) (l .inv .2)
+          (λ w. passed-by lent (now (a .records)) (a .block .from) (a .block .size) (a .switches) (a .condition) (now (a .at)) (a .row) (now (a .truths)) (l .truths) (l .j) (l .base) (l .inv .2)
           (w .0 .left) (w .1))
           (c .if1 .came),
     )

@@ -9,7 +9,7 @@ use denote.Ref.{now}
 use borrow.Author.Tests.{eqb-true, not-true}
 use Rattle.tables.specs.Operands.{lendNames}
 use Rattle.tables.proofs.Tests.{both}
-use Rattle.columns.proofs.Sides.{first-within, first-readable}
+use Rattle.block_words.proofs.Firsts.{first-within, first-readable}
 use Rattle.blocks.proofs.Judging.{once}
 use borrow.Author.Needs.{needs}
 use Rattle.blocks.proofs.rows.judge_row.Statement.{statement}
@@ -41,7 +41,7 @@ returns c =
     let start = c .before .before .before .before .before .before .before .before .before .before .before .before .before .before in
     let a = start .args in
     let t = both (eqb (a .condition .relation) 0) _ (c .before .before .before .before .before .before .if1 .taken) in
-    once (lendNames (now (a .items)) (now (a .literals)) (now (a .bytes)) (now (a .names))) (now (a .records)) (a .from) (a .size) (a .n) (a .switches) (a .condition)
+    once (lendNames (now (a .items)) (now (a .literals)) (now (a .bytes)) (now (a .names))) (now (a .records)) (a .block .from) (a .block .size) (a .block .n) (a .switches) (a .condition)
     (now (a .at)) (a .row) (c .before .before .fill .last .0) _ (start .pre .0 .laid .few) (eqb-true (a .condition .relation) 0 (t .0)) (not-true _ (t .1))
     (c .before .before .before .before .judge-record .ensures) (c .before .before .fill .ensures)
 
@@ -57,7 +57,7 @@ returns-2 c = λ j l _. c .before .before .before .judge-columns .ensures .0 (c 
 judge-texts-requires : tie.Need-judge-texts-requires
 judge-texts-requires c κs =
     let start = c .before .before .before .before .before .before .before .before .before .before .before .before .before .before in
-    (start .pre .0, c .before .before .before .before .judge-columns .kept .1 .1 .1 .1 .1 .1 .1 .1 .1 .1 .0 ∙ start .pre .1 .1)
+    (start .pre .0, c .before .before .before .before .judge-columns .kept .1 .1 .1 .1 .1 .1 .1 .1 .0 ∙ start .pre .1 .1)
 
 same-length-3 : tie.Need-same-length-3
 same-length-3 c = search needs
@@ -73,7 +73,7 @@ judge-fields-requires c κs =
     let start = c19 in (
       start .pre .0,
       start .pre .1 .0,
-      c4 .judge-texts .kept .1 .1 .1 .1 .1 .1 .1 .1 .1 .1 .0 ∙ c9 .judge-columns .kept .1 .1 .1 .1 .1 .1 .1 .1 .1 .1 .0
+      c4 .judge-texts .kept .1 .1 .1 .1 .1 .1 .1 .1 .0 ∙ c9 .judge-columns .kept .1 .1 .1 .1 .1 .1 .1 .1 .0
           ∙ start .pre .1 .1,
     )
 
@@ -90,7 +90,7 @@ judge-each-requires c κs =
     let c14 = c9 .before .before .before .before .before in
     let c24 = c14 .before .before .before .before .before .before .before .before .before .before in
     let start = c24 in
-    let kept = c4 .judge-fields .kept .1 .1 .1 .1 .1 .1 .1 .1 .1 .1 .1 .1 .0 ∙ c9 .judge-texts .kept .1 .1 .1 .1 .1 .1 .1 .1 .1 .1 .0 ∙ c14 .judge-columns .kept .1 .1 .1 .1 .1 .1 .1 .1 .1 .1 .0
+    let kept = c4 .judge-fields .kept .1 .1 .1 .1 .1 .1 .1 .1 .1 .1 .0 ∙ c9 .judge-texts .kept .1 .1 .1 .1 .1 .1 .1 .1 .0 ∙ c14 .judge-columns .kept .1 .1 .1 .1 .1 .1 .1 .1 .0
     in
     (start .pre .0, (start .pre .1 .0, kept ∙ start .pre .1 .1))
 

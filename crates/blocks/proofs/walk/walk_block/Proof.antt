@@ -13,12 +13,12 @@ use Rattle.blocks.proofs.walk.walk_block.Statement.{statement}
 use Rattle.blocks.proofs.walk.walk_block.Tie as tie
 
 abbrev Inv-loop : tie.InvT-loop
-Inv-loop items literals bytes names plan records from size n switches at₀ counts₀ truths₀ rows row₀ at counts truths row =
+Inv-loop items literals bytes names plan records block switches at₀ counts₀ truths₀ rows row₀ at counts truths row =
     (rows ≡ planRows plan) × ((length at ≡ 64) × (length counts ≡ 64) × (length truths ≡ 64))
-    × Walking (lendNames items literals bytes names) plan records from size n switches at counts row
+    × Walking (lendNames items literals bytes names) plan records (block .from) (block .size) (block .n) switches at counts row
 
 abbrev μ-loop : tie.MeasureT-loop
-μ-loop items literals bytes names plan records from size n switches at₀ counts₀ truths₀ rows row₀ at counts truths row = 130 - row
+μ-loop items literals bytes names plan records block switches at₀ counts₀ truths₀ rows row₀ at counts truths row = 130 - row
 
 cast-rows : tie.Need-cast-rows Inv-loop μ-loop
 cast-rows c =
@@ -64,7 +64,7 @@ judge-row-requires c κs =
     let lent = lendNames (now (a .items)) (now (a .literals)) (now (a .bytes)) (now (a .names)) in
     let under : l .row < planRows (now (a .plan)) = omega (arith, l .inv .0, c .before .before .before .before .loop-test .taken) in
     let e : c .before .before .plan-row .result ≡ planRow (now (a .plan)) (l .row) = c .before .before .plan-row .ensures ∙ ap (planRow (now (a .plan))) (c .before .before .before .wide .ensures) in
-    (rw e (judgeable lent (now (a .plan)) (now (a .records)) (a .from) (a .size) (a .n) (a .switches) (start .pre .0) under), (l .inv .1 .0, l .inv .1 .2))
+    (rw e (judgeable lent (now (a .plan)) (now (a .records)) (a .block .from) (a .block .size) (a .block .n) (a .switches) (start .pre .0) under), (l .inv .1 .0, l .inv .1 .2))
 
 place-of-requires : tie.Need-place-of-requires Inv-loop μ-loop
 place-of-requires c κs =
@@ -76,8 +76,9 @@ place-of-requires c κs =
     let under : l .row < planRows (now (a .plan)) = omega (arith, l .inv .0, c .before .before .before .before .before .before .before .loop-test .taken) in
     let e : c .before .before .before .before .before .plan-row .result ≡ planRow (now (a .plan)) (l .row) = c .before .before .before .before .before .plan-row .ensures ∙ ap (planRow (now
     (a .plan))) (c .before .before .before .before .before .before .wide .ensures) in
-    rw e (placed (few-rows lent (now (a .plan)) (now (a .records)) (a .from) (a .size) (a .n) (a .switches) (start .pre .0)) (known-row lent (now (a .plan)) (now (a .records)) (a .from)
-    (a .size) (a .n) (a .switches) (start .pre .0) under .holds))
+    let few = few-rows lent (now (a .plan)) (now (a .records)) (a .block .from) (a .block .size) (a .block .n) (a .switches) (start .pre .0) in
+    let known = known-row lent (now (a .plan)) (now (a .records)) (a .block .from) (a .block .size) (a .block .n) (a .switches) (start .pre .0) under in
+    rw e (placed few (known .holds))
 
 place-of-requires-2 : tie.Need-place-of-requires-2 Inv-loop μ-loop
 place-of-requires-2 c κs =
@@ -89,8 +90,9 @@ place-of-requires-2 c κs =
     let under : l .row < planRows (now (a .plan)) = omega (arith, l .inv .0, c .before .before .before .before .before .before .before .before .loop-test .taken) in
     let e : c .before .before .before .before .before .before .plan-row .result ≡ planRow (now (a .plan)) (l .row) = c .before .before .before .before .before .before .plan-row .ensures ∙
     ap (planRow (now (a .plan))) (c .before .before .before .before .before .before .before .wide .ensures) in
-    rw e (placed (few-rows lent (now (a .plan)) (now (a .records)) (a .from) (a .size) (a .n) (a .switches) (start .pre .0)) (known-row lent (now (a .plan)) (now (a .records)) (a .from)
-    (a .size) (a .n) (a .switches) (start .pre .0) under .fails))
+    let few = few-rows lent (now (a .plan)) (now (a .records)) (a .block .from) (a .block .size) (a .block .n) (a .switches) (start .pre .0) in
+    let known = known-row lent (now (a .plan)) (now (a .records)) (a .block .from) (a .block .size) (a .block .n) (a .switches) (start .pre .0) under in
+    rw e (placed few (known .fails))
 
 advance-requires : tie.Need-advance-requires Inv-loop μ-loop
 advance-requires c κs =
@@ -105,11 +107,11 @@ advance-requires c κs =
     (c .before .before .before .before .before .before .before .before .before .before .before .wide .ensures) in (
       l .inv .1 .0,
       l .inv .1 .1,
-      c .before .before .before .before .before .before .before .judge-row .kept .1 .1 .1 .1 .1 .1 .1 .1 .1 .1 .1 .1 .0 ∙ l .inv .1 .2,
+      c .before .before .before .before .before .before .before .judge-row .kept .1 .1 .1 .1 .1 .1 .1 .1 .1 .1 .0 ∙ l .inv .1 .2,
       λ j b. omega (
         arith,
         l .inv .2 .counted j b,
-        few-rows lent (now (a .plan)) (now (a .records)) (a .from) (a .size) (a .n) (a .switches) (start .pre .0),
+        few-rows lent (now (a .plan)) (now (a .records)) (a .block .from) (a .block .size) (a .block .n) (a .switches) (start .pre .0),
       ),
     )
 
@@ -133,12 +135,12 @@ loop-less c =
     (a .plan)) (l .row) = c .before .before .before .before .before .before .before .before .before .before .before .before .before .before .before .before .before .plan-row .ensures ∙ ap
     (planRow (now (a .plan)))
     (c .before .before .before .before .before .before .before .before .before .before .before .before .before .before .before .before .before .before .wide .ensures) in
-    let truths = c .before .before .before .before .before .before .before .before .before .before .before .before .before .before .judge-row .last .1 .1 .1 .1 .1 .1 .1 .1 .1 .1 .1 .1 .0 in
+    let truths = c .before .before .before .before .before .before .before .before .before .before .before .before .before .before .judge-row .last .1 .1 .1 .1 .1 .1 .1 .1 .1 .1 .0 in
     let at = c .before .before .before .before .before .before .advance .last .0 in
     let counts = c .before .before .before .before .before .before .advance .last .1 .0 in
     omega (
       arith,
-      rises lent (now (a .plan)) (now (a .records)) (a .from) (a .size) (a .n) (a .switches) (start .pre .0)
+      rises lent (now (a .plan)) (now (a .records)) (a .block .from) (a .block .size) (a .block .n) (a .switches) (start .pre .0)
           (l .at) (l .counts) truths at counts (l .row) (c .least2 .result) (l .inv .2) under
           (rw e at (c .before .before .before .before .before .before .before .before .before .before .before .before .before .before .judge-row .ensures))
           (rw (
@@ -166,17 +168,17 @@ loop-again c =
     (a .plan)) (l .row) = c .before .before .before .before .before .before .before .before .before .before .before .before .before .before .before .before .before .plan-row .ensures ∙ ap
     (planRow (now (a .plan)))
     (c .before .before .before .before .before .before .before .before .before .before .before .before .before .before .before .before .before .before .wide .ensures) in
-    let truths = c .before .before .before .before .before .before .before .before .before .before .before .before .before .before .judge-row .last .1 .1 .1 .1 .1 .1 .1 .1 .1 .1 .1 .1 .0 in
+    let truths = c .before .before .before .before .before .before .before .before .before .before .before .before .before .before .judge-row .last .1 .1 .1 .1 .1 .1 .1 .1 .1 .1 .0 in
     let at = c .before .before .before .before .before .before .advance .last .0 in
     let counts = c .before .before .before .before .before .before .advance .last .1 .0 in (
       l .inv .0,
       (
         c .before .before .before .before .before .before .advance .kept .0 ∙ l .inv .1 .0,
         c .before .before .before .before .before .before .advance .kept .1 .0 ∙ l .inv .1 .1,
-        c .before .before .before .before .before .before .before .before .before .before .before .before .before .before .judge-row .kept .1 .1 .1 .1 .1 .1 .1 .1 .1 .1 .1 .1 .0 ∙
+        c .before .before .before .before .before .before .before .before .before .before .before .before .before .before .judge-row .kept .1 .1 .1 .1 .1 .1 .1 .1 .1 .1 .0 ∙
             l .inv .1 .2,
       ),
-      walks-on lent (now (a .plan)) (now (a .records)) (a .from) (a .size) (a .n) (a .switches) (start .pre .0)
+      walks-on lent (now (a .plan)) (now (a .records)) (a .block .from) (a .block .size) (a .block .n) (a .switches) (start .pre .0)
           (l .at) (l .counts) truths at counts (l .row) (c .least2 .result) (l .inv .2) under
           (rw e at (c .before .before .before .before .before .before .before .before .before .before .before .before .before .before .judge-row .ensures))
           (rw (
@@ -206,7 +208,7 @@ returns c =
     let start = head .before .before .before .before .before .before .before .before .before .before .before .before .before .before .before .before .before .before .before .before in
     let a = start .args in
     let lent = lendNames (now (a .items)) (now (a .literals)) (now (a .bytes)) (now (a .names)) in
-    ends lent (now (a .plan)) (now (a .records)) (a .from) (a .size) (a .n) (a .switches) (start .pre .0) (l .inv .2) (omega (arith, l .inv .0, c .loop-test .left))
+    ends lent (now (a .plan)) (now (a .records)) (a .block .from) (a .block .size) (a .block .n) (a .switches) (start .pre .0) (l .inv .2) (omega (arith, l .inv .0, c .loop-test .left))
 
 pub walk-block-spec : {M : Type 1} → statement M
 walk-block-spec =

@@ -1,21 +1,32 @@
 -- Each flag that the code tests is a part of the definition's conjunction; a sound row has at least one byte.
 use Prim.Native.Nat.{ℕ}
-use native.Mathlib.Omega.{arith}
-use mathlib.Core.Bool.{Bool, _||_}
-use mathlib.Core.Path.{ap, _∙_}
+use mathlib.Core.Bool.{Bool, true, false, _||_}
+use mathlib.Core.Path.{_≡_, ap, _∙_}
+use mathlib.Core.Logic.{⊎-elim}
 use denote.Ref.{now}
 use lib.Dec.{eqb}
-use borrow.Author.Tests.{not-true, not-false, leb-true}
+use borrow.Author.Tests.{not-true, not-false, leb-true, eqb-true}
 use borrow.Author.Needs.{needs}
+use Rattle.content.specs.Kinds.{isZoned}
+use Rattle.content.specs.Packed.{isPacked}
 use Rattle.content.specs.WrongByte.{validContent}
 use Rattle.tables.proofs.Lines.{passes, fails}
-use Rattle.tables.proofs.Bytes.{sound-part}
+use Rattle.tables.proofs.Tests.{either, or-right}
+use Rattle.numbers.proofs.FieldLaws.{number-field}
 use Rattle.checks.proofs.lent.literal_sound.Statement.{statement}
 use Rattle.checks.proofs.lent.literal_sound.Tie as tie
 
 -- the kinds that a literal may have
 abbrev literalKind : ℕ → Bool
 literalKind kind = eqb kind 2 || eqb kind 3 || eqb kind 5
+
+-- a literal that is not of characters is a number
+number-kind : (kind : ℕ) → literalKind kind ≡ true → eqb kind 2 ≡ false → isZoned kind || isPacked kind ≡ true
+number-kind kind e n =
+    ⊎-elim
+    (λ u. rw (eqb-true kind 3 (or-right (eqb kind 2) (eqb kind 3) u n)))
+    (λ u. rw (eqb-true kind 5 u))
+    (either (eqb kind 2 || eqb kind 3) (eqb kind 5) e)
 
 row-sound-requires : tie.Need-row-sound-requires
 row-sound-requires c κs = search needs
@@ -40,13 +51,13 @@ returns-3 c =
 row-part-requires : tie.Need-row-part-requires
 row-part-requires c κs = leb-true _ _ (passes (c .before .ends-within .ensures) (c .if3 .left))
 
-valid-content-requires : tie.Need-valid-content-requires
-valid-content-requires c κs =
+literal-valid-requires : tie.Need-literal-valid-requires
+literal-valid-requires c κs =
     let row = passes (c .before .before .before .before .before .row-sound .ensures) (c .before .before .before .before .if1 .left) in
     let ends = passes (c .before .before .ends-within .ensures) (c .before .if3 .left) in
-    let bytes = now (c .before .before .before .before .before .before .before .args .bytes) in
-    let part = sound-part (c .before .before .before .before .before .before .before .args .row) bytes row (leb-true _ _ ends) in
-    rw (c .row-part .ensures) (omega arith)
+    let kind = not-false (literalKind (c .before .before .before .before .before .before .before .args .row .kind)) (c .before .before .before .if2 .left) in
+    let args = c .before .before .before .before .before .before .before .args in
+    rw (c .row-part .ensures) (λ e. number-field (args .row) (now (args .bytes)) row ends (number-kind (args .row .kind) kind e))
 
 returns-4 : tie.Need-returns-4
 returns-4 c =
@@ -55,7 +66,7 @@ returns-4 c =
     let ends = passes (c .before .before .before .ends-within .ensures) (c .before .before .if3 .left) in
     let args = c .before .before .before .before .before .before .before .before .args in
     let content = ap (validContent (args .row .kind) (args .row .digits)) (c .before .row-part .ensures) in
-    rw (row, kind, ends) (c .valid-content .ensures ∙ content)
+    rw (row, kind, ends) (c .literal-valid .ensures ∙ content)
 
 pub literal-sound-spec : {M : Type 1} → statement M
 literal-sound-spec =
@@ -67,5 +78,5 @@ literal-sound-spec =
     ends-within-requires
     returns-3
     row-part-requires
-    valid-content-requires
+    literal-valid-requires
     returns-4)

@@ -3,8 +3,6 @@ use mathlib.Core.Path.{_≡_, sym, ap, _∙_, refl}
 use mathlib.Core.Bool.{true, false, false≢true}
 use native.Mathlib.Omega.{arith}
 use borrow.Author.Needs.{needs}
-use Rattle.typing.specs.declared.Test.the-variants.{Class}
-use borrow.Author.Needs.{needs}
 use Rattle.columns.proofs.rows.judge_columns.Statement.{statement}
 use Rattle.columns.proofs.rows.judge_columns.Tie as tie
 
@@ -19,7 +17,7 @@ enum-known-test c = search needs
 
 judge-relation-requires : tie.Need-judge-relation-requires
 judge-relation-requires c κs =
-    let start = c .before .before .before .before .before .before .before .before .before .before .before .before in
+    let start = c .before .before .before .before .before .before .before .before .before .before .before .before .before in
     ((start .pre .0, omega (arith, c .before .before .before .before .before .if1 .left), start .pre .1), sym (c .before .before .before .before .test-of .ensures) ∙ c .before .before .test .given .1)
 
 enum-known-test-2 : tie.Need-enum-known-test-2
@@ -30,7 +28,7 @@ returns-2 c = (λ e. absurd (false≢true e), λ _. refl)
 
 judge-numeric-requires : tie.Need-judge-numeric-requires
 judge-numeric-requires c κs =
-    let start = c .before .before .before .before .before .before .before .before .before .before .before .before .before in (
+    let start = c .before .before .before .before .before .before .before .before .before .before .before .before .before .before in (
       (start .pre .0, omega (arith, c .before .before .before .before .before .before .if1 .left), start .pre .1),
       rw (c .before .if2 .left) at (sym
           (c .before .before .before .before .before .test-of .ensures) ∙ c .before .before .before .test2 .given .1),

@@ -1,32 +1,46 @@
 -- One field.
-use mathlib.Core.Path.{_≡_, sym, ap, _∙_, refl}
-use mathlib.Core.Bool.{Bool, true, false, _&&_, false≢true}
-use Prim.Native.Nat.{ℕ, _<_, _≤_}
-use native.Mathlib.Omega.{arith}
-use lib.Dec.{eqb}
-use lib.ListN.{length}
+use mathlib.Core.Path.{_≡_, sym, _∙_, refl}
+use mathlib.Core.Bool.{true, false≢true}
+use mathlib.Core.List.{List}
+use Prim.Native.Nat.{ℕ, _+_, _-_}
+use lib.ListN.{take, drop}
 use denote.Ref.{now}
 use borrow.Author.Needs.{needs}
-use borrow.Author.Tests.{not-false, eqb-true}
-use Rattle.tables.specs.Operands.{lendNames, rowOf}
+use borrow.Author.Tests.{not-false}
+use Rattle.tables.specs.Operands.{Lent, lendNames, rowOf}
+use Rattle.tables.specs.Tokens.{isItem}
 use Rattle.tables.proofs.Tests.{both}
-use Rattle.values.proofs.Reading.{read-relation, read-class}
-use Rattle.byte_words.specs.Words.{digitWord, digitsIn}
+use Rattle.values.specs.Truth.{Sided}
+use Rattle.values.proofs.Reading.{read-class}
 use Rattle.digit_words.specs.Words.{fitsWord}
-use Rattle.byte_words.proofs.WordLaws.{Bytes, bytes-of}
-use Rattle.columns.proofs.Sides.{first-readable, first-within, field-of, items-right, object-right, subject-right, numeric-right}
-use borrow.Author.Needs.{needs}
+use Rattle.byte_words.proofs.WordLaws.{bytes-of}
+use Rattle.block_words.proofs.Firsts.{first-readable}
+use Rattle.columns.proofs.Sides.{field-of, numeric-right}
 use Rattle.columns.proofs.rows.judge_numeric.Statement.{statement}
 use Rattle.columns.proofs.rows.judge_numeric.Tie as tie
 
+abbrev lent : tie.Start → Lent
+lent s = lendNames (now (s .args .items)) (now (s .args .literals)) (now (s .args .bytes)) (now (s .args .names))
+
+-- the item, on the first record
+subject : (s : tie.Start)
+    → Sided (lent s) (take (s .args .block .from + s .args .block .size - s .args .block .from) (drop (s .args .block .from) (now (s .args .records)))) (s .args .condition .subject)
+subject s = read-class (first-readable (s .pre .0 .0)) (s .pre .1)
+
+abbrev entry : tie.Else1 → tie.Start
+entry c = c .before .before .before .before .before .before .before .before .before .before
+
+-- it is read as a word
+fits : (c : tie.Else1) → fitsWord (rowOf (lent (entry c)) (entry c .args .condition .subject)) ≡ true
+fits c =
+    rw (c .before .before .before .row-of .ensures) at
+    (sym (c .before .before .fits-word .ensures) ∙ both (c .before .before .fits-word .result) (c .before .is-item .result) (not-false _ (c .if1 .left)) .0)
+
+item : (c : tie.Else1) → isItem (entry c .args .condition .subject) ≡ true
+item c = sym (c .before .is-item .ensures) ∙ both (c .before .before .fits-word .result) (c .before .is-item .result) (not-false _ (c .if1 .left)) .1
+
 row-of-requires : tie.Need-row-of-requires
-row-of-requires c κs =
-    let start = c .before .before .before .before .before .before in
-    let a = start .args in
-    let lent = lendNames (now (a .items)) (now (a .literals)) (now (a .bytes)) (now (a .names)) in
-    let J = start .pre .0 .0 in
-    let s = read-class (first-readable J) (start .pre .1) in
-    s .within .there
+row-of-requires c κs = subject (c .before .before .before .before .before .before) .within .there
 
 fits-word-requires : tie.Need-fits-word-requires
 fits-word-requires c κs = search needs
@@ -37,36 +51,14 @@ is-item-requires c κs = search needs
 returns : tie.Need-returns
 returns c = (λ e. absurd (false≢true e), λ _. refl)
 
-truth-bit-requires : tie.Need-truth-bit-requires
-truth-bit-requires c κs = search needs
-
-truth-bit-requires-2 : tie.Need-truth-bit-requires-2
-truth-bit-requires-2 c κs = search needs
-
-end-of-requires : tie.Need-end-of-requires
-end-of-requires c κs = search needs
-
-wide-requires : tie.Need-wide-requires
-wide-requires c κs = search needs
+bits-of-requires : tie.Need-bits-of-requires
+bits-of-requires c κs = search needs
 
 test-field-requires : tie.Need-test-field-requires
 test-field-requires c κs =
-    let start = c .before .before .before .before .before .before .before .before .before .before .before .before .before .before .before in
-    let a = start .args in
-    let lent = lendNames (now (a .items)) (now (a .literals)) (now (a .bytes)) (now (a .names)) in
-    let J = start .pre .0 .0 in
-    let s = read-class (first-readable J) (start .pre .1) in
-    let t = both _ _ (not-false _ (c .before .before .before .before .before .if1 .left)) in
-    let f : fitsWord (rowOf lent (a .condition .subject)) ≡ true = rw (c .before .before .before .before .before .before .before .before .row-of .ensures) at (sym
-    (c .before .before .before .before .before .before .before .fits-word .ensures) ∙ t .0) in
-    let i = sym (c .before .before .before .before .before .before .is-item .ensures) ∙ t .1 in (
-      (J .laid, start .pre .0 .1, start .pre .0 .2),
-      rw (
-        c .before .before .end-of .ensures,
-        c .before .wide .ensures,
-        c .before .before .before .before .before .before .before .before .row-of .ensures,
-      ) (field-of J s i f),
-    )
+    let e = c .before .before in
+    let s = entry e in
+    ((s .pre .0 .0 .laid, s .pre .0 .1, s .pre .0 .2), rw (e .before .before .before .row-of .ensures) (field-of (s .pre .0 .0) (subject s) (item e) (fits e)))
 
 same-length : tie.Need-same-length
 same-length c = search needs
@@ -74,27 +66,15 @@ same-length c = search needs
 returns-2 : tie.Need-returns-2
 returns-2 c = (
   λ _ k l.
-      let start = c .before .before .before .before .before .before .before .before .before .before .before .before .before .before .before .before .before .before in
-      let a = start .args in
-      let lent = lendNames (now (a .items)) (now (a .literals)) (now (a .bytes)) (now (a .names)) in
-      let J = start .pre .0 .0 in
-      let s = read-class (first-readable J) (start .pre .1) in
-      let t = both _ _ (not-false _ (c .before .before .before .before .before .before .before .before .if1 .left)) in
-      let f : fitsWord (rowOf lent (a .condition .subject)) ≡ true = rw (c .before .before .before .before .before .before .before .before .before .before .before .row-of .ensures) at (sym
-      (c .before .before .before .before .before .before .before .before .before .before .fits-word .ensures) ∙ t .0) in
-      let i = sym (c .before .before .before .before .before .before .before .before .before .is-item .ensures) ∙ t .1 in
-      numeric-right lent (now (a .records)) (a .from) (a .size) (a .switches) (a .condition)
-      (bytes-of (now (a .records)) (λ i. c .before .before .before .before .before .before .before .before .before .before .before .before .before .shared-slice-known5 .given i .fits))
-      (bytes-of (now (a .bytes))
-      (λ i. c .before .before .before .before .before .before .before .before .before .before .before .before .before .before .before .shared-slice-known3 .given i .fits)) k
-      (start .pre .1) f i (field-of J s i f .inside)
-      (rw (
-        c .before .before .before .before .before .end-of .ensures,
-        c .before .before .before .before .wide .ensures,
-        c .before .before .before .before .before .before .before .truth-bit .ensures,
-        c .before .before .before .before .before .before .truth-bit2 .ensures,
-        c .before .before .before .before .before .before .before .before .before .before .before .row-of .ensures,
-      ) at (c .before .before .test-field .ensures k l)),
+      let bits = c .before .before .before .before in
+      let e = bits .before in
+      let s = entry e in
+      let row = e .before .before .before in
+      numeric-right (lent s) (now (s .args .records)) (s .args .block .from) (s .args .block .size) (s .args .switches) (s .args .condition)
+      (bytes-of (now (s .args .records)) (λ i. row .before .before .shared-slice-known5 .given i .fits))
+      (bytes-of (now (s .args .bytes)) (λ i. row .before .before .before .before .shared-slice-known3 .given i .fits)) k (s .pre .1) (fits e) (item e)
+      (field-of (s .pre .0 .0) (subject s) (item e) (fits e) .inside)
+      (rw (bits .bits-of .ensures, row .row-of .ensures) at (c .before .before .test-field .ensures k l)),
   λ e. absurd (false≢true (sym e)),
 )
 
@@ -106,10 +86,7 @@ judge-numeric-spec =
     fits-word-requires
     is-item-requires
     returns
-    truth-bit-requires
-    truth-bit-requires-2
-    end-of-requires
-    wide-requires
+    bits-of-requires
     test-field-requires
     same-length
     returns-2)

@@ -13,7 +13,8 @@ use Rattle.tables.proofs.Tests.{both}
 use Rattle.values.specs.Truth.{Sided}
 use Rattle.values.proofs.Reading.{read-relation}
 use Rattle.byte_words.proofs.WordLaws.{Bytes, bytes-of}
-use Rattle.columns.proofs.Sides.{Worded, first-readable, first-within, field-of, within-unnamed, word-size, items-right, object-right, subject-right}
+use Rattle.block_words.proofs.Firsts.{first-readable, first-within, within-unnamed}
+use Rattle.columns.proofs.Sides.{Worded, field-of, word-size, items-right, object-right, subject-right}
 use Rattle.columns.proofs.rows.judge_relation.Statement.{statement}
 use Rattle.columns.proofs.rows.judge_relation.Tie as tie
 
@@ -22,7 +23,7 @@ lent s = lendNames (now (s .args .items)) (now (s .args .literals)) (now (s .arg
 
 -- the first record
 abbrev first : tie.Start → List ℕ
-first s = take (s .args .from + s .args .size - s .args .from) (drop (s .args .from) (now (s .args .records)))
+first s = take (s .args .block .from + s .args .block .size - s .args .block .from) (drop (s .args .block .from) (now (s .args .records)))
 
 -- the two sides of the first record
 sides : (s : tie.Start) → Sided (lent s) (first s) (s .args .condition .subject) × Sided (lent s) (first s) (s .args .condition .object)
@@ -98,7 +99,7 @@ returns-2 c = (
       let rows = e .before .before .before .before .before in
       let i = sym (c .before .before .before .before .before .before .before .is-item .ensures) ∙ c .before .before .before .before .before .before .if2 .taken in
       let j = sym (c .before .before .before .before .before .is-item2 .ensures) ∙ c .before .before .before .before .if3 .taken in
-      items-right (lent s) (now (s .args .records)) (s .args .from) (s .args .size) (s .args .switches) (s .args .condition) (in-file e .0) (in-file e .1) k
+      items-right (lent s) (now (s .args .records)) (s .args .block .from) (s .args .block .size) (s .args .switches) (s .args .condition) (in-file e .0) (in-file e .1) k
       (s .pre .1) (w .subject) (w .object) (w .scale) i j (field-of J (sides s .0) i (w .subject) .inside) (field-of J (sides s .1) j (w .object) .inside)
       (rw (rows .before .row-of .ensures, rows .row-of2 .ensures, c .before .before .before .before .before .before .before .before .asked-of .ensures) at
       (c .before .before .relate-fields .ensures k l)),
@@ -134,7 +135,7 @@ returns-3 c = (
       let i = sym (c .before .before .before .before .before .before .before .is-item .ensures) ∙ c .before .before .before .before .before .before .if2 .taken in
       let j = sym (c .before .before .before .before .before .is-item2 .ensures) ∙ c .before .before .before .before .if3 .left in
       let R = c .before .before .relate-literal .ensures .0 h in
-      object-right (lent s) (now (s .args .records)) (s .args .from) (s .args .size) (s .args .switches) (s .args .condition) (in-file e .0) (in-file e .1) k
+      object-right (lent s) (now (s .args .records)) (s .args .block .from) (s .args .block .size) (s .args .switches) (s .args .condition) (in-file e .0) (in-file e .1) k
       (s .pre .1) (w .subject) (w .object) (w .scale) (first s) i j (field-of J (sides s .0) i (w .subject) .inside) (R .digits)
       (rw (rows .before .row-of .ensures, c .before .before .before .before .before .before .before .before .asked-of .ensures) at (R .told k l)),
   c .before .before .relate-literal .ensures .1,
@@ -172,7 +173,7 @@ returns-4 c = (
       let i = sym (c .before .before .before .before .before .before .before .is-item .ensures) ∙ c .before .before .before .before .before .before .if2 .left in
       let j = sym (c .before .before .before .before .before .is-item3 .ensures) ∙ c .before .before .before .before .if4 .taken in
       let R = c .before .before .relate-literal2 .ensures .0 h in
-      subject-right (lent s) (now (s .args .records)) (s .args .from) (s .args .size) (s .args .switches) (s .args .condition) (in-file e .0) (in-file e .1) k
+      subject-right (lent s) (now (s .args .records)) (s .args .block .from) (s .args .block .size) (s .args .switches) (s .args .condition) (in-file e .0) (in-file e .1) k
       (s .pre .1) (w .subject) (w .object) (w .scale) (first s) i j (field-of J (sides s .1) j (w .object) .inside) (R .digits)
       (rw (rows .row-of2 .ensures, c .before .before .before .before .before .before .before .before .asked-of .ensures) at (R .told k l)),
   c .before .before .relate-literal2 .ensures .1,

@@ -1,21 +1,10 @@
 -- The literal's word, and then the field.
 use mathlib.Core.Path.{_≡_, sym, ap, _∙_, refl}
-use mathlib.Core.Bool.{Bool, true, false, _&&_, false≢true}
-use Prim.Native.Nat.{ℕ, _<_, _≤_}
+use mathlib.Core.Bool.{false≢true}
 use native.Mathlib.Omega.{arith}
-use lib.Dec.{eqb}
-use lib.ListN.{length}
-use denote.Ref.{now}
 use borrow.Author.Needs.{needs}
-use borrow.Author.Tests.{not-false, eqb-true}
-use Rattle.tables.specs.Operands.{lendNames, rowOf}
-use Rattle.tables.proofs.Tests.{both}
-use Rattle.values.proofs.Reading.{read-relation, read-class}
-use Rattle.byte_words.specs.Words.{digitWord, digitsIn}
-use Rattle.digit_words.specs.Words.{fitsWord}
-use Rattle.byte_words.proofs.WordLaws.{Bytes, bytes-of}
-use Rattle.columns.proofs.Sides.{first-readable, first-within, field-of, items-right, object-right, subject-right, numeric-right}
-use borrow.Author.Needs.{needs}
+use borrow.Author.Tests.{not-false}
+use Rattle.byte_words.specs.Words.{digitWord}
 use Rattle.columns.proofs.rows.relate_literal.Statement.{statement}
 use Rattle.columns.proofs.rows.relate_literal.Tie as tie
 
@@ -43,8 +32,11 @@ all-digits-requires c κs = search needs
 returns : tie.Need-returns
 returns c = (λ e. absurd (false≢true e), λ _. refl)
 
-relate-field-requires : tie.Need-relate-field-requires
-relate-field-requires c κs = search needs
+order-bits-requires : tie.Need-order-bits-requires
+order-bits-requires c κs = search needs
+
+compare-field-requires : tie.Need-compare-field-requires
+compare-field-requires c κs = search needs
 
 same-length : tie.Need-same-length
 same-length c = search needs
@@ -52,10 +44,11 @@ same-length c = search needs
 returns-2 : tie.Need-returns-2
 returns-2 c = (
   λ _.
-      let e = (c .before .before .before .before .before .before .short-word .ensures ∙ ap digitWord (c .before .before .before .before .before .before .before .operand-bytes .ensures)) in
+      let c5 = c .before .before .before .before .before in
+      let e = c5 .before .before .short-word .ensures ∙ ap digitWord (c5 .before .before .before .operand-bytes .ensures) in
       record {
-        digits = rw e at (sym (c .before .before .before .before .before .all-digits .ensures) ∙ not-false _ (c .before .before .before .before .if1 .left));
-        told = λ k l. rw e at (c .before .before .relate-field .ensures k l);
+        digits = rw e at (sym (c5 .before .all-digits .ensures) ∙ not-false _ (c5 .if1 .left));
+        told = λ k l. rw (c .before .before .before .before .order-bits .ensures, e) at (c .before .before .compare-field .ensures k l);
       },
   λ e. absurd (false≢true (sym e)),
 )
@@ -72,6 +65,7 @@ relate-literal-spec =
     short-word-requires
     all-digits-requires
     returns
-    relate-field-requires
+    order-bits-requires
+    compare-field-requires
     same-length
     returns-2)

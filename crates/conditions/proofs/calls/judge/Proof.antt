@@ -2,7 +2,8 @@
 use mathlib.Core.Path.{sym, _∙_}
 use native.Mathlib.Omega.{arith}
 use borrow.Author.Needs.{needs}
-use Rattle.conditions.proofs.Calling.{judged-in-numbers, few-prepared, row-numbers, judge-refused, judge-record-refuses, rows-runnable, judge-answers}
+use Rattle.preparer.proofs.Ready.{few-prepared, row-numbers}
+use Rattle.conditions.proofs.Calling.{judged-in-numbers, judge-refused, judge-record-refuses, rows-runnable, judge-answers}
 use Rattle.conditions.proofs.calls.judge.Statement.{statement}
 use Rattle.conditions.proofs.calls.judge.Tie as tie
 

@@ -1,6 +1,6 @@
 -- `parted_at` meets its contract: from the laws of proofs/ and what its callees ensure. Assumes nothing.
 use denote.Ref.{now}
-use Rattle.storing.proofs.Flat.{parted-end, parted-byte}
+use Rattle.noting.proofs.Flat.{parted-end, parted-byte}
 use borrow.Author.Needs.{needs}
 use Rattle.describer.proofs.reading.parted_at.Statement.{statement}
 use Rattle.describer.proofs.reading.parted_at.Tie as tie

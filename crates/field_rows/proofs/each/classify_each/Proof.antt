@@ -12,20 +12,20 @@ use Rattle.compare.specs.Classes.{classHolds}
 use Rattle.values.specs.Comparison.{side}
 use Rattle.values.specs.Truth.{truth, turned, classOutcome}
 use Rattle.values.proofs.Reading.{some-bytes}
-use Rattle.columns.specs.Columns.{recordAt, Right}
-use Rattle.columns.proofs.Bases.{next-base}
+use Rattle.block_words.specs.Columns.{recordAt, Right}
+use Rattle.block_words.proofs.Bases.{next-base}
 use Rattle.places.proofs.Storing.{Stored, none-stored, stores, skips}
 use Rattle.field_rows.proofs.Fitting.{right-for, at-record, part-inside}
 use Rattle.field_rows.proofs.each.classify_each.Statement.{statement}
 use Rattle.field_rows.proofs.each.classify_each.Tie as tie
 
 abbrev Inv-loop : tie.InvT-loop
-Inv-loop records from size n row word negated at place truths₀ base₀ j₀ truths base j =
-    (j ≤ n) × (base ≡ from + j * size)
-    × Stored (λ k v. getD at k 0 ≡ place → Right (classOutcome word negated (side true row (part row (recordAt records from size k)))) v) truths₀ truths j
+Inv-loop records row word negated at place truths₀ size n base₀ j₀ truths base j =
+    (j ≤ n) × (base ≡ base₀ + j * size)
+    × Stored (λ k v. getD at k 0 ≡ place → Right (classOutcome word negated (side true row (part row (recordAt records base₀ size k)))) v) truths₀ truths j
 
 abbrev μ-loop : tie.MeasureT-loop
-μ-loop records from size n row word negated at place truths₀ base₀ j₀ truths base j = n - j
+μ-loop records row word negated at place truths₀ size n base₀ j₀ truths base j = n - j
 
 loop-holds : tie.Need-loop-holds Inv-loop μ-loop
 loop-holds c = (omega arith, omega arith, none-stored _ _)
@@ -57,7 +57,7 @@ row-part-requires c κs =
     let c8 = c4 .before .before .before .before in
     let l = c4 .loop in
     let a = c8 .args in
-    rw (at-record (now (a .records)) (a .from) (a .size) (l .j) (l .inv .1)) (part-inside true (a .row) _ (c8 .pre .1 (l .j) (c .before .before .before .loop-test .taken)))
+    rw (at-record (now (a .records)) (a .block .from) (a .block .size) (l .j) (l .inv .1)) (part-inside true (a .row) _ (c8 .pre .1 (l .j) (c .before .before .before .loop-test .taken)))
 
 class-holds-requires : tie.Need-class-holds-requires Inv-loop μ-loop
 class-holds-requires c κs =
@@ -65,7 +65,7 @@ class-holds-requires c κs =
     let c9 = c4 .before .before .before .before .before in
     let l = c4 .before .loop in
     let a = c9 .args in
-    rw (c .row-part .ensures, at-record (now (a .records)) (a .from) (a .size) (l .j) (l .inv .1)) (some-bytes (c9 .pre .1 (l .j) (c4 .loop-test .taken)))
+    rw (c .row-part .ensures, at-record (now (a .records)) (a .block .from) (a .block .size) (l .j) (l .inv .1)) (some-bytes (c9 .pre .1 (l .j) (c4 .loop-test .taken)))
 
 truth-value-requires : tie.Need-truth-value-requires Inv-loop μ-loop
 truth-value-requires c κs = search needs
@@ -75,9 +75,10 @@ truth-number-requires c κs = search needs
 
 slice-write-truths : tie.Need-slice-write-truths Inv-loop μ-loop
 slice-write-truths c =
-    let c8 = c .before .before .before .before .before .before .before .before in
+    let c7 = c .before .before .before .before .before .before .before in
+    let c8 = c7 .before in
     let c12 = c8 .before .before .before .before in
-    omega (arith, c8 .loop .inv .2 .long, c12 .pre .0 .0 .few)
+    omega (arith, c7 .loop-test .taken, c8 .loop .inv .2 .long, c12 .pre .0 .0 .few, c12 .pre .0 .2)
 
 add-base : tie.Need-add-base Inv-loop μ-loop
 add-base c =
@@ -96,9 +97,9 @@ loop-again c =
     let l = c .before .before .before .loop in
     let start = c .before .before .before .before .before .before .before in
     let a = start .args in
-    let here = at-record (now (a .records)) (a .from) (a .size) (l .j) (l .inv .1) in (
+    let here = at-record (now (a .records)) (a .block .from) (a .block .size) (l .j) (l .inv .1) in (
       omega arith,
-      next-base (a .from) (l .j) (a .size) (l .inv .1),
+      next-base (a .block .from) (l .j) (a .block .size) (l .inv .1),
       ⊎-elim
           (λ w. rw (w .6) (stores _ _ (l .inv .2) (omega (arith, start .pre .0 .0 .few, start .pre .0 .2))
           (λ _. right-for

@@ -11,21 +11,21 @@ use borrow.Author.Needs.{needs}
 use Rattle.tables.specs.Rows.{part}
 use Rattle.values.specs.Comparison.{side}
 use Rattle.values.specs.Truth.{relationOutcome}
-use Rattle.columns.specs.Columns.{recordAt, Right}
-use Rattle.columns.proofs.Bases.{next-base}
+use Rattle.block_words.specs.Columns.{recordAt, Right}
+use Rattle.block_words.proofs.Bases.{next-base}
 use Rattle.places.proofs.Storing.{Stored, none-stored, stores, skips}
 use Rattle.field_rows.proofs.Fitting.{right-for, at-record, item-inside}
 use Rattle.field_rows.proofs.each.relate_each.Statement.{statement}
 use Rattle.field_rows.proofs.each.relate_each.Tie as tie
 
 abbrev Inv-loop : tie.InvT-loop
-Inv-loop records from size n numeric item1 row1 left item2 row2 right word negated at place truths₀ base₀ j₀ truths base j =
-    (j ≤ n) × (base ≡ from + j * size)
-    × Stored (λ k v. getD at k 0 ≡ place → Right (relationOutcome word negated (side item1 row1 (cond item1 (part row1 (recordAt records from size k)) left))
-    (side item2 row2 (cond item2 (part row2 (recordAt records from size k)) right))) v) truths₀ truths j
+Inv-loop records numeric item1 row1 left item2 row2 right word negated at place truths₀ size n base₀ j₀ truths base j =
+    (j ≤ n) × (base ≡ base₀ + j * size)
+    × Stored (λ k v. getD at k 0 ≡ place → Right (relationOutcome word negated (side item1 row1 (cond item1 (part row1 (recordAt records base₀ size k)) left))
+    (side item2 row2 (cond item2 (part row2 (recordAt records base₀ size k)) right))) v) truths₀ truths j
 
 abbrev μ-loop : tie.MeasureT-loop
-μ-loop records from size n numeric item1 row1 left item2 row2 right word negated at place truths₀ base₀ j₀ truths base j = n - j
+μ-loop records numeric item1 row1 left item2 row2 right word negated at place truths₀ size n base₀ j₀ truths base j = n - j
 
 loop-holds : tie.Need-loop-holds Inv-loop μ-loop
 loop-holds c = (omega arith, omega arith, none-stored _ _)
@@ -57,7 +57,7 @@ side-bytes-requires c κs =
     let c10 = c4 .before .before .before .before .before .before in
     λ i. let l = c4 .loop in
     let a = c10 .args in
-    rw (at-record (now (a .records)) (a .from) (a .size) (l .j) (l .inv .1)) (item-inside (a .item1) (a .row1) _ (now (a .left)) (c10 .pre .1 (l .j)
+    rw (at-record (now (a .records)) (a .block .from) (a .block .size) (l .j) (l .inv .1)) (item-inside (a .item1) (a .row1) _ (now (a .left)) (c10 .pre .1 (l .j)
     (c .before .before .before .loop-test .taken) .0) i)
 
 side-bytes-requires-2 : tie.Need-side-bytes-requires-2 Inv-loop μ-loop
@@ -66,7 +66,7 @@ side-bytes-requires-2 c κs =
     let c11 = c4 .before .before .before .before .before .before .before in
     λ i. let l = c4 .before .loop in
     let a = c11 .args in
-    rw (at-record (now (a .records)) (a .from) (a .size) (l .j) (l .inv .1)) (item-inside (a .item2) (a .row2) _ (now (a .right)) (c11 .pre .1 (l .j)
+    rw (at-record (now (a .records)) (a .block .from) (a .block .size) (l .j) (l .inv .1)) (item-inside (a .item2) (a .row2) _ (now (a .right)) (c11 .pre .1 (l .j)
     (c4 .loop-test .taken) .1) i)
 
 side-truth-requires : tie.Need-side-truth-requires Inv-loop μ-loop
@@ -75,7 +75,7 @@ side-truth-requires c κs =
     let start = c .before .before .before .before .before .before .before .before .before .before .before .before in
     let a = start .args in
     let f = start .pre .1 (l .j) (c .before .before .before .before .before .loop-test .taken) in
-    rw (c .before .side-bytes .ensures, c .side-bytes2 .ensures, at-record (now (a .records)) (a .from) (a .size) (l .j) (l .inv .1)) (f .0, f .1, start .pre .0 .3)
+    rw (c .before .side-bytes .ensures, c .side-bytes2 .ensures, at-record (now (a .records)) (a .block .from) (a .block .size) (l .j) (l .inv .1)) (f .0, f .1, start .pre .0 .3)
 
 slice-write-truths : tie.Need-slice-write-truths Inv-loop μ-loop
 slice-write-truths c =
@@ -100,9 +100,9 @@ loop-again c =
     let l = c .before .before .before .loop in
     let start = c .before .before .before .before .before .before .before .before .before in
     let a = start .args in
-    let here = at-record (now (a .records)) (a .from) (a .size) (l .j) (l .inv .1) in (
+    let here = at-record (now (a .records)) (a .block .from) (a .block .size) (l .j) (l .inv .1) in (
       omega arith,
-      next-base (a .from) (l .j) (a .size) (l .inv .1),
+      next-base (a .block .from) (l .j) (a .block .size) (l .inv .1),
       ⊎-elim
           (λ w. rw (w .5) (stores _ _ (l .inv .2) (omega (arith, start .pre .0 .0 .few, start .pre .0 .2))
           (λ _. right-for

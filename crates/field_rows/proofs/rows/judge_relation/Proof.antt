@@ -6,8 +6,8 @@ use denote.Ref.{now}
 use borrow.Author.Needs.{needs}
 use Rattle.tables.specs.Operands.{lendNames}
 use Rattle.values.proofs.Reading.{read-relation}
-use Rattle.columns.specs.Columns.{recordAt}
-use Rattle.columns.proofs.Sides.{first-readable, first-within, within-unnamed}
+use Rattle.block_words.specs.Columns.{recordAt}
+use Rattle.block_words.proofs.Firsts.{first-readable, first-within, within-unnamed}
 use Rattle.field_rows.proofs.Fitting.{right-for, side-here, side-fits, relation-is}
 use Rattle.field_rows.proofs.rows.judge_relation.Statement.{statement}
 use Rattle.field_rows.proofs.rows.judge_relation.Tie as tie
@@ -66,7 +66,7 @@ relate-each-requires c κs =
     let lent = lendNames (now (a .items)) (now (a .literals)) (now (a .bytes)) (now (a .names)) in (
       (start .pre .0 .0 .laid, start .pre .0 .1, start .pre .0 .2, ap₂ _&&_ (c .before .before .is-numeric .ensures) (c .before .is-numeric2 .ensures)),
       (λ k l. let s = read-relation (start .pre .0 .0 .readable k l) (start .pre .1) in
-          let content = recordAt (now (a .records)) (a .from) (a .size) k in (
+          let content = recordAt (now (a .records)) (a .block .from) (a .block .size) k in (
             side-fits lent _ content (a .condition .subject) (c4 .is-item .ensures) (c7 .before .row-of .ensures) (c4 .before .before .operand-bytes .ensures)
                 (s .0),
             side-fits lent _ content (a .condition .object) (c .before .before .before .is-item2 .ensures) (c7 .row-of2 .ensures) (c4 .before .operand-bytes2 .ensures)
@@ -85,7 +85,7 @@ returns c =
     λ k l e. let start = c20 in
     let a = start .args in
     let lent = lendNames (now (a .items)) (now (a .literals)) (now (a .bytes)) (now (a .names)) in
-    let content = recordAt (now (a .records)) (a .from) (a .size) k in
+    let content = recordAt (now (a .records)) (a .block .from) (a .block .size) k in
     right-for (relation-is lent content (a .switches) (a .condition .subject) (a .condition .relation) (a .condition .object) (start .pre .1)
     (side-here lent _ content (a .condition .subject) (c6 .before .is-item .ensures) (c9 .before .before .row-of .ensures) (c9 .operand-bytes .ensures))
     (side-here lent _ content (a .condition .object) (c6 .is-item2 .ensures) (c9 .before .row-of2 .ensures) (c6 .before .before .operand-bytes2 .ensures)))

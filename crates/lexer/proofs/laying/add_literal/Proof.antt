@@ -6,7 +6,7 @@ use lib.ListN.{length, length-set, length-drop}
 use denote.Ref.{now}
 use borrow.Author.Needs.{needs}
 use lib.Seq.{length-take-le}
-use Rattle.literal_words.specs.Found.{literalBy}
+use Rattle.literal_bytes.specs.Written.{literalBy}
 use Rattle.lexer.specs.Gathers.{withLiteral}
 use Rattle.lexer.proofs.Writing.{bytes-over, rest-length}
 use borrow.Author.Needs.{needs}

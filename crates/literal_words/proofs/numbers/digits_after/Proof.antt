@@ -4,7 +4,8 @@ use native.Mathlib.Omega.{arith}
 use denote.Ref.{now}
 use borrow.Author.Needs.{needs}
 use Rattle.content.specs.Content.{all, isDigit}
-use Rattle.literal_words.proofs.Points.{rest-after, none-after}
+use Rattle.literal_bytes.proofs.Parting.{rest-after}
+use Rattle.literal_words.proofs.Contents.{none-after}
 use Rattle.literal_words.proofs.numbers.digits_after.Statement.{statement}
 use Rattle.literal_words.proofs.numbers.digits_after.Tie as tie
 

@@ -5,7 +5,7 @@ use native.Mathlib.Omega.{arith}
 use denote.Ref.{now}
 use borrow.Author.Needs.{needs}
 use Rattle.content.specs.Content.{all, isDigit}
-use Rattle.literal_words.proofs.Points.{start-fits, content-here}
+use Rattle.literal_words.proofs.Contents.{start-fits, content-here}
 use Rattle.literal_words.proofs.numbers.number_content.Statement.{statement}
 use Rattle.literal_words.proofs.numbers.number_content.Tie as tie
 

@@ -9,7 +9,7 @@ use native.Mathlib.Omega.{arith}
 use denote.Ref.{now}
 use borrow.Author.Needs.{needs}
 use borrow.Author.Tests.{not-true, not-false}
-use Rattle.literal_words.proofs.Points.{place-within}
+use Rattle.literal_bytes.proofs.Parting.{place-within}
 use Rattle.literal_words.proofs.Numerals.{too-short, too-long, point-last, row-unsound, by-content}
 use Rattle.literal_words.proofs.numbers.read_number.Statement.{statement}
 use Rattle.literal_words.proofs.numbers.read_number.Tie as tie

@@ -1,7 +1,8 @@
 -- Rests on what `prepare` ensures, on the record's check, and on the run of a tree's rows, which judges the tree.
 use mathlib.Core.Path.{sym, _∙_}
 use native.Mathlib.Omega.{arith}
-use Rattle.conditions.proofs.Calling.{few-prepared, row-numbers, rows-runnable}
+use Rattle.preparer.proofs.Ready.{few-prepared, row-numbers}
+use Rattle.conditions.proofs.Calling.{rows-runnable}
 use Rattle.look_lists.proofs.Looking.{looked-refused, looked-record-refused, looked-listed}
 use borrow.Author.Needs.{needs}
 use Rattle.looks.proofs.calls.looked_at.Statement.{statement}

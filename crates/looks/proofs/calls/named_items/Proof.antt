@@ -1,6 +1,6 @@
 -- Rests on what `prepare` ensures: the rows of the condition's tree name what the tree names.
 use native.Mathlib.Omega.{arith}
-use Rattle.conditions.proofs.Calling.{few-prepared, row-numbers}
+use Rattle.preparer.proofs.Ready.{few-prepared, row-numbers}
 use Rattle.look_lists.proofs.Looking.{few-named, rows-markable, named-refused, named-listed}
 use borrow.Author.Needs.{needs}
 use Rattle.looks.proofs.calls.named_items.Statement.{statement}

@@ -8,7 +8,7 @@ use denote.Ref.{now}
 use lib.ListN.{length}
 use borrow.Author.Needs.{needs}
 use borrow.Author.Tests.{ne-eqb}
-use Rattle.content.specs.Content.{digitBytes, butLast}
+use Rattle.content.specs.Content.{digitBytes, butFirst, butLast}
 use Rattle.content.proofs.Bytes.{but-first, but-last-length}
 use Rattle.content.proofs.WrongByte.{valid-digits, valid-signed, valid-leading, valid-trailing}
 use Rattle.compare.specs.declared.Number.{Number}
@@ -42,7 +42,8 @@ part-read-digits-end c = search needs
 read-digits-requires-2 : tie.Need-read-digits-requires-2
 read-digits-requires-2 c κs =
     let start = c .before .before .before .before in
-    rw (but-first (now (start .args .bytes))) (rw (c .before .if2 .taken) at (start .pre .1 .1))
+    let few : length (butFirst (now (start .args .bytes))) ≤ 18 = rw (c .before .if2 .taken) at (start .pre .1 .1) in
+    omega (arith, few, ap length (but-first (now (start .args .bytes))))
 
 shared-slice-read-is-sign : tie.Need-shared-slice-read-is-sign
 shared-slice-read-is-sign c = search needs

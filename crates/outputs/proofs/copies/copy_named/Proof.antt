@@ -5,7 +5,7 @@ use mathlib.Core.Path.{_≡_, refl}
 use mathlib.Core.List.{_++_, map}
 use lib.ListN.{length, drop, length-set}
 use denote.Ref.{now}
-use Rattle.storing.specs.Stored.{notedFrom}
+use Rattle.noting.specs.Stored.{notedFrom}
 use Rattle.outputs.specs.Noted.{namedOf}
 use Rattle.outputs.proofs.Copying.{named-none, named-more}
 use Rattle.outputs.proofs.copies.copy_named.Statement.{statement}

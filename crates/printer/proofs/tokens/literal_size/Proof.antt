@@ -6,7 +6,7 @@ use native.Mathlib.Omega.{arith}
 use lib.ListN.{length, getD, drop, length-set}
 use denote.Ref.{now}
 use borrow.Author.Needs.{needs}
-use Rattle.literal_words.specs.Found.{writtenOver}
+use Rattle.literal_bytes.specs.Written.{writtenOver}
 use Rattle.spelling.specs.Literals.{quoted, pointed}
 use Rattle.tables.specs.Rows.{part}
 use Rattle.printer.proofs.Literally.{lies, small, scaled, in-quotes, with-point}

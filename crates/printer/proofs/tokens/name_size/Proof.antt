@@ -6,7 +6,7 @@ use native.Mathlib.Omega.{arith}
 use lib.ListN.{length, getD, drop, length-set}
 use denote.Ref.{now}
 use borrow.Author.Needs.{needs}
-use Rattle.literal_words.specs.Found.{writtenOver}
+use Rattle.literal_bytes.specs.Written.{writtenOver}
 use borrow.Author.Needs.{needs}
 use Rattle.printer.proofs.tokens.name_size.Statement.{statement}
 use Rattle.printer.proofs.tokens.name_size.Tie as tie

@@ -6,7 +6,7 @@ use native.Mathlib.Omega.{arith}
 use lib.ListN.{length, getD, drop, length-set}
 use denote.Ref.{now}
 use borrow.Author.Needs.{needs}
-use Rattle.literal_words.specs.Found.{writtenOver}
+use Rattle.literal_bytes.specs.Written.{writtenOver}
 use Rattle.spelling.specs.Names.{leading}
 use Rattle.vocabulary.specs.Spellings.{spelt}
 use Rattle.printer.proofs.Wording.{item-there, item-word, condition-there, condition-word, literal-there, literal-sound, literal-word, switch-there, switch-word, word-there, word-word}

@@ -6,7 +6,7 @@ use native.Mathlib.Omega.{arith}
 use lib.ListN.{length, getD, drop, length-set}
 use denote.Ref.{now}
 use borrow.Author.Needs.{needs}
-use Rattle.literal_words.specs.Found.{writtenOver}
+use Rattle.literal_bytes.specs.Written.{writtenOver}
 use Rattle.quoting.proofs.Pointing.{whole, before-length, before-room, point-room, two-length, after-start, rest-room, put-length, pointed-put}
 use borrow.Author.Needs.{needs}
 use Rattle.quoting.proofs.parts.put_pointed.Statement.{statement}

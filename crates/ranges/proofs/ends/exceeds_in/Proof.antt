@@ -4,7 +4,7 @@ use mathlib.Core.Path.{sym, _∙_}
 use denote.Ref.{now}
 use native.Mathlib.Omega.{arith}
 use lib.Seq.{length-take-le}
-use Rattle.ranges.proofs.Words.{written-room, written-over, written-fit, above-by}
+use Rattle.literal_rows.proofs.Words.{written-room, written-over, written-fit, above-by}
 use borrow.Author.Needs.{needs}
 use Rattle.ranges.proofs.ends.exceeds_in.Statement.{statement}
 use Rattle.ranges.proofs.ends.exceeds_in.Tie as tie

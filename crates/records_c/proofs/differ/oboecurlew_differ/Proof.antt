@@ -7,11 +7,8 @@ use Rattle.records_c.proofs.differ.oboecurlew_differ.Tie as tie
 differ-requires : tie.Need-differ-requires
 differ-requires c κs = search needs
 
-listed-numbers-requires : tie.Need-listed-numbers-requires
-listed-numbers-requires c κs = search needs
-
-written-number-requires : tie.Need-written-number-requires
-written-number-requires c κs = search needs
+tell-listed-requires : tie.Need-tell-listed-requires
+tell-listed-requires c κs = search needs
 
 same-length : tie.Need-same-length
 same-length c = search needs
@@ -19,7 +16,7 @@ same-length c = search needs
 returns : tie.Need-returns
 returns c =
     let d = c .before .before .before .before .differ .ensures in
-    differ-told (d .0) (d .1) (c .before .listed-numbers .ensures) (c .written-number .ensures)
+    differ-told (d .0) (d .1) (c .tell-listed .ensures)
 
 pub oboecurlew-differ-spec : {M : Type 1} → statement M
-oboecurlew-differ-spec = tie.close (tie.spec differ-requires listed-numbers-requires written-number-requires same-length returns)
+oboecurlew-differ-spec = tie.close (tie.spec differ-requires tell-listed-requires same-length returns)

@@ -7,19 +7,14 @@ use Rattle.records_c.proofs.sweep.oboecurlew_sweep.Tie as tie
 sweep-requires : tie.Need-sweep-requires
 sweep-requires c κs = search needs
 
-swept-numbers-requires : tie.Need-swept-numbers-requires
-swept-numbers-requires c κs = search needs
-
-swept-number-requires : tie.Need-swept-number-requires
-swept-number-requires c κs = search needs
+tell-swept-requires : tie.Need-tell-swept-requires
+tell-swept-requires c κs = search needs
 
 same-length : tie.Need-same-length
 same-length c = search needs
 
 returns : tie.Need-returns
-returns c = sweep-told (c .before .before .before .before .sweep .ensures) (c .before .swept-numbers .ensures) (c .swept-number .ensures)
+returns c = sweep-told (c .before .before .before .before .sweep .ensures) (c .tell-swept .ensures)
 
 pub oboecurlew-sweep-spec : {M : Type 1} → statement M
-oboecurlew-sweep-spec =
-    tie.close
-    (tie.spec sweep-requires swept-numbers-requires swept-number-requires same-length returns)
+oboecurlew-sweep-spec = tie.close (tie.spec sweep-requires tell-swept-requires same-length returns)

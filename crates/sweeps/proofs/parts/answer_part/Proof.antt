@@ -8,8 +8,8 @@ use lib.Seq.{sets, length-sets}
 use denote.Ref.{now}
 use borrow.Author.Needs.{needs}
 use Rattle.tables.specs.Operands.{lendNames}
-use Rattle.columns.specs.Columns.{recordAt}
-use Rattle.columns.proofs.Bases.{next-base}
+use Rattle.block_words.specs.Columns.{recordAt}
+use Rattle.block_words.proofs.Bases.{next-base}
 use Rattle.rules.specs.Calls.{runGives}
 use Rattle.rules.proofs.Places.{run-fits}
 use Rattle.sweeps.specs.Sweep.{laid, answerOf, answersOf}
@@ -20,12 +20,12 @@ use Rattle.sweeps.proofs.parts.answer_part.Statement.{statement}
 use Rattle.sweeps.proofs.parts.answer_part.Tie as tie
 
 abbrev Inv-loop : tie.InvT-loop
-Inv-loop items literals bytes names plan records from size n switches at counts answers₀ out base₀ to₀ j₀ answers base to j =
-    (j ≤ n) × (base ≡ from + j * size) × (to ≡ out + j * 4)
-    × (answers ≡ sets answers₀ out (answersOf (λ content. runGives (lendNames items literals bytes names) plan content switches) (laid j size (drop from records))))
+Inv-loop items literals bytes names plan records switches at counts answers₀ out size n base₀ to₀ j₀ answers base to j =
+    (j ≤ n) × (base ≡ base₀ + j * size) × (to ≡ out + j * 4)
+    × (answers ≡ sets answers₀ out (answersOf (λ content. runGives (lendNames items literals bytes names) plan content switches) (laid j size (drop base₀ records))))
 
 abbrev μ-loop : tie.MeasureT-loop
-μ-loop items literals bytes names plan records from size n switches at counts answers₀ out base₀ to₀ j₀ answers base to j = n - j
+μ-loop items literals bytes names plan records switches at counts answers₀ out size n base₀ to₀ j₀ answers base to j = n - j
 
 loop-holds : tie.Need-loop-holds Inv-loop μ-loop
 unfolding laid answersOf
@@ -37,7 +37,7 @@ add-content c =
     let start = c .before .before .before .before .before .before .before .before .before .before .before in
     let a = start .args in
     let lent = lendNames (now (a .items)) (now (a .literals)) (now (a .bytes)) (now (a .names)) in
-    let within : l .base + a .size ≤ length (now (a .records)) = omega (arith, l .inv .1, inside (start .pre .1 .0) (l .j) (c .loop-test .taken)) in
+    let within : l .base + a .block .size ≤ length (now (a .records)) = omega (arith, l .inv .1, inside (start .pre .1 .0) (l .j) (c .loop-test .taken)) in
     omega (arith, within)
 
 sub-content : tie.Need-sub-content Inv-loop μ-loop
@@ -49,7 +49,7 @@ part-content-start c =
     let start = c .before .before .before .before .before .before .before .before .before .before .before in
     let a = start .args in
     let lent = lendNames (now (a .items)) (now (a .literals)) (now (a .bytes)) (now (a .names)) in
-    let within : l .base + a .size ≤ length (now (a .records)) = omega (arith, l .inv .1, inside (start .pre .1 .0) (l .j) (c .loop-test .taken)) in
+    let within : l .base + a .block .size ≤ length (now (a .records)) = omega (arith, l .inv .1, inside (start .pre .1 .0) (l .j) (c .loop-test .taken)) in
     omega (arith, within)
 
 part-content-end : tie.Need-part-content-end Inv-loop μ-loop
@@ -58,7 +58,7 @@ part-content-end c =
     let start = c .before .before .before .before .before .before .before .before .before .before .before in
     let a = start .args in
     let lent = lendNames (now (a .items)) (now (a .literals)) (now (a .bytes)) (now (a .names)) in
-    let within : l .base + a .size ≤ length (now (a .records)) = omega (arith, l .inv .1, inside (start .pre .1 .0) (l .j) (c .loop-test .taken)) in
+    let within : l .base + a .block .size ≤ length (now (a .records)) = omega (arith, l .inv .1, inside (start .pre .1 .0) (l .j) (c .loop-test .taken)) in
     omega (arith, within)
 
 shared-slice-read-judged-at : tie.Need-shared-slice-read-judged-at Inv-loop μ-loop
@@ -81,9 +81,9 @@ judged-at-requires c κs =
     let start = c .before .before .before .before .before .before .before .before .before .before .before .before .before .before in
     let a = start .args in
     let lent = lendNames (now (a .items)) (now (a .literals)) (now (a .bytes)) (now (a .names)) in
-    let within : l .base + a .size ≤ length (now (a .records)) = omega (arith, l .inv .1, inside (start .pre .1 .0) (l .j) (c .before .before .before .loop-test .taken)) in
-    let width : l .base + a .size - l .base ≡ a .size = omega arith in (
-      runnable lent (now (a .plan)) (now (a .records)) (a .size) (a .switches) (start .pre .0) (l .base) within,
+    let within : l .base + a .block .size ≤ length (now (a .records)) = omega (arith, l .inv .1, inside (start .pre .1 .0) (l .j) (c .before .before .before .loop-test .taken)) in
+    let width : l .base + a .block .size - l .base ≡ a .block .size = omega arith in (
+      runnable lent (now (a .plan)) (now (a .records)) (a .block .size) (a .switches) (start .pre .0) (l .base) within,
       rw (width, l .inv .1) (start .pre .1 .1 .settled (l .j) (omega (
         arith,
         start .pre .1 .0 .few,
@@ -96,15 +96,15 @@ put-answer-requires c κs =
     let start = c .before .before .before .before .before .before .before .before .before .before .before .before .before .before .before .before in
     let a = start .args in
     let lent = lendNames (now (a .items)) (now (a .literals)) (now (a .bytes)) (now (a .names)) in
-    let within : l .base + a .size ≤ length (now (a .records)) = omega (arith, l .inv .1, inside (start .pre .1 .0) (l .j) (c .before .before .before .before .before .loop-test .taken)) in (
-      rw (ran lent (now (a .plan)) (now (a .records)) (a .size) (a .switches) (start .pre .0) (l .base) within (c .before .judged-at .ensures)) (run-fits _ _ _ _),
+    let within : l .base + a .block .size ≤ length (now (a .records)) = omega (arith, l .inv .1, inside (start .pre .1 .0) (l .j) (c .before .before .before .before .before .loop-test .taken)) in (
+      rw (ran lent (now (a .plan)) (now (a .records)) (a .block .size) (a .switches) (start .pre .0) (l .base) within (c .before .judged-at .ensures)) (run-fits _ _ _ _),
       omega (
         arith,
         l .inv .2,
         start .pre .1 .0 .fits,
         ap length (l .inv .3),
-        length-sets (now (a .answers)) (a .out) (answersOf (λ content. runGives lent (now (a .plan)) content (a .switches)) (laid (l .j) (a .size)
-            (drop (a .from) (now (a .records))))),
+        length-sets (now (a .answers)) (a .out) (answersOf (λ content. runGives lent (now (a .plan)) content (a .switches)) (laid (l .j) (a .block .size)
+            (drop (a .block .from) (now (a .records))))),
       ),
     )
 
@@ -114,7 +114,7 @@ add-base c =
     let start = c .before .before .before .before .before .before .before .before .before .before .before .before .before .before .before .before .before .before .before in
     let a = start .args in
     let lent = lendNames (now (a .items)) (now (a .literals)) (now (a .bytes)) (now (a .names)) in
-    let within : l .base + a .size ≤ length (now (a .records)) = omega (
+    let within : l .base + a .block .size ≤ length (now (a .records)) = omega (
       arith,
       l .inv .1,
       inside (start .pre .1 .0) (l .j)
@@ -128,13 +128,13 @@ add-to c =
     let start = c .before .before .before .before .before .before .before .before .before .before .before .before .before .before .before .before .before .before .before in
     let a = start .args in
     let lent = lendNames (now (a .items)) (now (a .literals)) (now (a .bytes)) (now (a .names)) in
-    let within : l .base + a .size ≤ length (now (a .records)) = omega (
+    let within : l .base + a .block .size ≤ length (now (a .records)) = omega (
       arith,
       l .inv .1,
       inside (start .pre .1 .0) (l .j)
           (c .before .before .before .before .before .before .before .before .loop-test .taken),
     ) in
-    omega (arith, l .inv .2, start .pre .1 .0 .fits, start .good .1 .1 .1 .1 .1 .1 .1 .1 .1 .1 .1 .1 .0 .0)
+    omega (arith, l .inv .2, start .pre .1 .0 .fits, start .good .1 .1 .1 .1 .1 .1 .1 .1 .1 .1 .0 .0)
 
 add-j : tie.Need-add-j Inv-loop μ-loop
 add-j c = omega arith
@@ -148,19 +148,19 @@ loop-again c =
     let start = c .before .before .before .before .before .before .before .before .before .before .before .before .before .before .before .before .before .before .before in
     let a = start .args in
     let lent = lendNames (now (a .items)) (now (a .literals)) (now (a .bytes)) (now (a .names)) in
-    let within : l .base + a .size ≤ length (now (a .records)) = omega (
+    let within : l .base + a .block .size ≤ length (now (a .records)) = omega (
       arith,
       l .inv .1,
       inside (start .pre .1 .0) (l .j)
           (c .before .before .before .before .before .before .before .before .loop-test .taken),
     ) in (
       omega arith,
-      next-base (a .from) (l .j) (a .size) (l .inv .1),
+      next-base (a .block .from) (l .j) (a .block .size) (l .inv .1),
       omega (arith, l .inv .2),
-      answered (λ content. runGives lent (now (a .plan)) content (a .switches)) (now (a .records)) (now (a .answers)) (l .answers) (c .before .before .put-answer .last .0) (a .size)
-          (a .from) (a .out) (l .j) (l .base) (l .to)
+      answered (λ content. runGives lent (now (a .plan)) content (a .switches)) (now (a .records)) (now (a .answers)) (l .answers) (c .before .before .put-answer .last .0) (a .block .size)
+          (a .block .from) (a .out) (l .j) (l .base) (l .to)
           (l .inv .1) (l .inv .2) (l .inv .3) (c .before .before .put-answer .ensures ∙ ap (λ v. sets (l .answers) (l .to) (answerOf v)) (ran lent (now (a .plan)) (now (a .records))
-          (a .size) (a .switches) (start .pre .0) (l .base) within (c .before .before .before .before .judged-at .ensures))),
+          (a .block .size) (a .switches) (start .pre .0) (l .base) within (c .before .before .before .before .judged-at .ensures))),
     )
 
 same-length : tie.Need-same-length Inv-loop μ-loop
@@ -168,13 +168,14 @@ same-length c =
     let l = c .before .loop in
     let a = c .before .before .before .before .before .before .before .before .before .before .before .args in
     let lent = lendNames (now (a .items)) (now (a .literals)) (now (a .bytes)) (now (a .names)) in
-    as-long-as (now (a .answers)) (a .out) (answersOf (λ content. runGives lent (now (a .plan)) content (a .switches)) (laid (l .j) (a .size) (drop (a .from) (now (a .records))))) (l .inv .3)
+    let entries = laid (l .j) (a .block .size) (drop (a .block .from) (now (a .records))) in
+    as-long-as (now (a .answers)) (a .out) (answersOf (λ content. runGives lent (now (a .plan)) content (a .switches)) entries) (l .inv .3)
 
 returns : tie.Need-returns Inv-loop μ-loop
 returns c =
     let l = c .before .loop in
     let a = c .before .before .before .before .before .before .before .before .before .before .before .args in
-    let e : l .j ≡ a .n = omega arith in
+    let e : l .j ≡ a .block .n = omega (arith, l .inv .0, c .loop-test .left) in
     rw e at (l .inv .3)
 
 pub answer-part-spec : {M : Type 1} → statement M

@@ -13,7 +13,7 @@ same-length c = search needs
 
 returns : tie.Need-returns
 returns c =
-    let start = c .before .before .before .before .before .before .before .before .before .before .before .before .before .before in
+    let start = c .before .before .before .before .before .before .before .before .before .before .before .before .before .before .before in
     unwalked _ _ _ _ _ _ _ _ (c .before .before .fill .kept .0 ∙ start .pre .1 .0) (start .pre .1 .1) (c .before .before .fill .ensures)
 
 walk-block-requires : tie.Need-walk-block-requires

@@ -12,7 +12,7 @@ use Rattle.tables.proofs.Tests.{both}
 use Rattle.values.specs.Truth.{Sided}
 use Rattle.values.proofs.Reading.{read-relation}
 use Rattle.byte_words.proofs.WordLaws.{Bytes, bytes-of}
-use Rattle.columns.proofs.Sides.{first-readable, first-within, item-inside, within-unnamed}
+use Rattle.block_words.proofs.Firsts.{first-readable, first-within, item-inside, within-unnamed}
 use Rattle.text_columns.proofs.Sides.{Texts, longer, short, text-of, literal-of, items-right, object-right, subject-right}
 use borrow.Author.Needs.{needs}
 use Rattle.text_columns.proofs.rows.judge_relation.Statement.{statement}
@@ -23,7 +23,7 @@ lent s = lendNames (now (s .args .items)) (now (s .args .literals)) (now (s .arg
 
 -- the first record
 abbrev first : tie.Start → List ℕ
-first s = take (s .args .from + s .args .size - s .args .from) (drop (s .args .from) (now (s .args .records)))
+first s = take (s .args .block .from + s .args .block .size - s .args .block .from) (drop (s .args .block .from) (now (s .args .records)))
 
 -- the two sides of the first record
 sides : (s : tie.Start) → Sided (lent s) (first s) (s .args .condition .subject) × Sided (lent s) (first s) (s .args .condition .object)
@@ -77,14 +77,17 @@ is-item-requires c κs = search needs
 is-item-requires-2 : tie.Need-is-item-requires-2
 is-item-requires-2 c κs = search needs
 
-relate-texts-requires : tie.Need-relate-texts-requires
-relate-texts-requires c κs =
-    let e = c .before .before .before .before .before in
+order-bits-requires : tie.Need-order-bits-requires
+order-bits-requires c κs = search needs
+
+compare-texts-requires : tie.Need-compare-texts-requires
+compare-texts-requires c κs =
+    let e = c .before .before .before .before .before .before in
     let s = entry e in
     let J = s .pre .0 .0 in
     let h = short (texts e) in
-    let i = sym (c .before .before .before .before .is-item .ensures) ∙ c .before .before .before .if2 .taken in
-    let j = sym (c .before .before .is-item2 .ensures) ∙ c .before .if3 .taken in (
+    let i = sym (c .before .before .before .before .before .is-item .ensures) ∙ c .before .before .before .before .if2 .taken in
+    let j = sym (c .before .before .before .is-item2 .ensures) ∙ c .before .before .if3 .taken in (
       (J .laid, s .pre .0 .1, s .pre .0 .2),
       rw (e .before .before .before .before .before .before .row-of .ensures, e .before .before .before .before .before .row-of2 .ensures, filled e)
           (text-of J (sides s .0) i (omega arith) h, text-of J (sides s .1) j (omega arith) h),
@@ -95,20 +98,22 @@ same-length c = search needs
 
 returns-2 : tie.Need-returns-2
 returns-2 c =
-    let c4 = c .before .before .before .before in
-    let c7 = c4 .before .before .before in (
-      λ _ k l. let e = c7 .before in
+    let order = c .before .before .before .before in
+    let c5 = order .before in
+    let c8 = c5 .before .before .before in (
+      λ _ k l. let e = c8 .before in
           let s = entry e in
           let J = s .pre .0 .0 in
-          let i = sym (c7 .is-item .ensures) ∙ c4 .before .before .if2 .taken in
-          let j = sym (c4 .before .is-item2 .ensures) ∙ c4 .if3 .taken in
+          let i = sym (c8 .is-item .ensures) ∙ c5 .before .before .if2 .taken in
+          let j = sym (c5 .before .is-item2 .ensures) ∙ c5 .if3 .taken in
           items-right J (s .args .switches) (in-file e .0) (in-file e .1) k l (s .pre .1) (texts e) i j (item-inside J (sides s .0) i) (item-inside J (sides
           s .1) j) (rw (
             e .before .before .before .before .before .before .row-of .ensures,
             e .before .before .before .before .before .row-of2 .ensures,
+            order .order-bits .ensures,
             e .before .asked-of .ensures,
             filled e,
-          ) at (c .before .before .relate-texts .ensures k l)),
+          ) at (c .before .before .compare-texts .ensures k l)),
       λ e. absurd (false≢true (sym e)),
     )
 
@@ -191,7 +196,8 @@ judge-relation-spec =
     filled-size-requires
     is-item-requires
     is-item-requires-2
-    relate-texts-requires
+    order-bits-requires
+    compare-texts-requires
     same-length
     returns-2
     relate-literal-requires

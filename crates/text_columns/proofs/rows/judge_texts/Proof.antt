@@ -17,7 +17,7 @@ enum-known-test c = search needs
 
 judge-relation-requires : tie.Need-judge-relation-requires
 judge-relation-requires c κs =
-    let start = c .before .before .before .before .before .before .before .before .before .before .before .before in
+    let start = c .before .before .before .before .before .before .before .before .before .before .before .before .before in
     ((start .pre .0, omega (arith, c .before .before .before .before .before .if1 .left), start .pre .1), sym (c .before .before .before .before .test-of .ensures) ∙ c .before .before .test .given .1)
 
 enum-told : tie.Need-enum-told

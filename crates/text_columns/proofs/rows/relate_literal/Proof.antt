@@ -25,15 +25,19 @@ short-filled-requires c κs =
     let L = c .before .before .before .before .before .before .before .pre .1 .1 .1 in
     rw (c .operand-bytes .ensures) (L .some, L .most, L .short)
 
-relate-text-requires : tie.Need-relate-text-requires
-relate-text-requires c κs = search needs
+order-bits-requires : tie.Need-order-bits-requires
+order-bits-requires c κs = search needs
+
+compare-text-requires : tie.Need-compare-text-requires
+compare-text-requires c κs = search needs
 
 same-length : tie.Need-same-length
 same-length c = search needs
 
 returns : tie.Need-returns
 returns c = λ k l.
-    rw (c .before .before .before .before .short-filled .ensures, c .before .before .before .before .before .operand-bytes .ensures) at (c .before .before .relate-text .ensures k l)
+    let order = c .before .before .before .before in
+    rw (order .order-bits .ensures, order .before .short-filled .ensures, order .before .before .operand-bytes .ensures) at (c .before .before .compare-text .ensures k l)
 
 pub relate-literal-spec : {M : Type 1} → statement M
 relate-literal-spec =
@@ -45,6 +49,7 @@ relate-literal-spec =
     part-first-end
     operand-bytes-requires
     short-filled-requires
-    relate-text-requires
+    order-bits-requires
+    compare-text-requires
     same-length
     returns)

@@ -6,7 +6,7 @@ use native.Mathlib.Omega.{arith}
 use lib.ListN.{length, getD, drop}
 use denote.Ref.{now}
 use borrow.Author.Needs.{needs}
-use Rattle.literal_words.specs.Found.{writtenOver}
+use Rattle.literal_bytes.specs.Written.{writtenOver}
 use Rattle.vocabulary.proofs.Cells.{fits, part-is, size-is}
 use borrow.Author.Needs.{needs}
 use Rattle.vocabulary.proofs.spellings.copy_word.Statement.{statement}

@@ -4,7 +4,7 @@ use native.Mathlib.Omega.{arith}
 use denote.Ref.{now}
 use Rattle.lines.proofs.Joining.{put-nothing, kept}
 use Rattle.wordings.specs.Sentences.{sentences}
-use Rattle.wordings.proofs.Telling.{no-text, past}
+use Rattle.lines.proofs.Telling.{no-text, past}
 use Rattle.wordings.proofs.sentences.put_sentence.Statement.{statement}
 use Rattle.wordings.proofs.sentences.put_sentence.Tie as tie
 

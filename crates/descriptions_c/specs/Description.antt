@@ -1,0 +1,14 @@
+-- What `describe` gives to C and COBOL.
+use mathlib.Core.List.{List}
+use Prim.Native.Nat.{ℕ}
+use Rattle.describing.specs.declared.Described.{Described}
+use Rattle.describing.specs.Calls.{number, DescribedBy}
+use Rattle.answers.specs.Answer.{Told}
+use Rattle.text_answers.specs.Description.{describedNumbers}
+
+-- what the library's call gives, told
+pub record Describes (text rows places names name-places literals bytes : List ℕ) (returned : ℕ)
+    (answer rows-after places-after names-after name-places-after literals-after bytes-after : List ℕ) : Type 0 where
+  pub given : Described
+  pub described : DescribedBy text rows places names name-places literals bytes given rows-after places-after names-after name-places-after literals-after bytes-after
+  pub told : Told (number given) (describedNumbers given) returned answer

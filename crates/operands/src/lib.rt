@@ -1,0 +1,4 @@
+// Tokens that name something: whether it is there, its row and its bytes.
+
+pub mod named; // what an operand token names
+pub mod tokens; // which tokens there are

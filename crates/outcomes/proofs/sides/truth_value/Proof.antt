@@ -1,0 +1,21 @@
+-- Rests on the law that a truth is exchanged where it differs from what NOT says.
+use mathlib.Core.Path.{_≡_, refl}
+use mathlib.Core.Bool.{Bool, true, false, not, Bool·beq}
+use Rattle.values.specs.Truth.{turned}
+use Rattle.outcomes.proofs.sides.truth_value.Statement.{statement}
+use Rattle.outcomes.proofs.sides.truth_value.Tie as tie
+
+turned-differs : (a b : Bool) → not (Bool·beq a b) ≡ turned a b
+turned-differs true true = refl
+turned-differs true false = refl
+turned-differs false true = refl
+turned-differs false false = refl
+
+returns : tie.Need-returns
+returns c = rw (← turned-differs (c .before .args .negated) (c .before .args .holds), c .if1 .taken)
+
+returns-2 : tie.Need-returns-2
+returns-2 c = rw (← turned-differs (c .before .args .negated) (c .before .args .holds), c .if1 .left)
+
+pub truth-value-spec : {M : Type 1} → statement M
+truth-value-spec = tie.close (tie.spec returns returns-2)

@@ -1,0 +1,58 @@
+-- Nothing where the byte is seen; else words and two digits, which are one text.
+use Rattle.lines.proofs.Joining.{joined}
+use borrow.Author.Needs.{needs}
+use Rattle.report.proofs.messages.put_unseen.Statement.{statement}
+use Rattle.report.proofs.messages.put_unseen.Tie as tie
+
+slice-aggregate-put : tie.Need-slice-aggregate-put
+slice-aggregate-put c = search needs
+
+put-requires : tie.Need-put-requires
+put-requires c κs = search needs
+
+same-length : tie.Need-same-length
+same-length c = search needs
+
+returns : tie.Need-returns
+returns c = rw (c .before .before .before .before .before .if1 .taken) (c .before .before .put .ensures)
+
+slice-aggregate-put-2 : tie.Need-slice-aggregate-put-2
+slice-aggregate-put-2 c = search needs
+
+put-requires-2 : tie.Need-put-requires-2
+put-requires-2 c κs = search needs
+
+put-hex-requires : tie.Need-put-hex-requires
+put-hex-requires c κs = search needs
+
+slice-aggregate-put-3 : tie.Need-slice-aggregate-put-3
+slice-aggregate-put-3 c = search needs
+
+put-requires-3 : tie.Need-put-requires-3
+put-requires-3 c κs = search needs
+
+same-length-2 : tie.Need-same-length-2
+same-length-2 c = search needs
+
+returns-2 : tie.Need-returns-2
+returns-2 c =
+    let L = c .before .before .before .before .before .before .before .before .before .before .before .put2 .ensures in
+    let H = c .before .before .before .before .before .before .before .put-hex .ensures in
+    let F = c .before .before .put3 .ensures in
+    rw (c .before .before .before .before .before .before .before .before .before .before .before .before .before .before .if1 .left) (joined (joined L H) F)
+
+pub put-unseen-spec : {M : Type 1} → statement M
+put-unseen-spec =
+    tie.close
+    (tie.spec
+    slice-aggregate-put
+    put-requires
+    same-length
+    returns
+    slice-aggregate-put-2
+    put-requires-2
+    put-hex-requires
+    slice-aggregate-put-3
+    put-requires-3
+    same-length-2
+    returns-2)
