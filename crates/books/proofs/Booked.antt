@@ -13,7 +13,7 @@ use Rattle.description.specs.Grammar.{Value, single, range, Condition, Row, Pai
 use Rattle.description.specs.Limits.{Outcome, table, refusal, describe}
 use Rattle.description.proofs.Keeping.{within}
 use Rattle.spelling.specs.Names.{numbers}
-use Rattle.spelling.proofs.Describing.{length-map, few-bytes}
+use Rattle.spelling.proofs.Describing.{length-map, fewBytes}
 use Rattle.lexer.proofs.Writing.{bytes-over, rest-length}
 use Rattle.literal_bytes.specs.Written.{writtenOver}
 use Rattle.name_entries.specs.Named.{pairNumbers}
@@ -65,8 +65,8 @@ names-numbers k (c ∷ cs) f =
 
 module _ {text rows places names others literal-rows bytes : List ℕ} (r : Described) {rows-after places-after names-after others-after literals-after bytes-after : List ℕ}
     (D : DescribedBy text rows places names others literal-rows bytes r rows-after places-after names-after others-after literals-after bytes-after)
-    (rows-room : 320 ≤ length rows) (places-room : 128 ≤ length places) (names-room : 1152 ≤ length names) (others-room : 64 ≤ length others)
-    (literals-room : 320 ≤ length literal-rows) (bytes-room : 4096 ≤ length bytes) where
+    (rowsRoom : 320 ≤ length rows) (places-room : 128 ≤ length places) (names-room : 1152 ≤ length names) (others-room : 64 ≤ length others)
+    (literals-room : 320 ≤ length literal-rows) (bytesRoom : 4096 ≤ length bytes) where
   -- the outcome of a valid description
   whole : (t : Table) → describe text ≡ table t
       → r ≡ Counts (length (rowsOf t)) (length (placesOf t)) (length (namesOf t)) (length (namePlacesOf t)) (length (literalsOf t)) (length (t .bytes))
@@ -78,7 +78,7 @@ module _ {text rows places names others literal-rows bytes : List ℕ} (r : Desc
       let n3 = le-leb (length (namesOf t)) (length names) (omega (arith, named, names-numbers 0 (t .conditions) (λ j d l. w .name-kept j d l .few), w .names)) in
       let n4 = le-leb (length (namePlacesOf t)) (length others) (omega (arith, few-conditions text t e)) in
       let n5 = le-leb (length (literalsOf t)) (length literal-rows) (omega (arith, ap length (same-numbers (t .literals)), few-rows text t e)) in
-      let n6 = le-leb (length (t .bytes)) (length bytes) (omega (arith, few-bytes text t e)) in
+      let n6 = le-leb (length (t .bytes)) (length bytes) (omega (arith, fewBytes text t e)) in
       D .answered ∙ rw (e, n1, n2, n3, n4, n5, n6)
 
   faulty : (p : ℕ) → describe text ≡ refusal p → r ≡ Faulty p
@@ -92,10 +92,10 @@ module _ {text rows places names others literal-rows bytes : List ℕ} (r : Desc
     pub conditions : k ≡ length (namePlacesOf t)
     pub row-numbers : v ≡ length (numbers (t .literals))
     pub byte-count : b ≡ length (t .bytes)
-    pub places-are : places-after ≡ placesOf t ++ drop (length (placesOf t)) places
+    pub placesAre : places-after ≡ placesOf t ++ drop (length (placesOf t)) places
     pub others-are : others-after ≡ namePlacesOf t ++ drop (length (namePlacesOf t)) others
-    pub rows-are : literals-after ≡ numbers (t .literals) ++ drop (length (literalsOf t)) literal-rows
-    pub bytes-are : bytes-after ≡ t .bytes ++ drop (length (t .bytes)) bytes
+    pub rowsAre : literals-after ≡ numbers (t .literals) ++ drop (length (literalsOf t)) literal-rows
+    pub bytesAre : bytes-after ≡ t .bytes ++ drop (length (t .bytes)) bytes
 
   pub told : {a n c k v b : ℕ} → r ≡ Counts a n c k v b → Told n k v b
   told {a} {n} {c} {k} {v} {b} q = by (describe text) refl
@@ -110,10 +110,10 @@ module _ {text rows places names others literal-rows bytes : List ℕ} (r : Desc
             conditions = cc;
             row-numbers = let n : v ≡ length (literalsOf t) = cc in n ∙ ap length (same-numbers (t .literals));
             byte-count = cc;
-            places-are = D .places-written ∙ rw (s, e);
-            others-are = D .name-places-written ∙ rw (s, e);
-            rows-are = D .literals-written ∙ rw (s, e) (ap (λ (x : List ℕ). x ++ drop (length (literalsOf t)) literal-rows) (same-numbers (t .literals)));
-            bytes-are = D .bytes-written ∙ rw (s, e);
+            placesAre = D .placesWritten ∙ rw (s, e);
+            others-are = D .namePlacesWritten ∙ rw (s, e);
+            rowsAre = D .literalsWritten ∙ rw (s, e) (ap (λ (x : List ℕ). x ++ drop (length (literalsOf t)) literal-rows) (same-numbers (t .literals)));
+            bytesAre = D .bytesWritten ∙ rw (s, e);
           }
       by (refusal p) e = let s = faulty p e in let z : _≡_ {A = ℕ} 0 1 = cc in absurd (omega arith)
 
@@ -128,7 +128,7 @@ module _ {text rows places names others literal-rows bytes : List ℕ} (r : Desc
         let i = few-items text (T .t) (T .e) in
         let j = few-conditions text (T .t) (T .e) in
         let d = length-drop (length (placesOf (T .t))) places in
-        let p = ap length (T .places-are) in
+        let p = ap length (T .placesAre) in
         let o = ap length (T .others-are) in
         let h : n ≤ 64 = omega (arith, T .items) in
         let g : k ≤ 64 = omega (arith, T .conditions) in
@@ -148,11 +148,11 @@ module _ {text rows places names others literal-rows bytes : List ℕ} (r : Desc
         let ps : List ℕ = placesOf (T .t) in
         let cs : List ℕ = namePlacesOf (T .t) in
         let rest : List ℕ = drop (length ps) places in
-        let places-front : take n places-after ≡ ps = ap (take n) (T .places-are) ∙ front ps rest n (T .items) in
+        let places-front : take n places-after ≡ ps = ap (take n) (T .placesAre) ∙ front ps rest n (T .items) in
         let all-of : putMid n (length places-after - n) places-after back ≡ ps ++ (cs ++ drop (n + length cs) places-after) =
         w ∙ ap₂ (λ (x y : List ℕ). x ++ (y ++ drop (n + length y) places-after)) places-front others-front in
         record {
-          gives = book-given text (T .t) (T .e) (drop (n + length cs) places-after) _ _ (T .items) (T .conditions) (T .row-numbers) (T .byte-count) all-of (T .rows-are) (T .bytes-are);
+          gives = book-given text (T .t) (T .e) (drop (n + length cs) places-after) _ _ (T .items) (T .conditions) (T .row-numbers) (T .byte-count) all-of (T .rowsAre) (T .bytesAre);
         }
 
   pub described-faulty : {p : ℕ} {ps rs bs : List ℕ} → r ≡ Faulty p → NamedBy text (Unnamed p) ps rs bs

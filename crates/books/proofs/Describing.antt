@@ -12,7 +12,7 @@ use Rattle.description.specs.Grammar.{Entry, Condition, Row, Table, Literal as 
 use Rattle.description.specs.Limits.{Outcome, table, refusal, describe}
 use Rattle.description.proofs.Keeping.{within}
 use Rattle.spelling.specs.Names.{namesAt, Known, knownBy, knownOf, numbers}
-use Rattle.spelling.proofs.Describing.{length-map, few-bytes}
+use Rattle.spelling.proofs.Describing.{length-map, fewBytes}
 use Rattle.naming.specs.Named.{knownAt}
 use Rattle.books.specs.declared.Book.{Book}
 use Rattle.books.specs.Calls.{NamesFound}
@@ -75,13 +75,13 @@ module _ (text : List ℕ) (t : Table) (e : describe text ≡ table t) where
       record {
         found = t;
         described = e;
-        known-are = rw w (known-found others n k p q);
-        rows-are = rw x (front (numbers (t .literals)) rows-rest (v / 5 * 5) five);
-        bytes-are = rw y (front (t .bytes) bytes-rest b s);
-        few-places = omega (arith, few-items, few-conditions);
+        knownAre = rw w (known-found others n k p q);
+        rowsAre = rw x (front (numbers (t .literals)) rows-rest (v / 5 * 5) five);
+        bytesAre = rw y (front (t .bytes) bytes-rest b s);
+        fewPlaces = omega (arith, few-items, few-conditions);
         within = omega arith;
         there = omega (arith, ap length w, length-append ps (cs ++ others), length-append cs others);
-        few-literals = omega (arith, numbers-length (t .literals), literals-count, r);
-        few-bytes = omega (arith, few-bytes text t e);
+        fewLiterals = omega (arith, numbers-length (t .literals), literals-count, r);
+        fewBytes = omega (arith, fewBytes text t e);
         short = within text t e .short;
       }

@@ -31,7 +31,7 @@ module _ (t r b tokens literals content : List ℕ) (n v k : ℕ) (en : n ≡ le
   Gives answer x y z = ReadAs (counted t r b) tokens literals content answer x y z
 
   pub not-counted : leb 1 n && leb n 256 ≡ false → Gives TokenCount tokens literals content
-  not-counted e = rw (rw en at e) record { answered = refl; tokens-written = refl; literals-written = refl; content-written = refl }
+  not-counted e = rw (rw en at e) record { answered = refl; tokensWritten = refl; literalsWritten = refl; contentWritten = refl }
 
   module _ (e : leb 1 n && leb n 256 ≡ true) where
     counted-so : leb 1 (length t) && leb (length t) 256 ≡ true
@@ -40,7 +40,7 @@ module _ (t r b tokens literals content : List ℕ) (n v k : ℕ) (en : n ≡ le
     pub no-tokens : length tokens < n → Gives (Room n) tokens literals content
     no-tokens h =
         let a = lt-leb (length t) (length tokens) (omega (arith, en)) in
-        rw (counted-so, en) record { answered = rw a; tokens-written = refl; literals-written = refl; content-written = refl }
+        rw (counted-so, en) record { answered = rw a; tokensWritten = refl; literalsWritten = refl; contentWritten = refl }
 
     module _ (h : n ≤ length tokens) where
       first : leb (length t) (length tokens) ≡ true
@@ -49,7 +49,7 @@ module _ (t r b tokens literals content : List ℕ) (n v k : ℕ) (en : n ≡ le
       pub no-rows : length literals < v → Gives (Room v) tokens literals content
       no-rows g =
           let a = lt-leb (length r) (length literals) (omega (arith, ev)) in
-          rw (counted-so, ev) record { answered = rw (first, a); tokens-written = refl; literals-written = refl; content-written = refl }
+          rw (counted-so, ev) record { answered = rw (first, a); tokensWritten = refl; literalsWritten = refl; contentWritten = refl }
 
       module _ (g : v ≤ length literals) where
         second : leb (length r) (length literals) ≡ true
@@ -58,24 +58,24 @@ module _ (t r b tokens literals content : List ℕ) (n v k : ℕ) (en : n ≡ le
         pub no-bytes : length content < k → Gives (Room k) tokens literals content
         no-bytes l =
             let a = lt-leb (length b) (length content) (omega (arith, ek)) in
-            rw (counted-so, ek) record { answered = rw (first, second, a); tokens-written = refl; literals-written = refl; content-written = refl }
+            rw (counted-so, ek) record { answered = rw (first, second, a); tokensWritten = refl; literalsWritten = refl; contentWritten = refl }
 
         pub all-given : {x y z : List ℕ} → k ≤ length content → x ≡ writtenOver t tokens → y ≡ writtenOver r literals → z ≡ writtenOver b content
             → Gives (Counts n v k) x y z
         all-given l p q s =
             let a = le-leb (length b) (length content) (omega (arith, ek)) in
-            rw (counted-so, en, ev, ek) record { answered = rw (first, second, a); tokens-written = p; literals-written = q; content-written = s }
+            rw (counted-so, en, ev, ek) record { answered = rw (first, second, a); tokensWritten = p; literalsWritten = q; contentWritten = s }
 
 -- what was gathered is the reading
 module _ {book : Book} {text tokens rows bytes : List ℕ} (x : Lexed) (L : Lexes book text x tokens rows bytes) where
   pub whole-sizes : {g : Gathered} → x ≡ Whole g → (g .tokens ≤ 2048) × (g .literals ≤ 64) × (g .bytes ≤ 6144)
-  whole-sizes e = let H = subst (λ (y : Lexed). Lexes book text y tokens rows bytes) e L .gives in (H .few-tokens, H .few-literals, H .few-bytes)
+  whole-sizes e = let H = subst (λ (y : Lexed). Lexes book text y tokens rows bytes) e L .gives in (H .fewTokens, H .fewLiterals, H .fewBytes)
 
   pub whole-reading : {g : Gathered} → x ≡ Whole g → counted (take (g .tokens) tokens) (take (g .literals * 5) rows) (take (g .bytes) bytes) ≡ reading book text
   unfolding reading
   whole-reading e =
       let H = subst (λ (y : Lexed). Lexes book text y tokens rows bytes) e L .gives in
-      rw (H .faultless, ← (H .tokens-are), ← (H .rows-are), ← (H .bytes-are))
+      rw (H .faultless, ← (H .tokensAre), ← (H .rowsAre), ← (H .bytesAre))
 
   pub fault-reading : {number place : ℕ} → x ≡ Fault number place → refused number place ≡ reading book text
   unfolding reading
@@ -95,9 +95,9 @@ refused-reading {R} {number} {place} {answer} {tokens} {literals} {content} e f 
     rw (← e, f)
     record {
       answered = refl;
-      tokens-written = kept (eqb number 14) (eqb number 15) (eqb number 16) place [] tokens;
-      literals-written = kept (eqb number 14) (eqb number 15) (eqb number 16) place [] literals;
-      content-written = kept (eqb number 14) (eqb number 15) (eqb number 16) place [] content;
+      tokensWritten = kept (eqb number 14) (eqb number 15) (eqb number 16) place [] tokens;
+      literalsWritten = kept (eqb number 14) (eqb number 15) (eqb number 16) place [] literals;
+      contentWritten = kept (eqb number 14) (eqb number 15) (eqb number 16) place [] content;
     }
 
 pub as-reading : {R S : Reading} {tokens literals content x y z : List ℕ} {answer : Recognized} → R ≡ S → ReadAs R tokens literals content answer x y z → ReadAs S tokens literals content answer x y z
@@ -113,7 +113,7 @@ module _ {description : List ℕ} (d : Named) {places rows bytes : List ℕ} (N 
   named-reading {b} condition e =
       let F = book-found e in
       let t = F .found in
-      let same : bookIn (knownAt description (b .items) (take (b .places) places)) (b .literals) (b .bytes) rows bytes ≡ bookOf description t = rw (F .known-are, F .rows-are, F .bytes-are) in
+      let same : bookIn (knownAt description (b .items) (take (b .places) places)) (b .literals) (b .bytes) rows bytes ≡ bookOf description t = rw (F .knownAre, F .rowsAre, F .bytesAre) in
       ap (λ (x : Book). reading x condition) same ∙ sym (ap (λ (o : Outcome). readAfter description o condition) (F .described))
 
   pub undescribed-reading : {p : ℕ} (condition : List ℕ) → d ≡ Faulty p → refused 14 p ≡ readCondition description condition
@@ -125,4 +125,4 @@ module _ {description : List ℕ} (d : Named) {places rows bytes : List ℕ} (N 
   places-listed {b} e =
       let F = book-found e in
       let l = length-take-le (b .places) places (F .there) in
-      record { few = omega (arith, l, F .few-places); within = omega (arith, l, F .within) }
+      record { few = omega (arith, l, F .fewPlaces); within = omega (arith, l, F .within) }

@@ -92,11 +92,11 @@ outputOf TokenCount out before = before
 outputOf (Room n) out before = before
 
 -- The whole answer of `read`, and its three outputs.
-pub record ReadAs (reading : Reading) (tokens literals content : List ℕ) (r : Recognized) (tokens-after literals-after content-after : List ℕ) : Type 0 where
+pub record ReadAs (reading : Reading) (tokens literals content : List ℕ) (r : Recognized) (tokensAfter literalsAfter contentAfter : List ℕ) : Type 0 where
   pub answered : r ≡ readAnswer reading (length tokens) (length literals) (length content)
-  pub tokens-written : tokens-after ≡ outputOf r (tokensOf reading) tokens
-  pub literals-written : literals-after ≡ outputOf r (rowsOf reading) literals
-  pub content-written : content-after ≡ outputOf r (contentOf reading) content
+  pub tokensWritten : tokensAfter ≡ outputOf r (tokensOf reading) tokens
+  pub literalsWritten : literalsAfter ≡ outputOf r (rowsOf reading) literals
+  pub contentWritten : contentAfter ≡ outputOf r (contentOf reading) content
 
 -- the answer that a refusal of printing is
 abbrev pub unprintedAs : ℕ → ℕ → Printed
@@ -128,14 +128,14 @@ pub record PrintedAs (print : Print) (before : List ℕ) (r : Printed) (after : 
 pub record NamesFound (description places rows bytes : List ℕ) (b : Book) : Type 0 where
   pub found : Table
   pub described : describe description ≡ table found
-  pub known-are : knownAt description (b .items) (take (b .places) places) ≡ knownOf description found
-  pub rows-are : take (b .literals * rowWidth) rows ≡ numbers (found .literals)
-  pub bytes-are : take (b .bytes) bytes ≡ found .bytes
-  pub few-places : b .places ≤ 128
+  pub knownAre : knownAt description (b .items) (take (b .places) places) ≡ knownOf description found
+  pub rowsAre : take (b .literals * rowWidth) rows ≡ numbers (found .literals)
+  pub bytesAre : take (b .bytes) bytes ≡ found .bytes
+  pub fewPlaces : b .places ≤ 128
   pub within : b .items ≤ b .places
   pub there : b .places ≤ length places
-  pub few-literals : b .literals ≤ 64
-  pub few-bytes : b .bytes ≤ 4096
+  pub fewLiterals : b .literals ≤ 64
+  pub fewBytes : b .bytes ≤ 4096
   pub short : length description ≤ 4096
 
 abbrev pub NamedGives : List ℕ → List ℕ → List ℕ → List ℕ → Named → Type 0
@@ -150,19 +150,19 @@ abbrev pub counted : List ℕ → List ℕ → List ℕ → Reading
 counted t r b = cond (leb 1 (length t) && leb (length t) 256) (read t r b) (refused 5 0)
 
 abbrev pub Gives : List ℕ → List ℕ → List ℕ → List ℕ → List ℕ → List ℕ → Recognized → List ℕ → List ℕ → List ℕ → Type 0
-Gives t r b tokens literals content answer tokens-after literals-after content-after =
-    ReadAs (counted t r b) tokens literals content answer tokens-after literals-after content-after
+Gives t r b tokens literals content answer tokensAfter literalsAfter contentAfter =
+    ReadAs (counted t r b) tokens literals content answer tokensAfter literalsAfter contentAfter
 
 -- what 14 and 3 to 5 leave
 pub record Sized (description : List ℕ) (items : ℕ) (places rows content tokens : List ℕ) : Type 0 where
   pub short : length description ≤ 4096
   pub listed : Listed items places
-  pub table-sound : literalTableCheck (lend [] rows content) ≡ Sound
-  pub rows-sound : literalRowCheck (lend [] rows content) ≡ Sound
-  pub count-sound : tokenCountCheck tokens ≡ Sound
+  pub tableSound : literalTableCheck (lend [] rows content) ≡ Sound
+  pub rowsSound : literalRowCheck (lend [] rows content) ≡ Sound
+  pub countSound : tokenCountCheck tokens ≡ Sound
 
 -- and 6 and 16
 pub record Prepared (description : List ℕ) (items : ℕ) (places rows content tokens : List ℕ) : Type 0 where
   pub sized : Sized description items places rows content tokens
-  pub all-there : length tokens ≤ passing (printable (knownAt description items places) rows) tokens
-  pub all-named : length tokens ≤ passing (hasName (knownAt description items places)) tokens
+  pub allThere : length tokens ≤ passing (printable (knownAt description items places) rows) tokens
+  pub allNamed : length tokens ≤ passing (hasName (knownAt description items places)) tokens

@@ -8,6 +8,6 @@ use Rattle.merging.specs.Merge.{Copies}
 -- the copies are equally long, every row lies in them, and so many bytes of output are lent
 pub record Ready (copies : Copies) (out : ℕ) : Type 0 where
   pub lies : (v : ℕ) → v < rowCount (copies .items) → rowAt (copies .items) v .offset + rowAt (copies .items) v .size ≤ length (copies .old)
-  pub first-long : length (copies .first) ≡ length (copies .old)
-  pub second-long : length (copies .second) ≡ length (copies .old)
-  pub out-long : out ≡ length (copies .old)
+  pub firstLong : length (copies .first) ≡ length (copies .old)
+  pub secondLong : length (copies .second) ≡ length (copies .old)
+  pub outLong : out ≡ length (copies .old)

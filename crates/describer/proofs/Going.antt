@@ -85,7 +85,7 @@ abbrev pub found : ℕ → Bool → ℕ → Names → Found
 found n w p s = record { count = n; whole = w; place = p; names = s }
 
 abbrev pub Reads : List ℕ → List ℕ → List ℕ → List ℕ → List ℕ → Found → Type 0
-Reads text flat rows places notes r = ReadBy text text (readText text) flat rows places notes r
+Reads text flat rows places notes r = ReadBy text (readText text) flat rows places notes r
 
 pub begins : (text flat stack rows places notes : List ℕ) → 821 ≤ length stack → Going text flat stack rows places notes 0 0 0 0 (names false 0 0 0 0)
 unfolding readText notedFrom opened

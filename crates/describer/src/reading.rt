@@ -52,7 +52,7 @@ pub fn read_entries(
 ) -> Found
     requires { ⌜ (length (now text) ≤ 4096) × ((5747 ≤ length (now entries)) × (821 ≤ length (now stack))) ⌝ }
     requires { ⌜ (1152 ≤ length (now names)) × ((64 ≤ length (now places)) × ((448 ≤ length (now notes)) × (length (now row) ≡ nameWidth))) ⌝ }
-    ensures { λ r. ⌜ ReadBy (now (text .entry)) (now (text .entry)) (readText (now (text .entry))) (now (entries .exit)) (now (names .exit)) (now (places .exit)) (now (notes .exit)) r ⌝ }
+    ensures { λ r. ⌜ ReadBy (now (text .entry)) (readText (now (text .entry))) (now (entries .exit)) (now (names .exit)) (now (places .exit)) (now (notes .exit)) r ⌝ }
 {
     let mut depth: usize = 0;
     let mut waiting: u32 = 0;

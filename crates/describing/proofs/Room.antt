@@ -62,12 +62,12 @@ all-room f h q =
     let s5 = room-here (leb (n .literals) (h .literals)) _ (n .literals) (s4 .1) in
     let s6 = room-here (leb (n .bytes) (h .bytes)) _ (n .bytes) (s5 .1) in
     record {
-      for-rows = leb-true (n .rows) (h .rows) (s1 .0);
-      for-places = leb-true (n .places) (h .places) (s2 .0);
-      for-names = leb-true (n .names) (h .names) (s3 .0);
-      for-name-places = leb-true (n .spots) (h .spots) (s4 .0);
-      for-literals = leb-true (n .literals) (h .literals) (s5 .0);
-      for-bytes = leb-true (n .bytes) (h .bytes) (s6 .0);
+      forRows = leb-true (n .rows) (h .rows) (s1 .0);
+      forPlaces = leb-true (n .places) (h .places) (s2 .0);
+      forNames = leb-true (n .names) (h .names) (s3 .0);
+      forNamePlaces = leb-true (n .spots) (h .spots) (s4 .0);
+      forLiterals = leb-true (n .literals) (h .literals) (s5 .0);
+      forBytes = leb-true (n .bytes) (h .bytes) (s6 .0);
     }
 
 module _ {text laid flat named spots notes : List ℕ} {f : Found} {rows places names name-places literals bytes : List ℕ} where
@@ -78,12 +78,12 @@ module _ {text laid flat named spots notes : List ℕ} {f : Found} {rows places 
       o6 ≡ over (bytesFrom text notes 0 (f .names .literals)) bytes → Wrote text laid flat named spots notes f rows places names name-places literals bytes o1 o2 o3 o4 o5 o6
   wrote r e1 e2 e3 e4 e5 e6 =
       record {
-        rows-are = rw (length-take-le (f .count * 5) laid (r .rows)) e1;
-        places-are = rw (named-length flat (f .count)) e2;
-        names-are = rw (length-take-le (f .names .count * 18) named (r .names)) e3;
-        name-places-are = rw (length-take-le (f .names .count) spots (r .places)) e4;
-        literals-are = rw (rows-length notes 0 (f .names .literals)) e5;
-        bytes-are = e6;
+        rowsAre = rw (length-take-le (f .count * 5) laid (r .rows)) e1;
+        placesAre = rw (named-length flat (f .count)) e2;
+        namesAre = rw (length-take-le (f .names .count * 18) named (r .names)) e3;
+        namePlacesAre = rw (length-take-le (f .names .count) spots (r .places)) e4;
+        literalsAre = rw (rows-length notes 0 (f .names .literals)) e5;
+        bytesAre = e6;
       }
 
   module _ {r : Described} (e : r ≡ roomFor (needed f) (sizes (length rows) (length places) (length names) (length name-places) (length literals) (length bytes))) where
@@ -93,12 +93,12 @@ module _ {text laid flat named spots notes : List ℕ} {f : Found} {rows places 
     given-all q w =
         record {
           answered = e;
-          rows-written = rw q (w .rows-are);
-          places-written = rw q (w .places-are);
-          names-written = rw q (w .names-are);
-          name-places-written = rw q (w .name-places-are);
-          literals-written = rw q (w .literals-are);
-          bytes-written = rw q (w .bytes-are);
+          rowsWritten = rw q (w .rowsAre);
+          placesWritten = rw q (w .placesAre);
+          namesWritten = rw q (w .namesAre);
+          namePlacesWritten = rw q (w .namePlacesAre);
+          literalsWritten = rw q (w .literalsAre);
+          bytesWritten = rw q (w .bytesAre);
         }
 
     -- a refusal
@@ -107,12 +107,12 @@ module _ {text laid flat named spots notes : List ℕ} {f : Found} {rows places 
     given-room q =
         record {
           answered = sym q ∙ e;
-          rows-written = refl;
-          places-written = refl;
-          names-written = refl;
-          name-places-written = refl;
-          literals-written = refl;
-          bytes-written = refl;
+          rowsWritten = refl;
+          placesWritten = refl;
+          namesWritten = refl;
+          namePlacesWritten = refl;
+          literalsWritten = refl;
+          bytesWritten = refl;
         }
 
     pub given-faulty : {p : ℕ} → r ≡ Faulty p →
@@ -120,10 +120,10 @@ module _ {text laid flat named spots notes : List ℕ} {f : Found} {rows places 
     given-faulty q =
         record {
           answered = sym q ∙ e;
-          rows-written = refl;
-          places-written = refl;
-          names-written = refl;
-          name-places-written = refl;
-          literals-written = refl;
-          bytes-written = refl;
+          rowsWritten = refl;
+          placesWritten = refl;
+          namesWritten = refl;
+          namePlacesWritten = refl;
+          literalsWritten = refl;
+          bytesWritten = refl;
         }

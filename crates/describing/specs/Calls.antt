@@ -60,11 +60,11 @@ literalsOf t = rowNumbers (t .literals)
 
 -- the room that each output needs, and the room that it has: the first that lacks room is told
 abbrev pub room : ℕ → ℕ → ℕ → ℕ → ℕ → ℕ → ℕ → ℕ → ℕ → ℕ → ℕ → ℕ → Described
-room a b c d e f rows places names name-places literals bytes =
+room a b c d e f rows places names namePlaces literals bytes =
     cond (leb a rows)
     (cond (leb b places)
     (cond (leb c names)
-    (cond (leb d name-places) (cond (leb e literals) (cond (leb f bytes) (Counts a b c d e f) (Room f)) (Room e)) (Room d))
+    (cond (leb d namePlaces) (cond (leb e literals) (cond (leb f bytes) (Counts a b c d e f) (Room f)) (Room e)) (Room d))
     (Room c))
     (Room b))
     (Room a)
@@ -72,10 +72,10 @@ room a b c d e f rows places names name-places literals bytes =
 -- "Other text is refused with 14 ..; the smallest place wins, then 10"; "writing calls give each output's count, outputs in the order
 -- named"
 abbrev pub answer : Outcome → ℕ → ℕ → ℕ → ℕ → ℕ → ℕ → Described
-answer (table t) rows places names name-places literals bytes =
+answer (table t) rows places names namePlaces literals bytes =
     room (length (rowsOf t)) (length (placesOf t)) (length (namesOf t)) (length (namePlacesOf t)) (length (literalsOf t)) (length (t .bytes))
-    rows places names name-places literals bytes
-answer (refusal p) rows places names name-places literals bytes = Faulty p
+    rows places names namePlaces literals bytes
+answer (refusal p) rows places names namePlaces literals bytes = Faulty p
 
 abbrev pub rowsIn : Outcome → List ℕ
 rowsIn (table t) = rowsOf t
@@ -108,16 +108,16 @@ written (Faulty p) out before = before
 written (Room n) out before = before
 
 -- The whole answer and the six outputs.
-pub record DescribedBy (text rows places names name-places literals bytes : List ℕ) (r : Described)
-    (rows-after places-after names-after name-places-after literals-after bytes-after : List ℕ) : Type 0 where
+pub record DescribedBy (text rows places names namePlaces literals bytes : List ℕ) (r : Described)
+    (rowsAfter placesAfter namesAfter namePlacesAfter literalsAfter bytesAfter : List ℕ) : Type 0 where
   pub answered : r
-      ≡ answer (Limits.describe text) (length rows) (length places) (length names) (length name-places) (length literals) (length bytes)
-  pub rows-written : rows-after ≡ written r (rowsIn (Limits.describe text)) rows
-  pub places-written : places-after ≡ written r (placesIn (Limits.describe text)) places
-  pub names-written : names-after ≡ written r (namesIn (Limits.describe text)) names
-  pub name-places-written : name-places-after ≡ written r (namePlacesIn (Limits.describe text)) name-places
-  pub literals-written : literals-after ≡ written r (literalsIn (Limits.describe text)) literals
-  pub bytes-written : bytes-after ≡ written r (bytesIn (Limits.describe text)) bytes
+      ≡ answer (Limits.describe text) (length rows) (length places) (length names) (length namePlaces) (length literals) (length bytes)
+  pub rowsWritten : rowsAfter ≡ written r (rowsIn (Limits.describe text)) rows
+  pub placesWritten : placesAfter ≡ written r (placesIn (Limits.describe text)) places
+  pub namesWritten : namesAfter ≡ written r (namesIn (Limits.describe text)) names
+  pub namePlacesWritten : namePlacesAfter ≡ written r (namePlacesIn (Limits.describe text)) namePlaces
+  pub literalsWritten : literalsAfter ≡ written r (literalsIn (Limits.describe text)) literals
+  pub bytesWritten : bytesAfter ≡ written r (bytesIn (Limits.describe text)) bytes
 
 -- What private functions promise: the buffers hold the complete entries of the text, byte 4,096 being faulty; and which place over a limit
 -- is the smallest.
@@ -165,39 +165,39 @@ pub record Ready (text laid flat named spots notes : List ℕ) (f : Found) : Typ
   pub few : f .count ≤ 64
   pub names : f .names .count * nameWidth ≤ length named
   pub places : f .names .count ≤ length spots
-  pub few-names : f .names .count ≤ 64
+  pub fewNames : f .names .count ≤ 64
   pub words : Words text notes (f .names .literals)
-  pub few-literals : f .names .literals ≤ 64
+  pub fewLiterals : f .names .literals ≤ 64
   pub sized : f .names .bytes ≡ length (bytesFrom text notes 0 (f .names .literals))
 
 -- Every output has room.
-pub record Roomy (f : Found) (rows places names name-places literals bytes : ℕ) : Type 0 where
-  pub for-rows : f .count * rowWidth ≤ rows
-  pub for-places : f .count ≤ places
-  pub for-names : f .names .count * nameWidth ≤ names
-  pub for-name-places : f .names .count ≤ name-places
-  pub for-literals : f .names .literals * rowWidth ≤ literals
-  pub for-bytes : f .names .bytes ≤ bytes
+pub record Roomy (f : Found) (rows places names namePlaces literals bytes : ℕ) : Type 0 where
+  pub forRows : f .count * rowWidth ≤ rows
+  pub forPlaces : f .count ≤ places
+  pub forNames : f .names .count * nameWidth ≤ names
+  pub forNamePlaces : f .names .count ≤ namePlaces
+  pub forLiterals : f .names .literals * rowWidth ≤ literals
+  pub forBytes : f .names .bytes ≤ bytes
 
 -- what is written over the start of an output
 abbrev pub over : List ℕ → List ℕ → List ℕ
 over out before = out ++ drop (length out) before
 
-pub record Wrote (text laid flat named spots notes : List ℕ) (f : Found) (rows places names name-places literals bytes : List ℕ)
-    (rows-after places-after names-after name-places-after literals-after bytes-after : List ℕ) : Type 0 where
-  pub rows-are : rows-after ≡ over (take (f .count * rowWidth) laid) rows
-  pub places-are : places-after ≡ over (map namedOf (notedFrom flat 0 (f .count))) places
-  pub names-are : names-after ≡ over (take (f .names .count * nameWidth) named) names
-  pub name-places-are : name-places-after ≡ over (take (f .names .count) spots) name-places
-  pub literals-are : literals-after ≡ over (rowsFrom notes 0 (f .names .literals)) literals
-  pub bytes-are : bytes-after ≡ over (bytesFrom text notes 0 (f .names .literals)) bytes
+pub record Wrote (text laid flat named spots notes : List ℕ) (f : Found) (rows places names namePlaces literals bytes : List ℕ)
+    (rowsAfter placesAfter namesAfter namePlacesAfter literalsAfter bytesAfter : List ℕ) : Type 0 where
+  pub rowsAre : rowsAfter ≡ over (take (f .count * rowWidth) laid) rows
+  pub placesAre : placesAfter ≡ over (map namedOf (notedFrom flat 0 (f .count))) places
+  pub namesAre : namesAfter ≡ over (take (f .names .count * nameWidth) named) names
+  pub namePlacesAre : namePlacesAfter ≡ over (take (f .names .count) spots) namePlaces
+  pub literalsAre : literalsAfter ≡ over (rowsFrom notes 0 (f .names .literals)) literals
+  pub bytesAre : bytesAfter ≡ over (bytesFrom text notes 0 (f .names .literals)) bytes
 
-pub record Given (text laid flat named spots notes : List ℕ) (f : Found) (rows places names name-places literals bytes : List ℕ) (r : Described)
-    (rows-after places-after names-after name-places-after literals-after bytes-after : List ℕ) : Type 0 where
-  pub answered : r ≡ roomFor (needed f) (sizes (length rows) (length places) (length names) (length name-places) (length literals) (length bytes))
-  pub rows-written : rows-after ≡ written r (take (f .count * rowWidth) laid) rows
-  pub places-written : places-after ≡ written r (map namedOf (notedFrom flat 0 (f .count))) places
-  pub names-written : names-after ≡ written r (take (f .names .count * nameWidth) named) names
-  pub name-places-written : name-places-after ≡ written r (take (f .names .count) spots) name-places
-  pub literals-written : literals-after ≡ written r (rowsFrom notes 0 (f .names .literals)) literals
-  pub bytes-written : bytes-after ≡ written r (bytesFrom text notes 0 (f .names .literals)) bytes
+pub record Given (text laid flat named spots notes : List ℕ) (f : Found) (rows places names namePlaces literals bytes : List ℕ) (r : Described)
+    (rowsAfter placesAfter namesAfter namePlacesAfter literalsAfter bytesAfter : List ℕ) : Type 0 where
+  pub answered : r ≡ roomFor (needed f) (sizes (length rows) (length places) (length names) (length namePlaces) (length literals) (length bytes))
+  pub rowsWritten : rowsAfter ≡ written r (take (f .count * rowWidth) laid) rows
+  pub placesWritten : placesAfter ≡ written r (map namedOf (notedFrom flat 0 (f .count))) places
+  pub namesWritten : namesAfter ≡ written r (take (f .names .count * nameWidth) named) names
+  pub namePlacesWritten : namePlacesAfter ≡ written r (take (f .names .count) spots) namePlaces
+  pub literalsWritten : literalsAfter ≡ written r (rowsFrom notes 0 (f .names .literals)) literals
+  pub bytesWritten : bytesAfter ≡ written r (bytesFrom text notes 0 (f .names .literals)) bytes

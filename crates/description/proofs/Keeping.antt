@@ -84,19 +84,19 @@ module _ (n k : ℕ) (r : Row) (c : Condition) (f : overName n k r c ≡ false) 
   pub name-kept : Kept r c
   name-kept = record { few = ltb-false 8 (length (c .values)) (before .1); free = last .1 }
 
-few-names : (n k : ℕ) (rs : List Row) (cs : List Condition) → Fine (nameMarks n k rs cs) → n ≤ 64 → n + length cs ≤ 64
+fewNames : (n k : ℕ) (rs : List Row) (cs : List Condition) → Fine (nameMarks n k rs cs) → n ≤ 64 → n + length cs ≤ 64
 unfolding nameMarks
-few-names n k rs [] f h = omega arith
-few-names n k rs (c ∷ cs) f h =
+fewNames n k rs [] f h = omega arith
+fewNames n k rs (c ∷ cs) f h =
     let l = name-below n k _ c (f _ L.here) in
-    omega (arith, few-names (suc n) (k + length (literals (c .values))) rs cs (fine-rest f) l)
+    omega (arith, fewNames (suc n) (k + length (literals (c .values))) rs cs (fine-rest f) l)
 
-few-literals : (n k : ℕ) (rs : List Row) (cs : List Condition) → Fine (nameMarks n k rs cs) → k ≤ 64 → k + length (literalsOf cs) ≤ 64
+fewLiterals : (n k : ℕ) (rs : List Row) (cs : List Condition) → Fine (nameMarks n k rs cs) → k ≤ 64 → k + length (literalsOf cs) ≤ 64
 unfolding nameMarks literalsOf
-few-literals n k rs [] f h = omega arith
-few-literals n k rs (c ∷ cs) f h =
+fewLiterals n k rs [] f h = omega arith
+fewLiterals n k rs (c ∷ cs) f h =
     let l = literals-below n k _ c (f _ L.here) in
-    omega (arith, few-literals (suc n) (k + length (literals (c .values))) rs cs (fine-rest f) l, length-append (literals (c .values)) (literalsOf cs))
+    omega (arith, fewLiterals (suc n) (k + length (literals (c .values))) rs cs (fine-rest f) l, length-append (literals (c .values)) (literalsOf cs))
 
 keeps-names : (n k : ℕ) (rs : List Row) (cs : List Condition) (j : ℕ) (d : Condition) → Fine (nameMarks n k rs cs) → j < length cs →
     Kept (getD rs (getD cs j d .item) (row 0 0 0 0 0)) (getD cs j d)
@@ -133,8 +133,8 @@ within text t e = by (describe text) e (verdict text)
           rows = r;
           as-many = ap length r ∙ n;
           items = omega (arith, few-items 0 (u .entries) rs n a (omega arith));
-          names = omega (arith, few-names 0 0 rs (u .conditions) b (omega arith));
-          literals = omega (arith, few-literals 0 0 rs (u .conditions) b (omega arith));
+          names = omega (arith, fewNames 0 0 rs (u .conditions) b (omega arith));
+          literals = omega (arith, fewLiterals 0 0 rs (u .conditions) b (omega arith));
           row-kept = λ j d i. rw r (keeps-items 0 (u .entries) rs j d n a (rw r at i));
           name-kept = λ j d i. rw r (keeps-names 0 0 rs (u .conditions) j d b i);
         }

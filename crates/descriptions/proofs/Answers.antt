@@ -51,7 +51,7 @@ smallest-of text w es cs p s e f =
     least-of (parts es cs) (r .0) (r .1) ∙ ap (sooner (F.firstOver (itemMarks 0 es (layout 0 es)))) f
 
 module _ (text flat named spots notes : List ℕ) (r : Found) where
-  within-short : length text ≤ 4096 → ReadBy text text (readText text) flat named spots notes r → ReadsWithin text flat named spots notes r
+  within-short : length text ≤ 4096 → ReadBy text (readText text) flat named spots notes r → ReadsWithin text flat named spots notes r
   within-short l R =
       record {
         exact = R .exact;
@@ -64,7 +64,7 @@ module _ (text flat named spots notes : List ℕ) (r : Found) where
         stores = R .stores;
       }
 
-  module _ (l : 4096 < length text) (R : ReadBy (take 4096 text) (take 4096 text) (readText (take 4096 text)) flat named spots notes r) where
+  module _ (l : 4096 < length text) (R : ReadBy (take 4096 text) (readText (take 4096 text)) flat named spots notes r) where
     abbrev least-there : least (marks (parts (map entryOf (R .exact)) (R .conditions)))
         ≡ sooner (F.firstOver (itemMarks 0 (map entryOf (R .exact)) (layout 0 (map entryOf (R .exact))))) (limitOf (r .names))
     least-there = smallest-of (take 4096 text) (r .whole) (map entryOf (R .exact)) (R .conditions) (r .place) (r .names) (R .reading) (R .limit)
@@ -96,7 +96,7 @@ module _ (text flat named spots notes : List ℕ) (r : Found) where
         }
 
   -- The bytes before 4,096 are read.
-  module _ {e : ℕ} (m : e ≡ min (length text) 4096) (R : ReadBy (take e text) (take e text) (readText (take e text)) flat named spots notes r) where
+  module _ {e : ℕ} (m : e ≡ min (length text) 4096) (R : ReadBy (take e text) (readText (take e text)) flat named spots notes r) where
     pub within-whole : r .whole && ltb e (length text) ≡ true → ReadsWithin text flat named spots notes (record { count = r .count; whole = false; place = 4096; names = r .names })
     within-whole g =
         let l : 4096 < length text = over (r .whole) (ltb e (length text)) refl g in
@@ -177,12 +177,12 @@ module _ (text flat named spots notes laid : List ℕ) (r : Found) (R : ReadsWit
     faulty-answer e =
         record {
           answered = rw e;
-          rows-written = refl;
-          places-written = refl;
-          names-written = refl;
-          name-places-written = refl;
-          literals-written = refl;
-          bytes-written = refl;
+          rowsWritten = refl;
+          placesWritten = refl;
+          namesWritten = refl;
+          namePlacesWritten = refl;
+          literalsWritten = refl;
+          bytesWritten = refl;
         }
 
     pub answers-over : {p : ℕ} → z ≡ Over p → DescribedBy text rows places names name-places literals bytes (Faulty p) rows places names name-places literals bytes
@@ -224,13 +224,13 @@ module _ (text flat named spots notes laid : List ℕ) (r : Found) (R : ReadsWit
     described : Limits.describe text ≡ table t
     described = let i : least (marks d) ≡ none = least-is ∙ ap overPlace e in ap judged (R .reading) ∙ judged-whole (r .whole) d (r .place) w i
 
-    rows-are : rowsOf t ≡ take (r .count * 5) laid
-    rows-are =
+    rowsAre : rowsOf t ≡ take (r .count * 5) laid
+    rowsAre =
         let f : layout 0 (map entryOf ys) ≡ layout 0 (entriesIn flat 0 (r .count)) = rows-same 0 0 ys (R .scaled) none-over ∙ ap (layout 0) (sym entries-are) in
         ap rowNumbers f ∙ sym (L .laid item-fine)
 
-    places-are : placesOf t ≡ map namedOf (notedFrom flat 0 (r .count))
-    places-are = by ys ∙ ap (map namedOf) (sym (R .held))
+    placesAre : placesOf t ≡ map namedOf (notedFrom flat 0 (r .count))
+    placesAre = by ys ∙ ap (map namedOf) (sym (R .held))
       where
         by : (ys : List Noted) → map placeOfName (map entryOf ys) ≡ map namedOf (map capNoted ys)
         by [] = refl
@@ -239,12 +239,12 @@ module _ (text flat named spots notes laid : List ℕ) (r : Found) (R : ReadsWit
     abbrev count : Tally
     count = tally false 0 (r .names .literals) (r .names .bytes)
 
-    literals-are : Calls.literalsOf t ≡ rowsFrom notes 0 (r .names .literals)
-    literals-are =
+    literalsAre : Calls.literalsOf t ≡ rowsFrom notes 0 (r .names .literals)
+    literalsAre =
         ap (λ (ls : List Literal). rowNumbers (literalRows 0 ls)) (sym (stored .valued)) ∙ sym (rows-noted text notes count (stored .spans) (stored .noted))
 
-    bytes-are : t .bytes ≡ bytesFrom text notes 0 (r .names .literals)
-    bytes-are = ap literalBytes (sym (stored .valued)) ∙ sym (bytes-noted text notes count (stored .spans) (stored .noted))
+    bytesAre : t .bytes ≡ bytesFrom text notes 0 (r .names .literals)
+    bytesAre = ap literalBytes (sym (stored .valued)) ∙ sym (bytes-noted text notes count (stored .spans) (stored .noted))
 
     bytes-sized : r .names .bytes ≡ length (bytesFrom text notes 0 (r .names .literals))
     bytes-sized = stored .noted .sized ∙ ap length (sym (bytes-noted text notes count (stored .spans) (stored .noted)))
@@ -258,9 +258,9 @@ module _ (text flat named spots notes laid : List ℕ) (r : Found) (R : ReadsWit
             few = L .few item-fine;
             names = omega (arith, stored .few);
             places = omega (arith, stored .few);
-            few-names = stored .few;
+            fewNames = stored .few;
             words = words-noted text notes count (stored .spans) (stored .noted) g;
-            few-literals = stored .noted .few;
+            fewLiterals = stored .noted .few;
             sized = bytes-sized;
           }
 
@@ -268,19 +268,19 @@ module _ (text flat named spots notes laid : List ℕ) (r : Found) (R : ReadsWit
           (G : Given text laid flat named spots notes r rows places names name-places literals bytes q o1 o2 o3 o4 o5 o6) where
         pub answers-given : DescribedBy text rows places names name-places literals bytes q o1 o2 o3 o4 o5 o6
         answers-given =
-            let n1 : length (rowsOf t) ≡ r .count * 5 = ap length rows-are ∙ length-take-le (r .count * 5) laid (ready .rows) in
-            let n2 : length (placesOf t) ≡ r .count = ap length places-are ∙ named-length flat (r .count) in
+            let n1 : length (rowsOf t) ≡ r .count * 5 = ap length rowsAre ∙ length-take-le (r .count * 5) laid (ready .rows) in
+            let n2 : length (placesOf t) ≡ r .count = ap length placesAre ∙ named-length flat (r .count) in
             let n3 : length (namesOf t) ≡ r .names .count * 18 =
             ap length (sym (stored .named)) ∙ length-take-le (r .names .count * 18) named (ready .names) in
             let n4 : length (namePlacesOf t) ≡ r .names .count = ap length (sym (stored .placed)) ∙ length-take-le (r .names .count) spots (ready .places) in
-            let n5 : length (Calls.literalsOf t) ≡ r .names .literals * 5 = ap length literals-are ∙ rows-length notes 0 (r .names .literals) in
-            let n6 : length (t .bytes) ≡ r .names .bytes = ap length bytes-are ∙ sym bytes-sized in
+            let n5 : length (Calls.literalsOf t) ≡ r .names .literals * 5 = ap length literalsAre ∙ rows-length notes 0 (r .names .literals) in
+            let n6 : length (t .bytes) ≡ r .names .bytes = ap length bytesAre ∙ sym bytes-sized in
             record {
               answered = rw (described, n1, n2, n3, n4, n5, n6) (G .answered);
-              rows-written = rw (described, rows-are) (G .rows-written);
-              places-written = rw (described, places-are) (G .places-written);
-              names-written = rw (described, ← stored .named) (G .names-written);
-              name-places-written = rw (described, ← stored .placed) (G .name-places-written);
-              literals-written = rw (described, literals-are) (G .literals-written);
-              bytes-written = rw (described, bytes-are) (G .bytes-written);
+              rowsWritten = rw (described, rowsAre) (G .rowsWritten);
+              placesWritten = rw (described, placesAre) (G .placesWritten);
+              namesWritten = rw (described, ← stored .named) (G .namesWritten);
+              namePlacesWritten = rw (described, ← stored .placed) (G .namePlacesWritten);
+              literalsWritten = rw (described, literalsAre) (G .literalsWritten);
+              bytesWritten = rw (described, bytesAre) (G .bytesWritten);
             }

@@ -7,8 +7,8 @@ use Rattle.answers.specs.Answer.{Told}
 use Rattle.text_answers.specs.Description.{describedNumbers}
 
 -- what the library's call gives, told
-pub record Describes (text rows places names name-places literals bytes : List ℕ) (returned : ℕ)
-    (answer rows-after places-after names-after name-places-after literals-after bytes-after : List ℕ) : Type 0 where
+pub record Describes (text rows places names namePlaces literals bytes : List ℕ) (returned : ℕ)
+    (answer rowsAfter placesAfter namesAfter namePlacesAfter literalsAfter bytesAfter : List ℕ) : Type 0 where
   pub given : Described
-  pub described : DescribedBy text rows places names name-places literals bytes given rows-after places-after names-after name-places-after literals-after bytes-after
+  pub described : DescribedBy text rows places names namePlaces literals bytes given rowsAfter placesAfter namesAfter namePlacesAfter literalsAfter bytesAfter
   pub told : Told (number given) (describedNumbers given) returned answer

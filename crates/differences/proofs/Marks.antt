@@ -38,20 +38,20 @@ use Rattle.differences.specs.Differ.{liesInBoth, endCheck, differLines, 
 
 module _ {r : Row} {first second : List ℕ} (h : Held r first second) where
   pub first-lies : r .offset + r .size ≤ length first
-  first-lies = leb-true _ _ (h .in-first)
+  first-lies = leb-true _ _ (h .inFirst)
 
   pub second-lies : r .offset + r .size ≤ length second
-  second-lies = leb-true _ _ (h .in-second)
+  second-lies = leb-true _ _ (h .inSecond)
 
   pub scale-fits : r .scale ≤ 18
   scale-fits = scale-small r (h .sound)
 
   module _ {bytes : List ℕ} (n : isNumeric r ≡ true) where
     pub first-field : bytes ≡ part r first → NumberField (r .kind) bytes
-    first-field e = rw e (number-field r first (h .sound) (h .in-first) n)
+    first-field e = rw e (number-field r first (h .sound) (h .inFirst) n)
 
     pub second-field : bytes ≡ part r second → NumberField (r .kind) bytes
-    second-field e = rw e (number-field r second (h .sound) (h .in-second) n)
+    second-field e = rw e (number-field r second (h .sound) (h .inSecond) n)
 
 -- what a row lists
 module _ (r : Row) (v : ℕ) (xs ys : List ℕ) where
@@ -127,7 +127,7 @@ module _ (items first second : List ℕ) (sound : firstOf (differLines items fir
       let s = lines-sound (differLines items first second) sound in
       let f = both (liesIn (rowAt items v) first) (liesIn (rowAt items v) second)
       (every-sound (liesInBoth items first second) Record (rowCount items) (s .1 .1 .0) v h) in
-      rw e (record { sound = row-sound-at items lines v h; in-first = f .0; in-second = f .1 })
+      rw e (record { sound = row-sound-at items lines v h; inFirst = f .0; inSecond = f .1 })
 
   pub few : length items ≤ 320
   few = few-fact items lines

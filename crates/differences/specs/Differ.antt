@@ -84,5 +84,5 @@ differing items first second output =
 -- what the functions of one row assume: it is sound, and lies in both records
 pub record Held (row : Row) (first second : List ℕ) : Type 0 where
   pub sound : rowSound row ≡ true
-  pub in-first : liesIn row first ≡ true
-  pub in-second : liesIn row second ≡ true
+  pub inFirst : liesIn row first ≡ true
+  pub inSecond : liesIn row second ≡ true

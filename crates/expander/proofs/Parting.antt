@@ -11,7 +11,7 @@ use lib.Dec.{eqb}
 use Rattle.simples.specs.declared.Carried.{Carried}
 use Rattle.simples.specs.declared.Single.the-variants.{Row}
 use Rattle.grammar.specs.Grammar.{Class, opening, closing, not, and, or, other, Is, Carry, nothing, simple}
-use Rattle.grammar.specs.Parser.{parsed, object, short-ordered, parse-simple}
+use Rattle.grammar.specs.Parser.{parsed, object, shortOrdered, parseSimple}
 use Rattle.simples.specs.Reads.{tok, carryOf, Reads}
 use Rattle.expander.specs.Spelled.{copied, part}
 use Rattle.grammar.proofs.Sound.{Differ}
@@ -69,7 +69,7 @@ module _ (tokens : List ℕ) (at : ℕ) {x : ℕ} (e : x ≡ tok tokens at) (c :
 
   -- any other token
   module _ (b : (eqb x 262144 || eqb x 262145) ≡ false) (j : (eqb x 262147 || eqb x 262148) ≡ false) (g : x ≡ 262146 → ⊥) where
-    part-simple : part (carryOf c) (drop at tokens) ≡ short-ordered (carryOf c) (λ n. n) (parse-simple (carryOf c)) (drop at tokens)
+    part-simple : part (carryOf c) (drop at tokens) ≡ shortOrdered (carryOf c) (λ n. n) (parseSimple (carryOf c)) (drop at tokens)
     part-simple =
         rw (
           pass-on tokens at e {k = opening} (λ i. neither x 262144 262145 b .0 (opening-token x i)),
@@ -83,5 +83,5 @@ module _ (tokens : List ℕ) (at : ℕ) {x : ℕ} (e : x ≡ tok tokens at) (c :
         part (carryOf c) (drop at tokens) ≡ object (c .subject) (x - 262144) (drop (at + 1) tokens)
     part-short n l h = rw part-simple (at-short tokens at e c (λ n. n) _ n l h)
 
-    pub part-other : ((c .relation ≡ 0 → ⊥) → 262149 ≤ x → 262151 < x) → part (carryOf c) (drop at tokens) ≡ parse-simple (carryOf c) (drop at tokens)
+    pub part-other : ((c .relation ≡ 0 → ⊥) → 262149 ≤ x → 262151 < x) → part (carryOf c) (drop at tokens) ≡ parseSimple (carryOf c) (drop at tokens)
     part-other far = rw part-simple (at-no-short tokens at e c (λ n. n) _ far)

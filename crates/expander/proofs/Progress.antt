@@ -9,10 +9,10 @@ use Rattle.simples.specs.declared.Single.{Single}
 use Rattle.simples.specs.declared.Single.the-variants.{Row, Stuck}
 use Rattle.grammar.specs.Grammar.{Class, operand, switch, opening, closing, not, and, or, order, bound, test, name, Class-discrete, class, Is}
 use Rattle.grammar.specs.Grammar.{Carry, nothing, carried, simple}
-use Rattle.grammar.specs.Parser.{Result, parsed, stuck, Parser, on, object, alone, short-bounded, short-ordered, parse-simple}
+use Rattle.grammar.specs.Parser.{Result, parsed, stuck, Parser, on, object, alone, shortBounded, shortOrdered, parseSimple}
 use Rattle.simples.specs.Reads.{carryOf, Found, Reads}
-use Rattle.grammar.specs.Expanded.{full-form, expanded}
-use Rattle.expander.specs.Spelled.{part, spelled-from, spelled}
+use Rattle.grammar.specs.Expanded.{fullForm, expanded}
+use Rattle.expander.specs.Spelled.{part, partsSpelled, spelled}
 use Rattle.grammar.proofs.Spelling.{order-token, bound-token, test-token}
 use Rattle.grammar.proofs.Size.{stated-width, full-width}
 use Rattle.simples.proofs.Resolving.{carries-none}
@@ -46,16 +46,16 @@ lows-alone : (c : Carry) → Low c → (b : ℕ) → Lows (alone c b)
 lows-alone nothing l b ts = none
 lows-alone (carried a m) l b ts = low l l
 
-lows-bounded : (c : Carry) → Lows (short-bounded c)
+lows-bounded : (c : Carry) → Lows (shortBounded c)
 lows-bounded nothing ts = none
 lows-bounded (carried a m) ts = lows-on bound (λ w i. lows-object a (w % 65536) (omega (arith, bound-token w i))) (λ ts. none) ts
 
-lows-ordered : (c : Carry) (number : ℕ → ℕ) → ((n : ℕ) → n ≤ 7 → number n < 64) → {p : Parser} → Lows p → Lows (short-ordered c number p)
+lows-ordered : (c : Carry) (number : ℕ → ℕ) → ((n : ℕ) → n ≤ 7 → number n < 64) → {p : Parser} → Lows p → Lows (shortOrdered c number p)
 lows-ordered nothing number l h ts = h ts
 lows-ordered (carried a m) number l h ts =
     lows-on order (λ w i. lows-object a (number (w % 65536)) (l (w % 65536) (omega (arith, order-token w i)))) h ts
 
-lows-simple : (c : Carry) → Low c → Lows (parse-simple c)
+lows-simple : (c : Carry) → Low c → Lows (parseSimple c)
 lows-simple c l =
     lows-on operand (λ a i.
     lows-on order (λ w j. lows-object a (w % 65536) (omega (arith, order-token w j)))
@@ -91,7 +91,7 @@ pub record Progress (tokens w : List ℕ) (at count : ℕ) (carry : Carried) : T
   small : Low (carryOf carry)
   parts : ℕ
   enough : length tokens - at ≤ parts
-  says : spelled tokens ≡ w ++ spelled-from parts (carryOf carry) (drop at tokens)
+  says : spelled tokens ≡ w ++ partsSpelled parts (carryOf carry) (drop at tokens)
 
 pub start : (tokens : List ℕ) {carry : Carried} → carry .relation ≡ 0 → Progress tokens [] 0 0 carry
 unfolding spelled
@@ -109,16 +109,16 @@ start tokens {carry} e =
 
 module _ {tokens w : List ℕ} {at count : ℕ} {carry : Carried} (p : Progress tokens w at count carry) where
   pub upto : count ≤ length (spelled tokens)
-  upto = rw (p .says) (omega (arith, length-append w (spelled-from (p .parts) (carryOf carry) (drop at tokens)), p .size))
+  upto = rw (p .says) (omega (arith, length-append w (partsSpelled (p .parts) (carryOf carry) (drop at tokens)), p .size))
 
   pub ended : length tokens ≤ at → spelled tokens ≡ w
   ended l = rw (p .says, drop-of-length-le tokens l, none-left, append-nil)
 
   pub halted : {r : Single} {place : ℕ} → Reads (part (carryOf carry)) 1 tokens at r → r ≡ Stuck place → spelled tokens ≡ w
-  unfolding spelled-from
+  unfolding partsSpelled
   halted {place = place} h e = go (p .parts) (p .says)
     where
-      go : (parts : ℕ) → spelled tokens ≡ w ++ spelled-from parts (carryOf carry) (drop at tokens) → spelled tokens ≡ w
+      go : (parts : ℕ) → spelled tokens ≡ w ++ partsSpelled parts (carryOf carry) (drop at tokens) → spelled tokens ≡ w
       go zero q = rw append-nil at q
       go (suc parts) q =
           let g : part (carryOf carry) (drop at tokens) ≡ stuck (drop place tokens) = rw e at (h .found) in
@@ -126,28 +126,28 @@ module _ {tokens w : List ℕ} {at count : ℕ} {carry : Carried} (p : Progress 
 
   pub further : {r : Single} {a n b next : ℕ} {c : Carried} → at < length tokens → Reads (part (carryOf carry)) 1 tokens at r →
       r ≡ Row a n b next c →
-      Progress tokens (w ++ full-form a n b) next (count + length (full-form a n b)) c × (n < 64) × (at < next)
-  unfolding spelled-from expanded
+      Progress tokens (w ++ fullForm a n b) next (count + length (fullForm a n b)) c × (n < 64) × (at < next)
+  unfolding partsSpelled expanded
   further {a = a} {n = n} {b = b} {next = next} {c = c} l h e = go (p .parts) (p .enough) (p .says)
     where
       read : Reads (part (carryOf carry)) 1 tokens at (Row a n b next c)
       read = rw e at h
 
-      go : (parts : ℕ) → length tokens - at ≤ parts → spelled tokens ≡ w ++ spelled-from parts (carryOf carry) (drop at tokens) →
-          Progress tokens (w ++ full-form a n b) next (count + length (full-form a n b)) c × (n < 64) × (at < next)
+      go : (parts : ℕ) → length tokens - at ≤ parts → spelled tokens ≡ w ++ partsSpelled parts (carryOf carry) (drop at tokens) →
+          Progress tokens (w ++ fullForm a n b) next (count + length (fullForm a n b)) c × (n < 64) × (at < next)
       go zero k q = absurd (omega arith)
       go (suc parts) k q =
           let g : part (carryOf carry) (drop at tokens) ≡ parsed (simple a n b) (carryOf c) (drop next tokens) = read .found in
           let (below, kept) = low-row g (lows-part (carryOf carry) (p .small) (drop at tokens)) in
-          let wide : length (full-form a n b) ≤ 4 = omega (arith, full-width a n b, stated-width n) in (
+          let wide : length (fullForm a n b) ≤ 4 = omega (arith, full-width a n b, stated-width n) in (
             record {
               within = read .upto;
-              size = omega (arith, p .size, length-append w (full-form a n b));
+              size = omega (arith, p .size, length-append w (fullForm a n b));
               short = omega (arith, p .short, read .from);
               small = kept;
               parts = parts;
               enough = omega (arith, read .from);
-              says = rw g at q ∙ sym (append-assoc w (full-form a n b) _);
+              says = rw g at q ∙ sym (append-assoc w (fullForm a n b) _);
             },
             below,
             omega (arith, read .from),

@@ -6,9 +6,9 @@ use native.Mathlib.Omega.{arith}
 use lib.ListN.{length, length-append}
 use Rattle.grammar.specs.Grammar.{operand, switch, bound, name, Is, Carry, nothing, carried, Tree, simple}
 use Rattle.grammar.specs.Grammar.{Stated, Relation, Simple, Logical, Condition, Chain, Term, Body}
-use Rattle.grammar.specs.Parser.{parsed, on, parse-simple, accepted, read}
+use Rattle.grammar.specs.Parser.{parsed, on, parseSimple, accepted, read}
 use Rattle.grammar.specs.Expanded.{expanded}
-use Rattle.expander.specs.Spelled.{part, spelled-from, spelled}
+use Rattle.expander.specs.Spelled.{part, partsSpelled, spelled}
 use Rattle.grammar.proofs.Sound.{is-logical}
 use Rattle.grammar.proofs.Complete.{Ends, at, complete-simple, skip-order}
 use Rattle.grammar.proofs.Reading.{sound}
@@ -19,7 +19,7 @@ use Rattle.grammar.proofs.Expansion.{full-switch}
 record Goes (c : Carry) (us out : List ℕ) (d : Carry) (rest : List ℕ) (parts : ℕ) : Type 0 where
   left : ℕ
   enough : length rest ≤ left
-  says : spelled-from parts c (us ++ rest) ≡ out ++ spelled-from left d rest
+  says : partsSpelled parts c (us ++ rest) ≡ out ++ partsSpelled left d rest
 
 goes-then : {c d e : Carry} {us vs out more rest : List ℕ} {parts : ℕ} → Goes c us out d (vs ++ rest) parts →
     ((left : ℕ) → length (vs ++ rest) ≤ left → Goes d vs more e rest left) → Goes c (us ++ vs) (out ++ more) e rest parts
@@ -34,7 +34,7 @@ goes-then {us = us} {vs = vs} {out = out} {more = more} {rest = rest} x f =
 -- one part
 goes : {c d : Carry} {us rest : List ℕ} {t : Tree} (parts : ℕ) → part c (us ++ rest) ≡ parsed t d rest → 1 ≤ length us →
     length (us ++ rest) ≤ parts → Goes c us (expanded t) d rest parts
-unfolding spelled-from
+unfolding partsSpelled
 goes {us = us} {rest = rest} zero e l h = absurd (omega (arith, length-append us rest))
 goes {us = us} {rest = rest} (suc parts) e l h = record { left = parts; enough = omega (arith, length-append us rest); says = rw e }
 
@@ -51,7 +51,7 @@ data First (x : ℕ) : Type 0 where
   a-name : Is name x → First x
   a-bound : Is bound x → First x
 
-first-part : {x : ℕ} → First x → (c : Carry) (ts : List ℕ) → part c (x ∷ ts) ≡ parse-simple c (x ∷ ts)
+first-part : {x : ℕ} → First x → (c : Carry) (ts : List ℕ) → part c (x ∷ ts) ≡ parseSimple c (x ∷ ts)
 first-part (an-operand i) nothing ts = simp (at i)
 first-part (an-operand i) (carried a m) ts = simp (at i)
 first-part (a-switch i) nothing ts = simp (at i)
@@ -77,7 +77,7 @@ simple-part (Simple.tested i s) rest e = begun (an-operand i) (Simple.tested i s
 simple-part (Simple.switched i) rest e = begun (a-switch i) (Simple.switched i) rest e
 simple-part (Simple.named i) rest e = begun (a-name i) (Simple.named i) rest e
 simple-part (Simple.short (Relation.ordered (Stated.plain i)) j) rest e = simp (at i, at j)
-simple-part (Simple.short (Relation.ordered (Stated.with-not k i)) j) rest e = simp (at k, at i, at j)
+simple-part (Simple.short (Relation.ordered (Stated.withNot k i)) j) rest e = simp (at k, at i, at j)
 simple-part (Simple.short (Relation.bounded i) j) rest e = begun (a-bound i) (Simple.short (Relation.bounded i) j) rest e
 simple-part (Simple.bare i) rest e = begun (an-operand i) (Simple.bare i) rest e
 
@@ -87,7 +87,7 @@ some-token (Simple.tested i s) = omega arith
 some-token (Simple.switched i) = omega arith
 some-token (Simple.named i) = omega arith
 some-token (Simple.short (Relation.ordered (Stated.plain i)) j) = omega arith
-some-token (Simple.short (Relation.ordered (Stated.with-not k i)) j) = omega arith
+some-token (Simple.short (Relation.ordered (Stated.withNot k i)) j) = omega arith
 some-token (Simple.short (Relation.bounded i) j) = omega arith
 some-token (Simple.bare i) = omega arith
 
@@ -129,8 +129,8 @@ spells derivation =
     ]
 
 -- after the last token there is no part
-pub none-left : (parts : ℕ) (c : Carry) → spelled-from parts c [] ≡ []
-unfolding spelled-from on
+pub none-left : (parts : ℕ) (c : Carry) → partsSpelled parts c [] ≡ []
+unfolding partsSpelled on
 none-left zero c = refl
 none-left (suc parts) nothing = refl
 none-left (suc parts) (carried a m) = refl

@@ -6,7 +6,7 @@ use native.Mathlib.Omega.{arith}
 use native.Mathlib.Decide.{ℕ-discrete, decLe}
 use borrow.Author.Tests.{eq-eqb, ne-eqb, lt-ltb, le-ltb}
 use lib.ListN.{length, length-append}
-use Rattle.grammar.specs.Expanded.{stated, full-form}
+use Rattle.grammar.specs.Expanded.{stated, fullForm}
 
 -- the words of a relation, without NOT and with it
 pub stated-plain : (n : ℕ) → n < 32 → stated n ≡ (262144 + n) ∷ []
@@ -17,25 +17,25 @@ stated-not n l = rw (le-ltb n 32 l)
 
 -- a simple condition in full, by its relation
 module _ (a n b : ℕ) where
-  pub full-alone : n ≡ 0 → full-form a n b ≡ a ∷ []
-  unfolding full-form
+  pub full-alone : n ≡ 0 → fullForm a n b ≡ a ∷ []
+  unfolding fullForm
   full-alone e = rw (eq-eqb n 0 e)
 
-  pub full-object : (n ≡ 0 → ⊥) → n % 32 < 10 → full-form a n b ≡ a ∷ stated n ++ b ∷ []
-  unfolding full-form
+  pub full-object : (n ≡ 0 → ⊥) → n % 32 < 10 → fullForm a n b ≡ a ∷ stated n ++ b ∷ []
+  unfolding fullForm
   full-object e l = rw (ne-eqb n 0 e, lt-ltb (n % 32) 10 l)
 
-  pub full-no-object : (n ≡ 0 → ⊥) → 10 ≤ n % 32 → full-form a n b ≡ a ∷ stated n
-  unfolding full-form
+  pub full-no-object : (n ≡ 0 → ⊥) → 10 ≤ n % 32 → fullForm a n b ≡ a ∷ stated n
+  unfolding fullForm
   full-no-object e l = rw (ne-eqb n 0 e, le-ltb (n % 32) 10 l) (append-nil (a ∷ stated n))
 
   -- it has its subject and its relation
-  pub full-least : (n ≡ 0 → ⊥) → suc (length (stated n)) ≤ length (full-form a n b)
+  pub full-least : (n ≡ 0 → ⊥) → suc (length (stated n)) ≤ length (fullForm a n b)
   full-least e =
       elim (decLe 10 (n % 32)) [
         | yes l ↦ rw (full-no-object e l) (omega arith)
         | no l ↦ rw (full-object e (omega arith)) (omega (arith, length-append (stated n) (b ∷ [])))
       ]
 
-  pub full-some : 1 ≤ length (full-form a n b)
+  pub full-some : 1 ≤ length (fullForm a n b)
   full-some = elim (ℕ-discrete n 0) [ yes e ↦ rw (full-alone e) (omega arith) | no e ↦ omega (arith, full-least e) ]

@@ -3,7 +3,7 @@ use mathlib.Core.List.{List, [], _++_}
 use Prim.Native.Nat.{ℕ, zero, suc, _+_}
 use lib.ListN.{length}
 use Rattle.grammar.specs.Grammar.{opening, closing, not, and, or, Carry, nothing, simple}
-use Rattle.grammar.specs.Parser.{Result, parsed, stuck, Parser, done, on, short-ordered, parse-simple}
+use Rattle.grammar.specs.Parser.{Result, parsed, stuck, Parser, done, on, shortOrdered, parseSimple}
 use Rattle.grammar.specs.Expanded.{expanded}
 
 -- a word that stays as it is: a token alone, as a switch is
@@ -17,8 +17,8 @@ part c =
     (on closing (copied nothing)
     (on and (copied c)
     (on or (copied c)
-    (on not (λ x. short-ordered c (λ n. n + 32) (copied c x))
-    (short-ordered c (λ n. n) (parse-simple c))))))
+    (on not (λ x. shortOrdered c (λ n. n + 32) (copied c x))
+    (shortOrdered c (λ n. n) (parseSimple c))))))
 
 -- a part in full, and then what is spelled after it; nothing where there is no part
 abbrev pub followed : (Carry → List ℕ → List ℕ) → Result → List ℕ
@@ -26,9 +26,9 @@ followed more (parsed t c rest) = expanded t ++ more c rest
 followed more (stuck rest) = []
 
 -- Each part has a token, so there are at most as many parts as tokens.
-unfoldable pub spelled-from : ℕ → Carry → List ℕ → List ℕ
-spelled-from zero c ts = []
-spelled-from (suc parts) c ts = followed (spelled-from parts) (part c ts)
+unfoldable pub partsSpelled : ℕ → Carry → List ℕ → List ℕ
+partsSpelled zero c ts = []
+partsSpelled (suc parts) c ts = followed (partsSpelled parts) (part c ts)
 
 unfoldable pub spelled : List ℕ → List ℕ
-spelled ts = spelled-from (length ts) nothing ts
+spelled ts = partsSpelled (length ts) nothing ts

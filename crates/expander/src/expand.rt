@@ -3,7 +3,7 @@ ghost use mathlib.Core.Path.{_≡_};
 ghost use mathlib.Core.List.{_++_};
 ghost use Prim.Native.Nat.{_≤_, _<_};
 ghost use lib.ListN.{length, drop};
-ghost use Rattle.grammar.specs.Expanded.{stated, full-form};
+ghost use Rattle.grammar.specs.Expanded.{stated, fullForm};
 ghost use Rattle.simples.specs.Reads.{carryOf, Reads};
 ghost use Rattle.expander.specs.Spelled.{part, spelled};
 use content::relations::NEGATED;
@@ -37,9 +37,9 @@ fn write_relation(out: &mut [u32], relation: u32) -> usize
 
 // A simple condition in full, at the start of the output; and its length. A token without a relation stands alone.
 fn write_simple(out: &mut [u32], subject: u32, relation: u32, object: u32) -> usize
-    requires { ⌜ (relation < 64) × (length (full-form subject relation object) ≤ length (now out)) ⌝ }
-    ensures { λ r. ⌜ r ≡ length (full-form subject relation object) ⌝ }
-    ensures { λ r. ⌜ now (out .exit) ≡ full-form subject relation object ++ drop r (now (out .entry)) ⌝ }
+    requires { ⌜ (relation < 64) × (length (fullForm subject relation object) ≤ length (now out)) ⌝ }
+    ensures { λ r. ⌜ r ≡ length (fullForm subject relation object) ⌝ }
+    ensures { λ r. ⌜ now (out .exit) ≡ fullForm subject relation object ++ drop r (now (out .entry)) ⌝ }
 {
     out[0] = subject;
     if relation == 0 {

@@ -18,7 +18,7 @@ use Rattle.expander.specs.Spelled.{spelled}
 use Rattle.expander.proofs.Spelled.{spelled-expanded}
 use Rattle.rules.specs.Numbers.{ofWritten}
 use Rattle.rules.specs.Calls.{Gives, Leaves, writing, expandGives, planGives}
-use Rattle.rules.proofs.Passing.{Passes, read-as, few-tokens}
+use Rattle.rules.proofs.Passing.{Passes, readAs, fewTokens}
 use Rattle.rules.proofs.Answers.{leaves-as, writes-over, lacks-room}
 use Rattle.resolver.specs.declared.Prepared.{Prepared}
 use Rattle.resolver.specs.declared.Prepared.the-variants.{Rows, Refused as Unprepared}
@@ -53,11 +53,11 @@ module _ {lent : Lent} {tokens : List ℕ} {r : Prepared} {before after : List �
 -- what is prepared is rows
 module _ {lent : Lent} {tokens : List ℕ} {r : Prepared} {before after : List ℕ} (p : Prepares lent tokens r before after) {count : ℕ} (e : r ≡ Rows count) where
   spelled-as : spelled tokens ≡ expanded (ready p e .tree)
-  spelled-as = spelled-expanded tokens (ready p e .tree) (read-as (ready p e .passes))
+  spelled-as = spelled-expanded tokens (ready p e .tree) (readAs (ready p e .passes))
 
   -- "256 tokens expand to at most 634"
   pub few-spelled : length (spelled tokens) ≤ 634
-  few-spelled = let y = ready p e in rw spelled-as (expanded-bound (y .passes .accepts .derives) (few-tokens (y .passes)))
+  few-spelled = let y = ready p e in rw spelled-as (expanded-bound (y .passes .accepts .derives) (fewTokens (y .passes)))
 
   -- n numbers are counted in the spelling
   module _ {n : ℕ} (s : n ≡ length (spelled tokens)) (output : List ℕ) where

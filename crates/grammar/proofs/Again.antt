@@ -14,7 +14,7 @@ use Rattle.tables.specs.Rows.{rowCount, nameCount}
 use Rattle.tables.specs.Operands.{Lent}
 use Rattle.tables.specs.Tables.{tokenCheck}
 use Rattle.tables.proofs.Lines.{failing-none}
-use Rattle.grammar.specs.Grammar.{operand, Is, Carry, nothing, carried, Tree, plain, with-not}
+use Rattle.grammar.specs.Grammar.{operand, Is, Carry, nothing, carried, Tree, plain, withNot}
 use Rattle.grammar.specs.Grammar.{Relation, ordered, bounded, Simple, full, tested, switched, named, short, bare}
 use Rattle.grammar.specs.Grammar.{Condition, Chain, Term, Body, Derives}
 use Rattle.grammar.specs.Depth.{depthFrom, depthCheck}
@@ -73,7 +73,7 @@ module _ (lent : Lent) where
 
   filled-relation : {r : List ℕ} {n : ℕ} (ts : List ℕ) → Relation r n → Filled ts (r ++ ts)
   filled-relation ts (ordered (plain {w = w} h)) = added (word-inserts w (omega (arith, order-token w h))) (filled-none ts)
-  filled-relation ts (ordered (with-not {n = n} {w = w} i h)) =
+  filled-relation ts (ordered (withNot {n = n} {w = w} i h)) =
       added (word-inserts n (omega (arith, not-token n i))) (added (word-inserts w (omega (arith, order-token w h))) (filled-none ts))
   filled-relation ts (bounded {w = w} h) = added (word-inserts w (omega (arith, bound-token w h))) (filled-none ts)
 

@@ -6,7 +6,7 @@ use Prim.Native.Nat.{ℕ, _+_, _*_, _≤_, _<_}
 use native.Mathlib.Omega.{arith}
 use lib.ListN.{length, length-append}
 use Rattle.grammar.specs.Grammar.{nothing}
-use Rattle.grammar.specs.Parser.{Result, parsed, stuck, parse-condition, refused, reading, read}
+use Rattle.grammar.specs.Parser.{Result, parsed, stuck, parseCondition, refused, reading, read}
 use Rattle.grammar.proofs.Local.{left, Longer, local-condition}
 use Rattle.grammar.proofs.Reading.{enough}
 
@@ -36,16 +36,16 @@ module _ (us e : List ℕ) (n : ℕ) (inside : n < length us) where
   abbrev fuel : ℕ
   fuel = 4 * length (us ++ e) + 4
 
-  fueled : parse-condition fuel nothing us ≡ parse-condition (4 * length us + 4) nothing us
+  fueled : parseCondition fuel nothing us ≡ parseCondition (4 * length us + 4) nothing us
   fueled = enough fuel nothing us (omega (arith, length-append us e))
 
   pub refused-whole : read us ≡ refused n → read (us ++ e) ≡ refused n
   unfolding read
   refused-whole h =
-      onward (parse-condition fuel nothing us) (parse-condition fuel nothing (us ++ e)) (local-condition fuel nothing .longer e us) (rw fueled h)
+      onward (parseCondition fuel nothing us) (parseCondition fuel nothing (us ++ e)) (local-condition fuel nothing .longer e us) (rw fueled h)
 
   pub refused-beginning : read (us ++ e) ≡ refused n → read us ≡ refused n
   unfolding read
   refused-beginning h =
       rw (← fueled)
-      (back (parse-condition fuel nothing us) (parse-condition fuel nothing (us ++ e)) (local-condition fuel nothing .longer e us) h)
+      (back (parseCondition fuel nothing us) (parseCondition fuel nothing (us ++ e)) (local-condition fuel nothing .longer e us) h)

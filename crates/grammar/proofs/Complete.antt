@@ -6,7 +6,7 @@ use native.Mathlib.Omega.{arith}
 use lib.ListN.{length, length-append}
 use Rattle.grammar.specs.Grammar.{Class, operand, switch, opening, closing, not, and, or, order, bound, test, name, other, Class-discrete, class}
 use Rattle.grammar.specs.Grammar.{Is, Carry, nothing, carried, Tree, Stated, Relation, Simple, Logical, logical, Condition, Chain, Term, Body}
-use Rattle.grammar.specs.Parser.{Result, parsed, Parser, on, short-ordered, parse-simple, parse-condition, parse-chain, parse-term, parse-body}
+use Rattle.grammar.specs.Parser.{Result, parsed, Parser, on, shortOrdered, parseSimple, parseCondition, parseChain, parseTerm, parseBody}
 use Rattle.grammar.proofs.Sound.{is-logical}
 
 -- At a token that is not of class `k`.
@@ -57,16 +57,16 @@ at {x} i k p q ts =
     refl
 
 pub complete-simple : {c d : Carry} {us : List ℕ} {t : Tree} → Simple c us t d → Logical us → (rest : List ℕ) → Ends 2 rest →
-    parse-simple c (us ++ rest) ≡ parsed t d rest
+    parseSimple c (us ++ rest) ≡ parsed t d rest
 complete-simple (Simple.full i (Relation.ordered (Stated.plain j)) k) g rest s = simp (at i, at j, at k)
-complete-simple (Simple.full i (Relation.ordered (Stated.with-not l j)) k) g rest s = simp (at i, at l, at j, at k)
+complete-simple (Simple.full i (Relation.ordered (Stated.withNot l j)) k) g rest s = simp (at i, at l, at j, at k)
 complete-simple (Simple.full i (Relation.bounded j) k) g rest s = simp (at i, at j, at k)
 complete-simple (Simple.tested i (Stated.plain j)) g rest s = simp (at i, at j)
-complete-simple (Simple.tested i (Stated.with-not l j)) g rest s = simp (at i, at l, at j)
+complete-simple (Simple.tested i (Stated.withNot l j)) g rest s = simp (at i, at l, at j)
 complete-simple (Simple.switched i) g rest s = simp (at i)
 complete-simple (Simple.named i) g rest s = simp (at i)
 complete-simple (Simple.short (Relation.ordered (Stated.plain j)) k) (logical g h) rest s = absurd (g j)
-complete-simple (Simple.short (Relation.ordered (Stated.with-not l j)) k) (logical g h) rest s = absurd (h l)
+complete-simple (Simple.short (Relation.ordered (Stated.withNot l j)) k) (logical g h) rest s = absurd (h l)
 complete-simple (Simple.short (Relation.bounded j) k) g rest s = simp (at j, at k)
 complete-simple (Simple.bare i) g rest s = simp (at i, off 2 rest s)
 
@@ -77,7 +77,7 @@ skip-opening (Simple.tested i s) rest p q = simp (at i)
 skip-opening (Simple.switched i) rest p q = simp (at i)
 skip-opening (Simple.named i) rest p q = simp (at i)
 skip-opening (Simple.short (Relation.ordered (Stated.plain i)) j) rest p q = simp (at i)
-skip-opening (Simple.short (Relation.ordered (Stated.with-not l i)) j) rest p q = simp (at l)
+skip-opening (Simple.short (Relation.ordered (Stated.withNot l i)) j) rest p q = simp (at l)
 skip-opening (Simple.short (Relation.bounded i) j) rest p q = simp (at i)
 skip-opening (Simple.bare i) rest p q = simp (at i)
 
@@ -85,23 +85,23 @@ skip-not : {us : List ℕ} → Logical us → (rest : List ℕ) (p : ℕ → Par
 skip-not (logical g h) rest p q = on-no not p q _ _ (λ e. h (record { is = e }))
 
 pub skip-order : {us : List ℕ} → Logical us → (rest : List ℕ) (c : Carry) (number : ℕ → ℕ) (q : Parser) →
-    short-ordered c number q (us ++ rest) ≡ q (us ++ rest)
+    shortOrdered c number q (us ++ rest) ≡ q (us ++ rest)
 skip-order g rest nothing number q = refl
 skip-order (logical g h) rest (carried a m) number q = on-no order _ q _ _ (λ e. g (record { is = e }))
 
 -- A body is one before which a NOT is logical, or an abbreviated relation that the term's parser reads itself.
 data Shape (c : Carry) (us : List ℕ) (t : Tree) (d : Carry) : Type 0 where
   inner : Logical us → Shape c us t d
-  outer : ((f : ℕ) (rest : List ℕ) → parse-term (suc f) c (us ++ rest) ≡ parsed t d rest) → Shape c us t d
+  outer : ((f : ℕ) (rest : List ℕ) → parseTerm (suc f) c (us ++ rest) ≡ parsed t d rest) → Shape c us t d
 
 shape-simple : {c d : Carry} {us : List ℕ} {t : Tree} → Simple c us t d → Shape c us t d
-unfolding parse-condition
+unfolding parseCondition
 shape-simple (Simple.full i s j) = inner (is-logical i tt tt)
 shape-simple (Simple.tested i s) = inner (is-logical i tt tt)
 shape-simple (Simple.switched i) = inner (is-logical i tt tt)
 shape-simple (Simple.named i) = inner (is-logical i tt tt)
 shape-simple (Simple.short (Relation.ordered (Stated.plain j)) k) = outer (λ f rest. simp (at j, at k))
-shape-simple (Simple.short (Relation.ordered (Stated.with-not i j)) k) = outer (λ f rest. simp (at i, at j, at k))
+shape-simple (Simple.short (Relation.ordered (Stated.withNot i j)) k) = outer (λ f rest. simp (at i, at j, at k))
 shape-simple (Simple.short (Relation.bounded i) j) = inner (is-logical i tt tt)
 shape-simple (Simple.bare i) = inner (is-logical i tt tt)
 
@@ -110,10 +110,10 @@ shape-body (Body.one h) = shape-simple h
 shape-body (Body.brackets i h j) = inner (is-logical i tt tt)
 
 mutual
-  unfolding parse-condition
+  unfolding parseCondition
 
   pub complete-condition : (f : ℕ) {c d : Carry} {us : List ℕ} {t : Tree} → Condition c us t d → (rest : List ℕ) → Ends 0 rest →
-      4 * (length us + length rest) + 4 ≤ f → parse-condition f c (us ++ rest) ≡ parsed t d rest
+      4 * (length us + length rest) + 4 ≤ f → parseCondition f c (us ++ rest) ≡ parsed t d rest
   complete-condition zero h rest s l = absurd (omega arith)
   complete-condition (suc f) (Condition.chain h) rest s l = rw (complete-chain f h rest (ends-le 0 1 rest (omega arith) s) (omega arith), off 0 rest s)
   complete-condition (suc f) (Condition.ors {ts = ts} {us = us} {o = o} h i k) rest s l =
@@ -125,7 +125,7 @@ mutual
       )
 
   pub complete-chain : (f : ℕ) {c d : Carry} {us : List ℕ} {t : Tree} → Chain c us t d → (rest : List ℕ) → Ends 1 rest →
-      4 * (length us + length rest) + 3 ≤ f → parse-chain f c (us ++ rest) ≡ parsed t d rest
+      4 * (length us + length rest) + 3 ≤ f → parseChain f c (us ++ rest) ≡ parsed t d rest
   complete-chain zero h rest s l = absurd (omega arith)
   complete-chain (suc f) (Chain.term h) rest s l =
       rw (complete-term f h rest (ends-le 1 2 rest (omega arith) s) (omega arith), off 1 rest s)
@@ -138,18 +138,18 @@ mutual
       )
 
   pub complete-term : (f : ℕ) {c d : Carry} {us : List ℕ} {t : Tree} → Term c us t d → (rest : List ℕ) → Ends 2 rest →
-      4 * (length us + length rest) + 2 ≤ f → parse-term f c (us ++ rest) ≡ parsed t d rest
+      4 * (length us + length rest) + 2 ≤ f → parseTerm f c (us ++ rest) ≡ parsed t d rest
   complete-term zero h rest s l = absurd (omega arith)
   complete-term (suc f) {c} {d} {us} {t} (Term.body h) rest s l =
       go (shape-body h) (λ g. complete-body f h g rest s (omega arith))
     where
-      go : Shape c us t d → (Logical us → parse-body f c (us ++ rest) ≡ parsed t d rest) → parse-term (suc f) c (us ++ rest) ≡ parsed t d rest
+      go : Shape c us t d → (Logical us → parseBody f c (us ++ rest) ≡ parsed t d rest) → parseTerm (suc f) c (us ++ rest) ≡ parsed t d rest
       go (inner g) hyp = rw (skip-not g rest, skip-order g rest c, hyp g)
       go (outer g) hyp = g f rest
   complete-term (suc f) {c} (Term.negation i g h) rest s l = rw (at i, skip-order g rest c, complete-body f h g rest s (omega arith))
 
   pub complete-body : (f : ℕ) {c d : Carry} {us : List ℕ} {t : Tree} → Body c us t d → Logical us → (rest : List ℕ) → Ends 2 rest →
-      4 * (length us + length rest) + 1 ≤ f → parse-body f c (us ++ rest) ≡ parsed t d rest
+      4 * (length us + length rest) + 1 ≤ f → parseBody f c (us ++ rest) ≡ parsed t d rest
   complete-body zero h g rest s l = absurd (omega arith)
   complete-body (suc f) (Body.one h) g rest s l =
       rw (skip-opening h rest, complete-simple h g rest s)

@@ -10,7 +10,7 @@ use lib.ListN.{length}
 use Rattle.tables.specs.Tokens.{isOff}
 use Rattle.grammar.specs.declared.PlanRow.{PlanRow}
 use Rattle.grammar.specs.Grammar.{operand, switch, test, name, Is, Carry, nothing, carried, Tree, simple, negated, bracketed, both, either}
-use Rattle.grammar.specs.Grammar.{Stated, plain, with-not, Relation, ordered, bounded, Simple, full, tested, switched, named, short, bare}
+use Rattle.grammar.specs.Grammar.{Stated, plain, withNot, Relation, ordered, bounded, Simple, full, tested, switched, named, short, bare}
 use Rattle.grammar.specs.Grammar.{Logical, Condition, chain, ors, Chain, term, ands, Term, body, negation, Body, one, brackets, Derives}
 use Rattle.grammar.specs.Judging.{simpleCount}
 use Rattle.grammar.specs.Plan.{onTrue, onFalse, rowsOf, flat, planned, planRow}
@@ -95,13 +95,13 @@ bracketed-tokens w l r ts e f =
 
 relation-clean : {r : List ℕ} {n : ℕ} (b : ℕ) → Relation r n → Is operand b → Clean (r ++ b ∷ [])
 relation-clean b (ordered (plain {w = w} h)) j = (word-clean w (omega (arith, order-token w h)), (operand-clean b j, tt))
-relation-clean b (ordered (with-not {n = x} {w = w} i h)) j =
+relation-clean b (ordered (withNot {n = x} {w = w} i h)) j =
     (word-clean x (omega (arith, not-token x i)), (word-clean w (omega (arith, order-token w h)), (operand-clean b j, tt)))
 relation-clean b (bounded {w = w} h) j = (word-clean w (omega (arith, bound-token w h)), (operand-clean b j, tt))
 
 test-clean : {r : List ℕ} {n : ℕ} → Stated test r n → Clean r
 test-clean (plain {w = w} h) = (word-clean w (omega (arith, test-token w h)), tt)
-test-clean (with-not {n = x} {w = w} i h) =
+test-clean (withNot {n = x} {w = w} i h) =
     (word-clean x (omega (arith, not-token x i)), (word-clean w (omega (arith, test-token w h)), tt))
 
 name-clean : (s : ℕ) → Is name s → isOff s ≡ false

@@ -5,9 +5,9 @@ use Prim.Native.Nat.{ℕ, _+_, _-_, _<_, _≤_, _%_}
 use native.Mathlib.Omega.{arith}
 use borrow.Author.Tests.{ne-eqb, lt-ltb, le-ltb}
 use Rattle.grammar.specs.Grammar.{Class, operand, not, order, test, Is, Carry, nothing, carried, Tree, simple}
-use Rattle.grammar.specs.Grammar.{Stated, plain, with-not, Relation, ordered, bounded, Simple, full, tested, switched, named, short, bare}
+use Rattle.grammar.specs.Grammar.{Stated, plain, withNot, Relation, ordered, bounded, Simple, full, tested, switched, named, short, bare}
 use Rattle.grammar.specs.Grammar.{Logical, logical, Condition, chain, ors, Chain, term, ands, Term, body, negation, Body, one, brackets, Derives}
-use Rattle.grammar.specs.Expanded.{stated, full-form, expanded, Inserted, end, kept, added}
+use Rattle.grammar.specs.Expanded.{stated, fullForm, expanded, Inserted, end, kept, added}
 use Rattle.grammar.proofs.Spelling.{operand-token, switch-token, name-token, opening-token, closing-token, not-token, and-token, or-token}
 use Rattle.grammar.proofs.Spelling.{order-token, bound-token, test-token, is-opening, is-closing, is-not, is-and, is-or}
 
@@ -23,7 +23,7 @@ worded low high small range (plain {w = w} h) =
     let g : (262144 + low ≤ w) × (w ≤ 262144 + high) = range w h in
     let e : 262144 + w % 65536 ≡ w = omega arith in
     record { says = rw (lt-ltb (w % 65536) 32 (omega arith), e); above = omega arith; below = omega arith }
-worded low high small range (with-not {n = x} {w = w} i h) =
+worded low high small range (withNot {n = x} {w = w} i h) =
     let g : (262144 + low ≤ w) × (w ≤ 262144 + high) = range w h in
     let e : 262144 + (w % 65536 + 32 - 32) ≡ w = omega arith in
     record { says = rw (le-ltb (w % 65536 + 32) 32 (omega arith), e, not-token x i); above = omega arith; below = omega arith }
@@ -36,20 +36,20 @@ pub test-worded : {r : List ℕ} {n : ℕ} → Stated test r n → Worded 10 16 
 test-worded s = worded 10 16 (omega arith) test-token s
 
 -- a simple condition in full, by what its relation number is
-pub full-relation : {r : List ℕ} {n : ℕ} (a b : ℕ) → Relation r n → full-form a n b ≡ a ∷ r ++ b ∷ []
-unfolding full-form
+pub full-relation : {r : List ℕ} {n : ℕ} (a b : ℕ) → Relation r n → fullForm a n b ≡ a ∷ r ++ b ∷ []
+unfolding fullForm
 full-relation {r} {n} a b s =
     let w : Worded 5 9 r n = relation-worded s in
     rw (ne-eqb n 0 (λ e. omega arith), lt-ltb (n % 32) 10 (omega arith), w .says)
 
-pub full-test : {r : List ℕ} {n : ℕ} (a b : ℕ) → Stated test r n → full-form a n b ≡ a ∷ r
-unfolding full-form
+pub full-test : {r : List ℕ} {n : ℕ} (a b : ℕ) → Stated test r n → fullForm a n b ≡ a ∷ r
+unfolding fullForm
 full-test {r} {n} a b s =
     let w : Worded 10 16 r n = test-worded s in
     rw (ne-eqb n 0 (λ e. omega arith), le-ltb (n % 32) 10 (omega arith), w .says) (append-nil (a ∷ r))
 
-pub full-switch : (s : ℕ) → full-form s 0 0 ≡ s ∷ []
-unfolding full-form
+pub full-switch : (s : ℕ) → fullForm s 0 0 ≡ s ∷ []
+unfolding fullForm
 full-switch s = refl
 
 -- tokens inserted: none, in front, and in both of two parts

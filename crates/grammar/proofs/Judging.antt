@@ -8,7 +8,7 @@ use Rattle.tables.specs.declared.Verdict.{Verdict}
 use Rattle.tables.specs.declared.Verdict.the-variants.{True, False, Refused}
 use Rattle.tables.specs.declared.Refusal.{Refusal}
 use Rattle.grammar.specs.Grammar.{Tree, simple, negated, bracketed, both, either}
-use Rattle.grammar.specs.Judging.{Outcomes, simpleCount, when, judged, Visit, visited, chain-of, condition-of, judged-terms, judged-chains}
+use Rattle.grammar.specs.Judging.{Outcomes, simpleCount, when, judged, Visit, visited, chainOf, conditionOf, judgedTerms, judgedChains}
 
 pub when-same : (v : Verdict) → v ≡ when v True False Refused
 unfolding when
@@ -24,13 +24,13 @@ when-not False a b s = refl
 when-not (Refused refusal) a b s = refl
 
 -- the document's words: the parts in order, up to the first that settles it
-pub chain-judges : (out : Outcomes) (n : ℕ) (t : Tree) (ts : List Tree) → judged out n (chain-of t ts) ≡ judged-terms out n (t ∷ ts)
-unfolding judged chain-of judged-terms
+pub chain-judges : (out : Outcomes) (n : ℕ) (t : Tree) (ts : List Tree) → judged out n (chainOf t ts) ≡ judgedTerms out n (t ∷ ts)
+unfolding judged chainOf judgedTerms
 chain-judges out n t [] = when-same (judged out n t)
 chain-judges out n t (u ∷ us) = ap (λ w. when (judged out n t) w False Refused) (chain-judges out (n + simpleCount t) u us)
 
-pub condition-judges : (out : Outcomes) (n : ℕ) (t : Tree) (ts : List Tree) → judged out n (condition-of t ts) ≡ judged-chains out n (t ∷ ts)
-unfolding judged condition-of judged-chains
+pub condition-judges : (out : Outcomes) (n : ℕ) (t : Tree) (ts : List Tree) → judged out n (conditionOf t ts) ≡ judgedChains out n (t ∷ ts)
+unfolding judged conditionOf judgedChains
 condition-judges out n t [] = when-same (judged out n t)
 condition-judges out n t (u ∷ us) = ap (λ w. when (judged out n t) True w Refused) (condition-judges out (n + simpleCount t) u us)
 

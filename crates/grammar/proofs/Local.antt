@@ -5,8 +5,8 @@ use Prim.Native.Nat.{ℕ, zero, suc, _+_, _*_, _≤_, _<_}
 use native.Mathlib.Omega.{arith}
 use lib.ListN.{length}
 use Rattle.grammar.specs.Grammar.{Class, Class-discrete, class, Carry, nothing, carried, Tree}
-use Rattle.grammar.specs.Parser.{Result, parsed, stuck, Parser, done, fail, continue, _then_, on, object, alone, short-bounded, short-ordered}
-use Rattle.grammar.specs.Parser.{after-operand, parse-simple, parse-condition, parse-chain, parse-term, parse-body}
+use Rattle.grammar.specs.Parser.{Result, parsed, stuck, Parser, done, fail, continue, _then_, on, object, alone, shortBounded, shortOrdered}
+use Rattle.grammar.specs.Parser.{afterOperand, parseSimple, parseCondition, parseChain, parseTerm, parseBody}
 
 abbrev pub left : Result → List ℕ
 left (parsed t c rest) = rest
@@ -85,7 +85,7 @@ local-alone : (c : Carry) (a : ℕ) → Local (alone c a)
 local-alone nothing a = local-fail
 local-alone (carried s n) a = local-done _ _
 
-local-after-operand : (c : Carry) (a : ℕ) → Local (after-operand c a)
+local-after-operand : (c : Carry) (a : ℕ) → Local (afterOperand c a)
 local-after-operand c a =
     local-on _ (λ x. local-object a _)
     (local-on _ (λ x. local-object a _)
@@ -93,37 +93,37 @@ local-after-operand c a =
     (local-on _ (λ n. local-on _ (λ x. local-object a _) (local-on _ (λ x. local-done _ _) local-fail))
     (local-alone c a))))
 
-local-short-bounded : (c : Carry) → Local (short-bounded c)
+local-short-bounded : (c : Carry) → Local (shortBounded c)
 local-short-bounded nothing = local-fail
 local-short-bounded (carried a m) = local-on _ (λ x. local-object a _) local-fail
 
-local-short-ordered : (c : Carry) (number : ℕ → ℕ) {p : Parser} → Local p → Local (short-ordered c number p)
+local-short-ordered : (c : Carry) (number : ℕ → ℕ) {p : Parser} → Local p → Local (shortOrdered c number p)
 local-short-ordered nothing number h = h
 local-short-ordered (carried a m) number h = local-on _ (λ x. local-object a _) h
 
-local-simple : (c : Carry) → Local (parse-simple c)
+local-simple : (c : Carry) → Local (parseSimple c)
 local-simple c = local-on _ (λ a. local-after-operand c a) (local-on _ (λ s. local-done _ _) (local-on _ (λ s. local-done _ _) (local-short-bounded c)))
 
 mutual
-  unfolding parse-condition
+  unfolding parseCondition
 
-  pub local-condition : (f : ℕ) (c : Carry) → Local (parse-condition f c)
+  pub local-condition : (f : ℕ) (c : Carry) → Local (parseCondition f c)
   local-condition zero c = local-fail
   local-condition (suc f) c =
       local-then (local-chain f c) (λ t d. local-on _ (λ o. local-then (local-condition f d) (λ u e. local-done _ _)) (local-done _ _))
 
-  pub local-chain : (f : ℕ) (c : Carry) → Local (parse-chain f c)
+  pub local-chain : (f : ℕ) (c : Carry) → Local (parseChain f c)
   local-chain zero c = local-fail
   local-chain (suc f) c =
       local-then (local-term f c) (λ t d. local-on _ (λ o. local-then (local-chain f d) (λ u e. local-done _ _)) (local-done _ _))
 
-  pub local-term : (f : ℕ) (c : Carry) → Local (parse-term f c)
+  pub local-term : (f : ℕ) (c : Carry) → Local (parseTerm f c)
   local-term zero c = local-fail
   local-term (suc f) c =
       local-on _ (λ n. local-short-ordered c _ (local-then (local-body f c) (λ t d. local-done _ _)))
       (local-short-ordered c _ (local-body f c))
 
-  pub local-body : (f : ℕ) (c : Carry) → Local (parse-body f c)
+  pub local-body : (f : ℕ) (c : Carry) → Local (parseBody f c)
   local-body zero c = local-fail
   local-body (suc f) c =
       local-on _ (λ l. local-then (local-condition f nothing) (λ t d. local-on _ (λ r. local-done _ _) local-fail)) (local-simple c)
@@ -151,14 +151,14 @@ agree-then n {p} {p′} {q} {q′} h hp hq ts l = rw (← hp ts l) (go (p ts) (h
     go (parsed t c rest) k = hq t c rest (omega arith)
     go (stuck rest) k = refl
 
-pub agree-short-ordered : (n : ℕ) (c : Carry) (number : ℕ → ℕ) {p q : Parser} → Agree n p q → Agree n (short-ordered c number p) (short-ordered c number q)
+pub agree-short-ordered : (n : ℕ) (c : Carry) (number : ℕ → ℕ) {p q : Parser} → Agree n p q → Agree n (shortOrdered c number p) (shortOrdered c number q)
 agree-short-ordered n nothing number h = h
 agree-short-ordered n (carried a m) number h = agree-on n _ (λ m′ l x ts k. refl) h
 
 mutual
-  unfolding parse-condition
+  unfolding parseCondition
 
-  pub agree-condition : (f g n : ℕ) (c : Carry) → 4 * n + 4 ≤ f → 4 * n + 4 ≤ g → Agree n (parse-condition f c) (parse-condition g c)
+  pub agree-condition : (f g n : ℕ) (c : Carry) → 4 * n + 4 ≤ f → 4 * n + 4 ≤ g → Agree n (parseCondition f c) (parseCondition g c)
   agree-condition zero g n c l k = absurd (omega arith)
   agree-condition (suc f) zero n c l k = absurd (omega arith)
   agree-condition (suc f) (suc g) n c l k =
@@ -167,7 +167,7 @@ mutual
       (λ m j o. agree-then m (local-condition f d) (agree-condition f g m d (omega arith) (omega arith)) (λ u e ts i. refl))
       (λ ts i. refl))
 
-  pub agree-chain : (f g n : ℕ) (c : Carry) → 4 * n + 3 ≤ f → 4 * n + 3 ≤ g → Agree n (parse-chain f c) (parse-chain g c)
+  pub agree-chain : (f g n : ℕ) (c : Carry) → 4 * n + 3 ≤ f → 4 * n + 3 ≤ g → Agree n (parseChain f c) (parseChain g c)
   agree-chain zero g n c l k = absurd (omega arith)
   agree-chain (suc f) zero n c l k = absurd (omega arith)
   agree-chain (suc f) (suc g) n c l k =
@@ -176,7 +176,7 @@ mutual
       (λ m j o. agree-then m (local-chain f d) (agree-chain f g m d (omega arith) (omega arith)) (λ u e ts i. refl))
       (λ ts i. refl))
 
-  pub agree-term : (f g n : ℕ) (c : Carry) → 4 * n + 2 ≤ f → 4 * n + 2 ≤ g → Agree n (parse-term f c) (parse-term g c)
+  pub agree-term : (f g n : ℕ) (c : Carry) → 4 * n + 2 ≤ f → 4 * n + 2 ≤ g → Agree n (parseTerm f c) (parseTerm g c)
   agree-term zero g n c l k = absurd (omega arith)
   agree-term (suc f) zero n c l k = absurd (omega arith)
   agree-term (suc f) (suc g) n c l k =
@@ -186,7 +186,7 @@ mutual
       (agree-then m (local-body f c) (agree-body f g m c (omega arith) (omega arith)) (λ t d ts i. refl)))
       (agree-short-ordered n c _ (agree-body f g n c (omega arith) (omega arith)))
 
-  pub agree-body : (f g n : ℕ) (c : Carry) → 4 * n + 1 ≤ f → 4 * n + 1 ≤ g → Agree n (parse-body f c) (parse-body g c)
+  pub agree-body : (f g n : ℕ) (c : Carry) → 4 * n + 1 ≤ f → 4 * n + 1 ≤ g → Agree n (parseBody f c) (parseBody g c)
   agree-body zero g n c l k = absurd (omega arith)
   agree-body (suc f) zero n c l k = absurd (omega arith)
   agree-body (suc f) (suc g) n c l k =

@@ -7,14 +7,14 @@ use native.Mathlib.Decide.{decLe}
 use lib.ListN.{length, take, length-append}
 use lib.Seq.{take-at, take-append-add, append-snoc}
 use Rattle.grammar.specs.Grammar.{Carry, nothing, Tree, Condition, Derives, Begins, Completes, Place}
-use Rattle.grammar.specs.Parser.{Result, parsed, stuck, parse-condition, accepted, refused, reading, read}
+use Rattle.grammar.specs.Parser.{Result, parsed, stuck, parseCondition, accepted, refused, reading, read}
 use Rattle.grammar.proofs.Sound.{Held, none, Outcome, derived, begun, good-condition}
 use Rattle.grammar.proofs.Complete.{complete-condition}
 use Rattle.grammar.proofs.Local.{left, Longer, local-condition, agree-condition}
 
 pub sound : (ts : List ℕ) (t : Tree) → read ts ≡ accepted t → Derives ts t
 unfolding read
-sound ts t e = go (parse-condition (4 * length ts + 4) nothing ts) (good-condition (4 * length ts + 4) nothing none ts) e
+sound ts t e = go (parseCondition (4 * length ts + 4) nothing ts) (good-condition (4 * length ts + 4) nothing none ts) e
   where
     go : (r : Result) → Outcome [] (Condition nothing) ts r → reading (length ts) r ≡ accepted t → Derives ts t
     go (parsed u c []) (derived us i h k) e =
@@ -23,7 +23,7 @@ sound ts t e = go (parse-condition (4 * length ts + 4) nothing ts) (good-conditi
     go (parsed u c (x ∷ rest)) o e = let z : _≡_ {A = ℕ} 0 1 = cc in absurd (omega arith)
     go (stuck rest) o e = let z : _≡_ {A = ℕ} 0 1 = cc in absurd (omega arith)
 
-parses : (ts : List ℕ) (t : Tree) (h : Derives ts t) (f : ℕ) → 4 * length ts + 4 ≤ f → parse-condition f nothing ts ≡ parsed t (h .carry) []
+parses : (ts : List ℕ) (t : Tree) (h : Derives ts t) (f : ℕ) → 4 * length ts + 4 ≤ f → parseCondition f nothing ts ≡ parsed t (h .carry) []
 parses ts t h f l = rw append-nil at (complete-condition f (h .derivation) [] tt (omega arith))
 
 pub complete : (ts : List ℕ) (t : Tree) → Derives ts t → read ts ≡ accepted t
@@ -35,7 +35,7 @@ pub unambiguous : (ts : List ℕ) (t u : Tree) → Derives ts t → Derives ts u
 unambiguous ts t u h k = cc (complete ts t h, complete ts u k)
 
 -- More fuel than the reading has changes nothing.
-pub enough : (f : ℕ) (c : Carry) (ts : List ℕ) → 4 * length ts + 4 ≤ f → parse-condition f c ts ≡ parse-condition (4 * length ts + 4) c ts
+pub enough : (f : ℕ) (c : Carry) (ts : List ℕ) → 4 * length ts + 4 ≤ f → parseCondition f c ts ≡ parseCondition (4 * length ts + 4) c ts
 enough f c ts l = agree-condition f (4 * length ts + 4) (length ts) c l (omega arith) ts (omega arith)
 
 -- The parser does not stop at a token with which a derived sequence goes on.
@@ -47,14 +47,14 @@ clash (stuck (y ∷ l)) s x us vs t c e h k = let z : _≡_ {A = ℕ} 0 1 = cc i
 
 -- What the parser leaves of the tokens.
 abbrev remains : List ℕ → List ℕ
-remains ts = left (parse-condition (4 * length ts + 4) nothing ts)
+remains ts = left (parseCondition (4 * length ts + 4) nothing ts)
 
 stops : (ps : List ℕ) (x : ℕ) (us vs : List ℕ) (t : Tree) → remains (ps ++ x ∷ us) ≡ x ∷ us → Derives (ps ++ x ∷ vs) t → ⊥
 stops ps x us vs t e h =
     let f = 4 * (length (ps ++ x ∷ us) + length (ps ++ x ∷ vs)) + 4 in
     clash
-    (parse-condition f nothing (ps ++ x ∷ []))
-    (parse-condition f nothing (ps ++ x ∷ us))
+    (parseCondition f nothing (ps ++ x ∷ []))
+    (parseCondition f nothing (ps ++ x ∷ us))
     x
     us
     vs
@@ -91,9 +91,9 @@ place-at ts us rest vs {t} {c} i h g e =
 
 pub place : (ts : List ℕ) (n : ℕ) → read ts ≡ refused n → Place ts n
 unfolding read
-place ts n e = go (parse-condition (4 * length ts + 4) nothing ts) refl (good-condition (4 * length ts + 4) nothing none ts) e
+place ts n e = go (parseCondition (4 * length ts + 4) nothing ts) refl (good-condition (4 * length ts + 4) nothing none ts) e
   where
-    go : (r : Result) → parse-condition (4 * length ts + 4) nothing ts ≡ r → Outcome [] (Condition nothing) ts r → reading (length ts) r ≡ refused n → Place ts n
+    go : (r : Result) → parseCondition (4 * length ts + 4) nothing ts ≡ r → Outcome [] (Condition nothing) ts r → reading (length ts) r ≡ refused n → Place ts n
     go (parsed t c []) q o e = let z : _≡_ {A = ℕ} 0 1 = cc in absurd (omega arith)
     go (parsed t c (x ∷ rest)) q (derived us i h k) e =
         let v : length ts - length (x ∷ rest) ≡ n = cc in

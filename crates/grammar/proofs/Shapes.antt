@@ -21,7 +21,7 @@ use Rattle.typing.proofs.Lending.{shape-operands}
 use Rattle.tables.proofs.Tests.{and-both}
 use Rattle.tables.proofs.Lines.{every-sound}
 use Rattle.grammar.specs.Grammar.{operand, switch, test, name, Is, Carry, nothing, carried, Tree, simple}
-use Rattle.grammar.specs.Grammar.{Stated, plain, with-not, Relation, ordered, bounded, Simple, full, tested, switched, named, short, bare}
+use Rattle.grammar.specs.Grammar.{Stated, plain, withNot, Relation, ordered, bounded, Simple, full, tested, switched, named, short, bare}
 use Rattle.grammar.specs.Grammar.{Condition, Chain, Term, Body, Derives}
 use Rattle.grammar.specs.Judging.{simpleCount}
 use Rattle.grammar.specs.Typed.{typingFrom}
@@ -88,7 +88,7 @@ module _ (lent : Lent) where
     relation-shape : {r : List ℕ} {n : ℕ} → Relation r n → TwoSides n
     relation-shape (ordered (plain {w = w} h)) =
         among TwoSides 5 3 (w % 65536) (omega (arith, order-token w h)) (omega (arith, order-token w h)) (refl, (refl, (refl, tt)))
-    relation-shape (ordered (with-not {w = w} i h)) =
+    relation-shape (ordered (withNot {w = w} i h)) =
         among TwoSides 37 3 (w % 65536 + 32) (omega (arith, order-token w h)) (omega (arith, order-token w h)) (refl, (refl, (refl, tt)))
     relation-shape (bounded {w = w} h) =
         among TwoSides 8 2 (w % 65536) (omega (arith, bound-token w h)) (omega (arith, bound-token w h)) (refl, (refl, tt))
@@ -101,7 +101,7 @@ module _ (lent : Lent) where
     test-shape (plain {w = w} h) =
         among OneSide 10 7 (w % 65536) (omega (arith, test-token w h)) (omega (arith, test-token w h))
         (refl, (refl, (refl, (refl, (refl, (refl, (refl, tt)))))))
-    test-shape (with-not {w = w} i h) =
+    test-shape (withNot {w = w} i h) =
         among OneSide 42 7 (w % 65536 + 32) (omega (arith, test-token w h)) (omega (arith, test-token w h))
         (refl, (refl, (refl, (refl, (refl, (refl, (refl, tt)))))))
 

@@ -9,15 +9,15 @@ use lib.ListN.{length, length-append}
 use lib.Dec.{eqb, ltb}
 use Rattle.grammar.specs.Grammar.{Carry, nothing, carried, Tree, simple, negated, bracketed, both, either}
 use Rattle.grammar.specs.Grammar.{Simple, full, tested, switched, named, short, bare, Condition, Chain, Term, Body, Derives}
-use Rattle.grammar.specs.Expanded.{stated, full-form, expanded}
+use Rattle.grammar.specs.Expanded.{stated, fullForm, expanded}
 use Rattle.grammar.specs.Judging.{simpleCount}
 use Rattle.grammar.proofs.Expansion.{relation-worded, full-relation, full-test, full-switch}
 
 pub stated-width : (n : ℕ) → (1 ≤ length (stated n)) × (length (stated n) ≤ 2)
 stated-width n = elim (decLe 32 n) [ yes h ↦ rw (le-ltb n 32 h) (omega arith) | no h ↦ rw (lt-ltb n 32 (omega arith)) (omega arith) ]
 
-pub full-width : (a n b : ℕ) → length (full-form a n b) ≤ length (stated n) + 2
-unfolding full-form
+pub full-width : (a n b : ℕ) → length (fullForm a n b) ≤ length (stated n) + 2
+unfolding fullForm
 full-width a n b = go (eqb n 0) (ltb (n % 32) 10)
   where
     go : (s o : Bool) → length (cond s (a ∷ []) (a ∷ stated n ++ cond o (b ∷ []) [])) ≤ length (stated n) + 2

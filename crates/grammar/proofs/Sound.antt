@@ -12,8 +12,8 @@ use lib.Seq.{append-snoc}
 use Rattle.grammar.specs.Grammar.{Class, operand, switch, closing, not, order, test, Class-discrete, class, Is, Carry, nothing, carried}
 use Rattle.grammar.specs.Grammar.{Tree, simple, Stated, Relation, Simple, Logical, logical, Condition, Chain, Term, Body, Tabled}
 use Rattle.tables.specs.Tokens.{exists}
-use Rattle.grammar.specs.Parser.{Result, parsed, stuck, Parser, done, fail, continue, _then_, on, object, alone, short-bounded}
-use Rattle.grammar.specs.Parser.{after-operand, parse-simple, parse-condition, parse-chain, parse-term, parse-body}
+use Rattle.grammar.specs.Parser.{Result, parsed, stuck, Parser, done, fail, continue, _then_, on, object, alone, shortBounded}
+use Rattle.grammar.specs.Parser.{afterOperand, parseSimple, parseCondition, parseChain, parseTerm, parseBody}
 use Rattle.grammar.proofs.Spelling.{spelled}
 
 abbrev pub Derived : Type 1
@@ -162,15 +162,15 @@ good-alone nothing a i k = good-word 262154 _ refl (Simple.tested i (Stated.plai
 good-alone (carried b m) a i k = good-done k (Simple.bare i)
 
 good-after-operand : {seen : List ℕ} (c : Carry) (a : ℕ) → Is operand a → List·Memᴰ a seen → Known seen c →
-    Good seen (λ us. Simple c (a ∷ us)) (after-operand c a)
+    Good seen (λ us. Simple c (a ∷ us)) (afterOperand c a)
 good-after-operand c a i s k =
     good-on (λ x j. good-object {m = 0} x _ (some i s) (λ b l. Simple.full i (Relation.ordered (Stated.plain j)) l))
     (good-on (λ x j. good-object {m = 0} x _ (some i s) (λ b l. Simple.full i (Relation.bounded j) l))
     (good-on (λ x j. good-done none (Simple.tested i (Stated.plain j)))
     (good-on (λ n h.
-    good-on (λ x j. good-object {m = 0} x _ (later _ (some i s)) (λ b l. Simple.full i (Relation.ordered (Stated.with-not h j)) l))
-    (good-on (λ x j. good-done none (Simple.tested i (Stated.with-not h j)))
-    (good-word 262154 _ refl (Simple.tested i (Stated.with-not h is-numeric)))))
+    good-on (λ x j. good-object {m = 0} x _ (later _ (some i s)) (λ b l. Simple.full i (Relation.ordered (Stated.withNot h j)) l))
+    (good-on (λ x j. good-done none (Simple.tested i (Stated.withNot h j)))
+    (good-word 262154 _ refl (Simple.tested i (Stated.withNot h is-numeric)))))
     (good-alone c a i k))))
 
 -- A simple condition, or a body, before which a NOT is logical.
@@ -180,13 +180,13 @@ Plain c ts t d = Simple c ts t d × Logical ts
 abbrev Inner : Carry → Derived
 Inner c ts t d = Body c ts t d × Logical ts
 
-good-short-bounded : {seen : List ℕ} (c : Carry) → Known seen c → Good seen (Plain c) (short-bounded c)
+good-short-bounded : {seen : List ℕ} (c : Carry) → Known seen c → Good seen (Plain c) (shortBounded c)
 good-short-bounded nothing k = good-word 131072 _ refl (Simple.switched is-switch, is-logical is-switch tt tt)
 good-short-bounded (carried a m) k =
     good-on (λ x j. good-object x _ k (λ b l. (Simple.short (Relation.bounded j) l, is-logical j tt tt)))
     (good-word 131072 _ refl (Simple.switched is-switch, is-logical is-switch tt tt))
 
-good-simple : {seen : List ℕ} (c : Carry) → Known seen c → Good seen (Plain c) (parse-simple c)
+good-simple : {seen : List ℕ} (c : Carry) → Known seen c → Good seen (Plain c) (parseSimple c)
 good-simple {seen} c k =
     good-on (λ a i. good-as (λ us t d h. (h, is-logical i tt tt)) (good-after-operand c a i (Memᴰ·append-right seen (List·Memᴰ·head refl)) (later _ k)))
     (good-on (λ s i. good-done none (Simple.switched i, is-logical i tt tt))
@@ -196,35 +196,35 @@ a-body : (c : Carry) → Body c (131072 ∷ []) (simple 131072 0 0) nothing
 a-body c = Body.one (Simple.switched is-switch)
 
 mutual
-  unfolding parse-condition
+  unfolding parseCondition
 
-  pub good-condition : (f : ℕ) {seen : List ℕ} (c : Carry) → Known seen c → Good seen (Condition c) (parse-condition f c)
+  pub good-condition : (f : ℕ) {seen : List ℕ} (c : Carry) → Known seen c → Good seen (Condition c) (parseCondition f c)
   good-condition zero c k = good-word 131072 _ refl (Condition.chain (Chain.term (Term.body (a-body c))))
   good-condition (suc f) c k =
       good-then (good-chain f c k) (λ us t d h l.
       good-on (λ o i. good-then (good-condition f d (later _ l)) (λ vs u e g m. good-done m (rw append-nil (Condition.ors h i g))))
       (good-done l (rw append-nil (Condition.chain h))))
 
-  pub good-chain : (f : ℕ) {seen : List ℕ} (c : Carry) → Known seen c → Good seen (Chain c) (parse-chain f c)
+  pub good-chain : (f : ℕ) {seen : List ℕ} (c : Carry) → Known seen c → Good seen (Chain c) (parseChain f c)
   good-chain zero c k = good-word 131072 _ refl (Chain.term (Term.body (a-body c)))
   good-chain (suc f) c k =
       good-then (good-term f c k) (λ us t d h l.
       good-on (λ o i. good-then (good-chain f d (later _ l)) (λ vs u e g m. good-done m (rw append-nil (Chain.ands h i g))))
       (good-done l (rw append-nil (Chain.term h))))
 
-  pub good-term : (f : ℕ) {seen : List ℕ} (c : Carry) → Known seen c → Good seen (Term c) (parse-term f c)
+  pub good-term : (f : ℕ) {seen : List ℕ} (c : Carry) → Known seen c → Good seen (Term c) (parseTerm f c)
   good-term zero c k = good-word 131072 _ refl (Term.body (a-body c))
   good-term (suc f) nothing k =
       good-on (λ n i. good-then (good-body f nothing none) (λ us t d h l. good-done l (rw append-nil (Term.negation i (h .1) (h .0)))))
       (good-as (λ us t d h. Term.body (h .0)) (good-body f nothing none))
   good-term (suc f) (carried a m) k =
       good-on (λ n i.
-      good-on (λ x j. good-object x _ (later _ k) (λ b l. Term.body (Body.one (Simple.short (Relation.ordered (Stated.with-not i j)) l))))
+      good-on (λ x j. good-object x _ (later _ k) (λ b l. Term.body (Body.one (Simple.short (Relation.ordered (Stated.withNot i j)) l))))
       (good-then (good-body f (carried a m) (later _ k)) (λ us t d h l. good-done l (rw append-nil (Term.negation i (h .1) (h .0))))))
       (good-on (λ x j. good-object x _ k (λ b l. Term.body (Body.one (Simple.short (Relation.ordered (Stated.plain j)) l))))
       (good-as (λ us t d h. Term.body (h .0)) (good-body f (carried a m) k)))
 
-  pub good-body : (f : ℕ) {seen : List ℕ} (c : Carry) → Known seen c → Good seen (Inner c) (parse-body f c)
+  pub good-body : (f : ℕ) {seen : List ℕ} (c : Carry) → Known seen c → Good seen (Inner c) (parseBody f c)
   good-body zero c k = good-word 131072 _ refl (a-body c, is-logical is-switch tt tt)
   good-body (suc f) c k =
       good-on (λ l i. good-then (good-condition f nothing none) (λ us t d h m.

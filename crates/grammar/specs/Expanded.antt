@@ -11,12 +11,12 @@ abbrev pub stated : ℕ → List ℕ
 stated n = cond (ltb n 32) (wordToken n ∷ []) (NOT ∷ wordToken (n - 32) ∷ [])
 
 -- a simple condition in full: a switch or a condition-name has no relation, and a class or sign word no object
-unfoldable pub full-form : ℕ → ℕ → ℕ → List ℕ
-full-form a n b = cond (eqb n 0) (a ∷ []) (a ∷ stated n ++ cond (ltb (n % 32) 10) (b ∷ []) [])
+unfoldable pub fullForm : ℕ → ℕ → ℕ → List ℕ
+fullForm a n b = cond (eqb n 0) (a ∷ []) (a ∷ stated n ++ cond (ltb (n % 32) 10) (b ∷ []) [])
 
 -- "The expanded form is the same tokens with the omitted ones inserted where they were left out, and no added brackets."
 unfoldable pub expanded : Tree → List ℕ
-expanded (simple a n b) = full-form a n b
+expanded (simple a n b) = fullForm a n b
 expanded (negated t) = NOT ∷ expanded t
 expanded (bracketed t) = OPEN ∷ expanded t ++ CLOSE ∷ []
 expanded (both t u) = expanded t ++ AND ∷ expanded u

@@ -42,7 +42,7 @@ pub data Tree : Type 0 where
 -- A word of a class, with or without NOT before it, and its number: "the word number, plus 32 where NOT belongs to it".
 pub data Stated (k : Class) : List ℕ → ℕ → Type 0 where
   plain : {w : ℕ} → Is k w → Stated k (w ∷ []) (indexOf w)
-  with-not : {n w : ℕ} → Is not n → Is k w → Stated k (n ∷ w ∷ []) (indexOf w + 32)
+  withNot : {n w : ℕ} → Is not n → Is k w → Stated k (n ∷ w ∷ []) (indexOf w + 32)
 
 -- "A relation is > < = each with or without NOT before it, or >= <= without."
 pub data Relation : List ℕ → ℕ → Type 0 where

@@ -83,18 +83,18 @@ abbrev pub judging : Outcomes → Tree → Walk
 judging out t = walk (judged out 0 t) (visited out 0 t)
 
 -- the same of a chain and of a condition as the list of its parts
-unfoldable pub chain-of : Tree → List Tree → Tree
-chain-of t [] = t
-chain-of t (u ∷ us) = both t (chain-of u us)
+unfoldable pub chainOf : Tree → List Tree → Tree
+chainOf t [] = t
+chainOf t (u ∷ us) = both t (chainOf u us)
 
-unfoldable pub condition-of : Tree → List Tree → Tree
-condition-of t [] = t
-condition-of t (u ∷ us) = either t (condition-of u us)
+unfoldable pub conditionOf : Tree → List Tree → Tree
+conditionOf t [] = t
+conditionOf t (u ∷ us) = either t (conditionOf u us)
 
-unfoldable pub judged-terms : Outcomes → ℕ → List Tree → Verdict
-judged-terms out n [] = True
-judged-terms out n (t ∷ ts) = when (judged out n t) (judged-terms out (n + simpleCount t) ts) False Refused
+unfoldable pub judgedTerms : Outcomes → ℕ → List Tree → Verdict
+judgedTerms out n [] = True
+judgedTerms out n (t ∷ ts) = when (judged out n t) (judgedTerms out (n + simpleCount t) ts) False Refused
 
-unfoldable pub judged-chains : Outcomes → ℕ → List Tree → Verdict
-judged-chains out n [] = False
-judged-chains out n (t ∷ ts) = when (judged out n t) True (judged-chains out (n + simpleCount t) ts) Refused
+unfoldable pub judgedChains : Outcomes → ℕ → List Tree → Verdict
+judgedChains out n [] = False
+judgedChains out n (t ∷ ts) = when (judged out n t) True (judgedChains out (n + simpleCount t) ts) Refused

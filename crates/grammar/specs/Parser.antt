@@ -45,54 +45,54 @@ alone nothing b = fail
 alone (carried a m) b = done (simple a m b) (carried a m)
 
 -- >= or <= and an object
-abbrev pub short-bounded : Carry → Parser
-short-bounded nothing = fail
-short-bounded (carried a m) = on bound (λ w. object a (indexOf w)) fail
+abbrev pub shortBounded : Carry → Parser
+shortBounded nothing = fail
+shortBounded (carried a m) = on bound (λ w. object a (indexOf w)) fail
 
 -- > < or =, to which a NOT before it belongs, and an object; else `p`
-abbrev pub short-ordered : Carry → (ℕ → ℕ) → Parser → Parser
-short-ordered nothing number p = p
-short-ordered (carried a m) number p = on order (λ w. object a (number (indexOf w))) p
+abbrev pub shortOrdered : Carry → (ℕ → ℕ) → Parser → Parser
+shortOrdered nothing number p = p
+shortOrdered (carried a m) number p = on order (λ w. object a (number (indexOf w))) p
 
 -- "An operand followed by a relation, or by a class or sign word with or without NOT, is a subject; else it is an object."
-abbrev pub after-operand : Carry → ℕ → Parser
-after-operand c a =
+abbrev pub afterOperand : Carry → ℕ → Parser
+afterOperand c a =
     on order (λ w. object a (indexOf w))
     (on bound (λ w. object a (indexOf w))
     (on test (λ w. done (simple a (indexOf w) 0) nothing)
     (on not (λ _. on order (λ w. object a (indexOf w + 32)) (on test (λ w. done (simple a (indexOf w + 32) 0) nothing) fail))
     (alone c a))))
 
-abbrev pub parse-simple : Carry → Parser
-parse-simple c =
-    on operand (λ a. after-operand c a)
+abbrev pub parseSimple : Carry → Parser
+parseSimple c =
+    on operand (λ a. afterOperand c a)
     (on switch (λ s. done (simple s 0 0) nothing)
     (on name (λ s. done (simple s 0 0) nothing)
-    (short-bounded c)))
+    (shortBounded c)))
 
 -- Each call takes one unit of fuel; 4 for each token, and 4, are enough.
 unfoldable mutual
-  pub parse-condition : ℕ → Carry → Parser
-  parse-condition zero c = fail
-  parse-condition (suc f) c =
-      parse-chain f c then λ t d. on or (λ _. parse-condition f d then λ u e. done (either t u) e) (done t d)
+  pub parseCondition : ℕ → Carry → Parser
+  parseCondition zero c = fail
+  parseCondition (suc f) c =
+      parseChain f c then λ t d. on or (λ _. parseCondition f d then λ u e. done (either t u) e) (done t d)
 
-  pub parse-chain : ℕ → Carry → Parser
-  parse-chain zero c = fail
-  parse-chain (suc f) c =
-      parse-term f c then λ t d. on and (λ _. parse-chain f d then λ u e. done (both t u) e) (done t d)
+  pub parseChain : ℕ → Carry → Parser
+  parseChain zero c = fail
+  parseChain (suc f) c =
+      parseTerm f c then λ t d. on and (λ _. parseChain f d then λ u e. done (both t u) e) (done t d)
 
-  pub parse-term : ℕ → Carry → Parser
-  parse-term zero c = fail
-  parse-term (suc f) c =
-      on not (λ _. short-ordered c (λ n. n + 32) (parse-body f c then λ t d. done (negated t) d))
-      (short-ordered c (λ n. n) (parse-body f c))
+  pub parseTerm : ℕ → Carry → Parser
+  parseTerm zero c = fail
+  parseTerm (suc f) c =
+      on not (λ _. shortOrdered c (λ n. n + 32) (parseBody f c then λ t d. done (negated t) d))
+      (shortOrdered c (λ n. n) (parseBody f c))
 
-  pub parse-body : ℕ → Carry → Parser
-  parse-body zero c = fail
-  parse-body (suc f) c =
-      on opening (λ _. parse-condition f nothing then λ t d. on closing (λ _. done (bracketed t) nothing) fail)
-      (parse-simple c)
+  pub parseBody : ℕ → Carry → Parser
+  parseBody zero c = fail
+  parseBody (suc f) c =
+      on opening (λ _. parseCondition f nothing then λ t d. on closing (λ _. done (bracketed t) nothing) fail)
+      (parseSimple c)
 
 -- a whole sequence: its tree, or the place where no derived sequence goes on
 pub data Reading : Type 0 where
@@ -105,4 +105,4 @@ reading n (parsed t c (x ∷ rest)) = refused (n - length (x ∷ rest))
 reading n (stuck rest) = refused (n - length rest)
 
 unfoldable pub read : List ℕ → Reading
-read ts = reading (length ts) (parse-condition (4 * length ts + 4) nothing ts)
+read ts = reading (length ts) (parseCondition (4 * length ts + 4) nothing ts)

@@ -23,7 +23,7 @@ use Rattle.description.specs.Grammar.{Row, row, Literal, literalRow, literalRow
 use Rattle.description.specs.Limits.{Outcome, table, refusal, describe, ruled}
 use Rattle.description.proofs.Keeping.{Within, within}
 use Rattle.spelling.proofs.Given.{AllFitting, entries-fit}
-use Rattle.spelling.proofs.Describing.{few-bytes}
+use Rattle.spelling.proofs.Describing.{fewBytes}
 use Rattle.storing.specs.Naming.{nameNumbers}
 use Rattle.layouts.specs.Layouts.{rowNumbers}
 use Rattle.describing.specs.declared.Described.{Described}
@@ -50,11 +50,11 @@ module _ (off : Bool) (text : List ℕ) (t : Table) (e : describe text ≡ table
   abbrev xs : List Literal
   xs = literalsOf (t .conditions)
 
-  literals-are : Calls.literalsOf t ≡ rowNumbers (literalRows 0 xs)
-  literals-are = ap rowNumbers (w .valid .literals)
+  literalsAre : Calls.literalsOf t ≡ rowNumbers (literalRows 0 xs)
+  literalsAre = ap rowNumbers (w .valid .literals)
 
   literal-count : rowCount (Calls.literalsOf t) ≡ length xs
-  literal-count = ap rowCount literals-are ∙ count-is (literalRows 0 xs) ∙ rows-length 0 xs
+  literal-count = ap rowCount literalsAre ∙ count-is (literalRows 0 xs) ∙ rows-length 0 xs
 
   fitting : AllFitting xs
   fitting =
@@ -72,17 +72,17 @@ module _ (off : Bool) (text : List ℕ) (t : Table) (e : describe text ≡ table
 
   -- 3, 4
   literals-long : literalTableCheck l ≡ Sound
-  literals-long = rw (literals-are, length-sound (literalRows 0 xs) (omega (arith, rows-length 0 xs, w .literals)))
+  literals-long = rw (literalsAre, length-sound (literalRows 0 xs) (omega (arith, rows-length 0 xs, w .literals)))
 
   row-of : (k : ℕ) → k < length xs → rowAt (Calls.literalsOf t) k ≡ ruled (literalRow (offset xs k) (getD xs k nothing))
   row-of k h =
-      ap (λ (ns : List ℕ). rowAt ns k) literals-are ∙ row-at (literalRows 0 xs) k none (omega (arith, rows-length 0 xs)) ∙ ap ruled (row-is xs k none h)
+      ap (λ (ns : List ℕ). rowAt ns k) literalsAre ∙ row-at (literalRows 0 xs) k none (omega (arith, rows-length 0 xs)) ∙ ap ruled (row-is xs k none h)
 
   literals-sound : literalRowCheck l ≡ Sound
   literals-sound =
       failing-none (λ v. literalSound (t .bytes) (rowAt (Calls.literalsOf t) v)) LiteralRow 0 (rowCount (Calls.literalsOf t)) (λ v a b.
       let h : v < length xs = omega (arith, literal-count) in
-      ap₂ literalSound (w .valid .bytes) (row-of v h) ∙ sound-at xs v fitting (omega (arith, few-bytes text t e, ap length (w .valid .bytes))) h)
+      ap₂ literalSound (w .valid .bytes) (row-of v h) ∙ sound-at xs v fitting (omega (arith, fewBytes text t e, ap length (w .valid .bytes))) h)
 
   holds : (k : ℕ) → k < length xs → Holds l k (getD xs k nothing)
   holds k h =
@@ -97,11 +97,11 @@ module _ (off : Bool) (text : List ℕ) (t : Table) (e : describe text ≡ table
   good : AllGood (t .rows) (t .conditions)
   good = all-good (t .rows) (w .valid .described) (omega (arith, w .as-many)) (λ j d h. (w .name-kept j d h .few, w .name-kept j d h .free))
 
-  names-are : namesOf t ≡ nameNumbers (nameRows 0 (t .conditions))
-  names-are = ap nameNumbers (w .valid .named)
+  namesAre : namesOf t ≡ nameNumbers (nameRows 0 (t .conditions))
+  namesAre = ap nameNumbers (w .valid .named)
 
   names-count : length (namesOf t) ≡ length (t .conditions) * 18
-  names-count = ap length names-are ∙ names-length (t .rows) 0 (t .conditions) good
+  names-count = ap length namesAre ∙ names-length (t .rows) 0 (t .conditions) good
 
   names-long : namesLengthSound (namesOf t) ≡ true
   names-long =
@@ -118,7 +118,7 @@ module _ (off : Bool) (text : List ℕ) (t : Table) (e : describe text ≡ table
         let z : 0 + v ≡ v = omega arith in
         rw z at
         (names-sound beside (t .rows) refl xs all 0 0 (t .conditions)
-        (λ m. let y : 0 * 18 + m ≡ m = omega arith in rw y (ap (λ (ns : List ℕ). getD ns m 0) names-are)) good refl v h)
+        (λ m. let y : 0 * 18 + m ≡ m = omega arith in rw y (ap (λ (ns : List ℕ). getD ns m 0) namesAre)) good refl v h)
 
     names-fine : firstFailing (nameSound beside) Name 0 (nameCount (namesOf t)) ≡ Sound
     names-fine = failing-none (nameSound beside) Name 0 (nameCount (namesOf t)) (λ v a b. each-name v (omega (arith, names-count)))
@@ -196,10 +196,10 @@ outputs-lendable off text rows places names name-places literals bytes rows-afte
         let n3 : length (namesOf t) ≡ c = cc in
         let n5 : length (Calls.literalsOf t) ≡ e = cc in
         let n6 : length (t .bytes) ≡ f = cc in
-        let o1 : rows-after ≡ rowsOf t ++ drop (length (rowsOf t)) rows = D .rows-written ∙ rw q in
-        let o3 : names-after ≡ namesOf t ++ drop (length (namesOf t)) names = D .names-written ∙ rw q in
-        let o5 : literals-after ≡ Calls.literalsOf t ++ drop (length (Calls.literalsOf t)) literals = D .literals-written ∙ rw q in
-        let o6 : bytes-after ≡ t .bytes ++ drop (length (t .bytes)) bytes = D .bytes-written ∙ rw q in
+        let o1 : rows-after ≡ rowsOf t ++ drop (length (rowsOf t)) rows = D .rowsWritten ∙ rw q in
+        let o3 : names-after ≡ namesOf t ++ drop (length (namesOf t)) names = D .namesWritten ∙ rw q in
+        let o5 : literals-after ≡ Calls.literalsOf t ++ drop (length (Calls.literalsOf t)) literals = D .literalsWritten ∙ rw q in
+        let o6 : bytes-after ≡ t .bytes ++ drop (length (t .bytes)) bytes = D .bytesWritten ∙ rw q in
         let same : lent off (take a rows-after) (take e literals-after) (take f bytes-after) (take c names-after) ≡ lentOf off t =
         ap₂ (λ (x y : List ℕ). lent off x (take e literals-after) (take f bytes-after) y) (front (rowsOf t) rows o1 n1) (front (namesOf t) names o3 n3)
         ∙ ap₂ (λ (x y : List ℕ). lent off (rowsOf t) x y (namesOf t)) (front (Calls.literalsOf t) literals o5 n5) (front (t .bytes) bytes o6 n6) in

@@ -37,10 +37,10 @@ AllGood rows (c ∷ cs) = Good rows c × AllGood rows cs
 
 -- an entry's item stands before it, and it has a value
 some-values : {ws : List Word} {vs : List Value} → Values ws vs → 0 < length vs
-some-values (Values.last-single s) = omega arith
-some-values (Values.last-range s t) = omega arith
-some-values (Values.more-single s v) = omega arith
-some-values (Values.more-range s t v) = omega arith
+some-values (Values.lastSingle s) = omega arith
+some-values (Values.lastRange s t) = omega arith
+some-values (Values.moreSingle s v) = omega arith
+some-values (Values.moreRange s t v) = omega arith
 
 named-some : {k : ℕ} {ws : List Word} {c : Condition} → Names k ws c → (c .item ≡ k) × (0 < length (c .values))
 named-some (Names.names n v) = (refl, some-values v)

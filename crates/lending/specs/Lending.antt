@@ -33,7 +33,7 @@ NamesLendable =
 -- none of them of the outputs, as far as the call's counts say that they are written
 abbrev pub OutputsLendable : Type 0
 OutputsLendable =
-    (off : Bool) (text rows places names name-places literals bytes rows-after places-after names-after name-places-after literals-after bytes-after : List ℕ)
+    (off : Bool) (text rows places names namePlaces literals bytes rowsAfter placesAfter namesAfter namePlacesAfter literalsAfter bytesAfter : List ℕ)
     (a b c d e f : ℕ) →
-    DescribedBy text rows places names name-places literals bytes (Counts a b c d e f) rows-after places-after names-after name-places-after literals-after bytes-after →
-    firstOf (lentLines (lent off (take a rows-after) (take e literals-after) (take f bytes-after) (take c names-after))) ≡ Sound
+    DescribedBy text rows places names namePlaces literals bytes (Counts a b c d e f) rowsAfter placesAfter namesAfter namePlacesAfter literalsAfter bytesAfter →
+    firstOf (lentLines (lent off (take a rowsAfter) (take e literalsAfter) (take f bytesAfter) (take c namesAfter))) ≡ Sound

@@ -63,7 +63,7 @@ module _ {known : Known} {text : List ℕ} {g : Gathered} {tokens rows bytes : L
   B = R .bounds
 
   inside : (at < length text) × (g .past < r .past)
-  inside = (omega (arith, M .some, M .inside, M .within), omega (arith, M .not-before, M .some, M .inside))
+  inside = (omega (arith, M .some, M .inside, M .within), omega (arith, M .notBefore, M .some, M .inside))
 
   pieces-next : (s : Spelt) → M .spelt ≡ s → leftPieces known text (g .past) ≡ s ∷ leftPieces known text (r .past)
   pieces-next s e = ap (map (λ (x : Placed). x .piece)) (M .next) ∙ ap (λ (p : Spelt). p ∷ leftPieces known text (r .past)) e
@@ -71,7 +71,7 @@ module _ {known : Known} {text : List ℕ} {g : Gathered} {tokens rows bytes : L
   faults : (w : Total) (G : Gathers known text w g tokens rows bytes) (s : Spelt) → M .spelt ≡ s
       → w .fault ≡ before (faultAt (g .literals) at s) (firstFault (after (g .literals) s) (left known text (r .past)))
   faults w G s e =
-      G .fault-is ∙ ap (firstFault (g .literals)) (M .next)
+      G .faultIs ∙ ap (firstFault (g .literals)) (M .next)
       ∙ fault-next (g .literals) (record { place = at; piece = M .spelt }) (left known text (r .past))
       ∙ ap (λ (p : Spelt). before (faultAt (g .literals) at p) (firstFault (after (g .literals) p) (left known text (r .past)))) e
 
@@ -94,7 +94,7 @@ module _ {known : Known} {text : List ℕ} {g : Gathered} {tokens rows bytes : L
   stored : (whole : List ℕ) (t : ℕ) (rest : List ℕ) → whole ≡ take (g .tokens) tokens ++ t ∷ rest
       → whole ≡ take (g .tokens + 1) (set tokens (g .tokens) t) ++ rest
   stored whole t rest e =
-      let h : g .tokens < length tokens = omega (arith, B .few-tokens, R .soon, R .rooms .tokens-room) in
+      let h : g .tokens < length tokens = omega (arith, B .fewTokens, R .soon, R .rooms .tokensRoom) in
       e ∙ sym (append-assoc (take (g .tokens) tokens) (t ∷ []) rest)
       ∙ ap (λ (v : List ℕ). v ++ rest) (sym (ap (λ (n : ℕ). take n (set tokens (g .tokens) t)) (add-one (g .tokens)) ∙ take-suc-set tokens (g .tokens) t h))
 
@@ -109,17 +109,17 @@ module _ {known : Known} {text : List ℕ} {g : Gathered} {tokens rows bytes : L
         gives = (
           λ w G.
               record {
-                tokens-are = stored (w .tokens) t (tokensFrom (g .literals) ps) (G .tokens-are ∙ ap (λ (v : List ℕ). take (g .tokens) tokens ++ v) (ap (tokensFrom (g .literals)) n
+                tokensAre = stored (w .tokens) t (tokensFrom (g .literals) ps) (G .tokensAre ∙ ap (λ (v : List ℕ). take (g .tokens) tokens ++ v) (ap (tokensFrom (g .literals)) n
                     ∙ tokens-next (g .literals) t ps));
-                rows-are = G .rows-are ∙ ap (λ (v : List ℕ). take (g .literals * 5) rows ++ v) (ap (rowsFrom (g .bytes)) n ∙ rows-next (g .bytes) t ps);
-                bytes-are = G .bytes-are ∙ ap (λ (v : List ℕ). take (g .bytes) bytes ++ v) (ap bytesOf n ∙ bytes-next t ps);
-                fault-is = faults w G (token t) e;
+                rowsAre = G .rowsAre ∙ ap (λ (v : List ℕ). take (g .literals * 5) rows ++ v) (ap (rowsFrom (g .bytes)) n ∙ rows-next (g .bytes) t ps);
+                bytesAre = G .bytesAre ∙ ap (λ (v : List ℕ). take (g .bytes) bytes ++ v) (ap bytesOf n ∙ bytes-next t ps);
+                faultIs = faults w G (token t) e;
               },
           record {
             within = M .within;
-            few-tokens = omega (arith, B .few-tokens, inside .1);
-            few-literals = B .few-literals;
-            few-bytes = omega (arith, B .few-bytes, inside .1);
+            fewTokens = omega (arith, B .fewTokens, inside .1);
+            fewLiterals = B .fewLiterals;
+            fewBytes = omega (arith, B .fewBytes, inside .1);
           },
           inside .1,
         );
@@ -154,11 +154,11 @@ module _ {known : Known} {text : List ℕ} {g : Gathered} {tokens rows bytes : L
       let size : length (L .l .bytes) ≡ row .size = ap (λ (x : Row). x .size) (L .row-is) in
       let kind : L .l .kind ≡ row .kind = ap (λ (x : Row). x .kind) (L .row-is) in
       record {
-        token-room = omega (arith, B .few-tokens, R .soon, R .rooms .tokens-room);
+        tokenRoom = omega (arith, B .fewTokens, R .soon, R .rooms .tokensRoom);
         few = h;
-        row-room = omega (arith, R .rooms .rows-room);
-        near = omega (arith, B .few-bytes, R .soon);
-        room = omega (arith, B .few-bytes, R .soon, R .rooms .bytes-room, L .made .small, size);
+        rowRoom = omega (arith, R .rooms .rowsRoom);
+        near = omega (arith, B .fewBytes, R .soon);
+        room = omega (arith, B .fewBytes, R .soon, R .rooms .bytesRoom, L .made .small, size);
         size = sym (ap (λ (k : ℕ). length (literalBy k (between text at end) .bytes)) kind) ∙ sym (ap (λ (x : Literal). length (x .bytes)) (L .made .by)) ∙ size;
         small = omega (arith, L .made .small, size);
         quoted = λ q. L .made .quoted (kind ∙ q);
@@ -180,34 +180,34 @@ module _ {known : Known} {text : List ℕ} {g : Gathered} {tokens rows bytes : L
       sym (ap (λ (k : ℕ). literalBy k (between text at end) .bytes) kind) ∙ sym (ap (λ (x : Literal). x .bytes) (L .made .by)) in
       let the-row : movedTo o row ≡ rowOfLiteral o l = ap (movedTo o) (sym (L .row-is)) in
       let wide : length (between text at end) ≤ end - at = omega (arith, length-take (end - at) (drop at text)) in
-      let rows-wide : v * 5 ≤ length rows = omega (arith, R .rooms .rows-room) in
-      let bytes-wide : o ≤ length bytes = omega (arith, B .few-bytes, R .soon, R .rooms .bytes-room) in
+      let rows-wide : v * 5 ≤ length rows = omega (arith, R .rooms .rowsRoom) in
+      let bytes-wide : o ≤ length bytes = omega (arith, B .fewBytes, R .soon, R .rooms .bytesRoom) in
       let four : v * 5 + 5 ≡ (v + 1) * 5 = omega arith in
-      rw (D .counts, D .token-laid, D .row-laid, D .bytes-laid, the-bytes, the-row)
+      rw (D .counts, D .tokenLaid, D .rowLaid, D .bytesLaid, the-bytes, the-row)
       record {
         gives = (
           λ u G.
               record {
-                tokens-are =
+                tokensAre =
                     stored (u .tokens) (65536 + v) (tokensFrom (v + 1) ps)
-                    (G .tokens-are ∙ ap (λ (x : List ℕ). take (g .tokens) tokens ++ x) (ap (tokensFrom v) n ∙ tokens-literal v l ps ∙ ap (λ (k : ℕ). (65536 + v) ∷ tokensFrom k ps) (sym one)));
-                rows-are =
+                    (G .tokensAre ∙ ap (λ (x : List ℕ). take (g .tokens) tokens ++ x) (ap (tokensFrom v) n ∙ tokens-literal v l ps ∙ ap (λ (k : ℕ). (65536 + v) ∷ tokensFrom k ps) (sym one)));
+                rowsAre =
                     joined _ (take (v * 5) rows) (laid (rowOfLiteral o l)) (rowsFrom (o + row .size) ps)
-                    (G .rows-are ∙ ap (λ (x : List ℕ). take (v * 5) rows ++ x) (ap (rowsFrom o) n ∙ rows-literal o l ps ∙ ap (λ (k : ℕ). laid (rowOfLiteral o l) ++ rowsFrom (o + k) ps) size))
+                    (G .rowsAre ∙ ap (λ (x : List ℕ). take (v * 5) rows ++ x) (ap (rowsFrom o) n ∙ rows-literal o l ps ∙ ap (λ (k : ℕ). laid (rowOfLiteral o l) ++ rowsFrom (o + k) ps) size))
                     ∙ ap (λ (x : List ℕ). x ++ rowsFrom (o + row .size) ps)
                     (sym (ap (λ (k : ℕ). take k (overAt (v * 5) (laid (rowOfLiteral o l)) rows)) (sym four) ∙ over-front (v * 5) (laid (rowOfLiteral o l)) rows rows-wide));
-                bytes-are =
+                bytesAre =
                     joined _ (take o bytes) (l .bytes) (bytesOf ps)
-                    (G .bytes-are ∙ ap (λ (x : List ℕ). take o bytes ++ x) (ap bytesOf n ∙ bytes-literal l ps))
+                    (G .bytesAre ∙ ap (λ (x : List ℕ). take o bytes ++ x) (ap bytesOf n ∙ bytes-literal l ps))
                     ∙ ap (λ (x : List ℕ). x ++ bytesOf ps)
                     (sym (ap (λ (k : ℕ). take (o + k) (overAt o (l .bytes) bytes)) (sym size) ∙ over-front o (l .bytes) bytes bytes-wide));
-                fault-is = faults u G (literal l) (L .is) ∙ rw (lt-ltb v 64 h, one);
+                faultIs = faults u G (literal l) (L .is) ∙ rw (lt-ltb v 64 h, one);
               },
           record {
             within = M .within;
-            few-tokens = omega (arith, B .few-tokens, inside .1);
-            few-literals = omega arith;
-            few-bytes = omega (arith, B .few-bytes, M .not-before, M .some, M .inside, L .made .short, wide, size);
+            fewTokens = omega (arith, B .fewTokens, inside .1);
+            fewLiterals = omega arith;
+            fewBytes = omega (arith, B .fewBytes, M .notBefore, M .some, M .inside, L .made .short, wide, size);
           },
           inside .1,
         );

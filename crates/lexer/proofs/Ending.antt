@@ -94,17 +94,17 @@ rows-before literals rows h l = let e = length-take-le (literals * 5) rows (omeg
 pub nothing : (known : Known) (text : List ℕ) (literals content : ℕ) (tokens rows bytes : List ℕ) → literals ≤ 64 → content ≤ 4096 → Rooms tokens rows bytes
     → Gathers known text (totalOf (bookIn known literals content rows bytes) text) (record { tokens = 0; literals = literals; bytes = content; past = 0 }) tokens rows bytes
 nothing known text literals content tokens rows bytes h k R =
-    let n : rowCount (take (literals * 5) rows) ≡ literals = rows-before literals rows h (R .rows-room) in
-    let b : length (take content bytes) ≡ content = length-take-le content bytes (omega (arith, R .bytes-room)) in
+    let n : rowCount (take (literals * 5) rows) ≡ literals = rows-before literals rows h (R .rowsRoom) in
+    let b : length (take content bytes) ≡ content = length-take-le content bytes (omega (arith, R .bytesRoom)) in
     record {
-      tokens-are = ap (λ (m : ℕ). tokensFrom m (pieces known text)) n;
-      rows-are = ap (λ (m : ℕ). take (literals * 5) rows ++ rowsFrom m (pieces known text)) b;
-      bytes-are = refl;
-      fault-is = ap (λ (m : ℕ). firstFault m (placed known text)) n;
+      tokensAre = ap (λ (m : ℕ). tokensFrom m (pieces known text)) n;
+      rowsAre = ap (λ (m : ℕ). take (literals * 5) rows ++ rowsFrom m (pieces known text)) b;
+      bytesAre = refl;
+      faultIs = ap (λ (m : ℕ). firstFault m (placed known text)) n;
     }
 
 pub few-yet : (text : List ℕ) (literals content : ℕ) → literals ≤ 64 → content ≤ 4096 → Bounds text (record { tokens = 0; literals = literals; bytes = content; past = 0 })
-few-yet text literals content h k = record { within = omega arith; few-tokens = omega arith; few-literals = h; few-bytes = omega arith }
+few-yet text literals content h k = record { within = omega arith; fewTokens = omega arith; fewLiterals = h; fewBytes = omega arith }
 
 module _ (b : Book) (text : List ℕ) where
   abbrev known : Known
@@ -119,18 +119,18 @@ module _ (b : Book) (text : List ℕ) where
     nothing-left e h =
         let p : leftPieces known text (g .past) ≡ [] = ap (map (λ (x : Placed). x .piece)) e in
         record {
-          faultless = short-fault known n text h ∙ G .fault-is ∙ ap (firstFault (g .literals)) e;
-          tokens-are = G .tokens-are ∙ ap (λ (ps : List Spelt). take (g .tokens) tokens ++ tokensFrom (g .literals) ps) p ∙ append-nil (take (g .tokens) tokens);
-          rows-are = G .rows-are ∙ ap (λ (ps : List Spelt). take (g .literals * 5) rows ++ rowsFrom (g .bytes) ps) p ∙ append-nil (take (g .literals * 5) rows);
-          bytes-are = G .bytes-are ∙ ap (λ (ps : List Spelt). take (g .bytes) bytes ++ bytesOf ps) p ∙ append-nil (take (g .bytes) bytes);
-          few-tokens = omega (arith, B .few-tokens, B .within);
-          few-literals = B .few-literals;
-          few-bytes = omega (arith, B .few-bytes, B .within);
+          faultless = short-fault known n text h ∙ G .faultIs ∙ ap (firstFault (g .literals)) e;
+          tokensAre = G .tokensAre ∙ ap (λ (ps : List Spelt). take (g .tokens) tokens ++ tokensFrom (g .literals) ps) p ∙ append-nil (take (g .tokens) tokens);
+          rowsAre = G .rowsAre ∙ ap (λ (ps : List Spelt). take (g .literals * 5) rows ++ rowsFrom (g .bytes) ps) p ∙ append-nil (take (g .literals * 5) rows);
+          bytesAre = G .bytesAre ∙ ap (λ (ps : List Spelt). take (g .bytes) bytes ++ bytesOf ps) p ∙ append-nil (take (g .bytes) bytes);
+          fewTokens = omega (arith, B .fewTokens, B .within);
+          fewLiterals = B .fewLiterals;
+          fewBytes = omega (arith, B .fewBytes, B .within);
         }
 
     too-long : left known text (g .past) ≡ [] → 2048 < length text → faultOf known n text ≡ refusal 15 2048
     unfolding firstFault
-    too-long e h = long-fault known n text h ∙ ap orTooLong (G .fault-is ∙ ap (firstFault (g .literals)) e)
+    too-long e h = long-fault known n text h ∙ ap orTooLong (G .faultIs ∙ ap (firstFault (g .literals)) e)
 
     -- no word starts before byte 2,048 any more
     pub whole-past : 2048 ≤ g .past → length text ≤ 2048 → Lexes b text (Whole g) tokens rows bytes
@@ -140,7 +140,7 @@ module _ (b : Book) (text : List ℕ) where
     pub long-past : 2048 ≤ g .past → 2048 < length text → Lexes b text (LexedFault 15 2048) tokens rows bytes
     long-past p h =
         let l = late known (g .past) (g .literals) 0 (wordsAt text (g .past)) (words-from 0 (g .past) (drop (g .past) text)) in
-        record { gives = long-fault known n text h ∙ ap orTooLong (G .fault-is) ∙ too-late (g .past) (firstFault (g .literals) (left known text (g .past))) p l }
+        record { gives = long-fault known n text h ∙ ap orTooLong (G .faultIs) ∙ too-late (g .past) (firstFault (g .literals) (left known text (g .past))) p l }
 
   module _ {g : Gathered} {t w c tokens rows bytes : List ℕ} (G : Gathers known text (totalOf b text) g t w c) (B : Bounds text g) (r : Stepped)
       (S : Steps known text g t w c r tokens rows bytes) where
@@ -176,4 +176,4 @@ no-step {known} r n e = record { gives = (λ w G. G, ap (piecesFrom known 0) (fo
 -- rooms stay
 pub rooms-stay : {t w b tokens rows bytes : List ℕ} → Rooms t w b → length tokens ≡ length t → length rows ≡ length w → length bytes ≡ length b → Rooms tokens rows bytes
 rooms-stay R e f h =
-    record { tokens-room = omega (arith, R .tokens-room); rows-room = omega (arith, R .rows-room); bytes-room = omega (arith, R .bytes-room) }
+    record { tokensRoom = omega (arith, R .tokensRoom); rowsRoom = omega (arith, R .rowsRoom); bytesRoom = omega (arith, R .bytesRoom) }

@@ -240,7 +240,7 @@ module _ (known : Known) (text : List ℕ) (past at end : ℕ) (r : Piece) where
             ∙ first-piece known (record { place = at; text = w }) ws
             ∙ ap (λ (xs : List Placed). record { place = at; piece = pieceOf m ws } ∷ xs)
             (passed known (joins m ws) ws ∙ ap (piecesFrom known 0) (sym (p .words)));
-        not-before = h;
+        notBefore = h;
         some = l;
         inside = p .passed;
         within = p .within;

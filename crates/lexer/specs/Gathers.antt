@@ -39,9 +39,9 @@ leftPieces known text at = map (λ (x : Placed). x .piece) (left known text at)
 -- room for every token, row and byte of a text whose words start before byte 2,048, after the literals of a description: these have at
 -- most 4,096 bytes
 pub record Rooms (tokens rows bytes : List ℕ) : Type 0 where
-  pub tokens-room : 2048 ≤ length tokens
-  pub rows-room : 320 ≤ length rows
-  pub bytes-room : 6400 ≤ length bytes
+  pub tokensRoom : 2048 ≤ length tokens
+  pub rowsRoom : 320 ≤ length rows
+  pub bytesRoom : 6400 ≤ length bytes
 
 -- what a text comes to, after the literals of a book
 pub record Total : Type 0 where
@@ -65,16 +65,16 @@ bookIn known literals content rows bytes = book known (take (literals * rowWidth
 
 -- What is gathered, with what is left, is the whole.
 pub record Gathers (known : Known) (text : List ℕ) (w : Total) (g : Gathered) (tokens rows bytes : List ℕ) : Type 0 where
-  pub tokens-are : w .tokens ≡ take (g .tokens) tokens ++ tokensFrom (g .literals) (leftPieces known text (g .past))
-  pub rows-are : w .rows ≡ take (g .literals * rowWidth) rows ++ rowsFrom (g .bytes) (leftPieces known text (g .past))
-  pub bytes-are : w .bytes ≡ take (g .bytes) bytes ++ bytesOf (leftPieces known text (g .past))
-  pub fault-is : w .fault ≡ firstFault (g .literals) (left known text (g .past))
+  pub tokensAre : w .tokens ≡ take (g .tokens) tokens ++ tokensFrom (g .literals) (leftPieces known text (g .past))
+  pub rowsAre : w .rows ≡ take (g .literals * rowWidth) rows ++ rowsFrom (g .bytes) (leftPieces known text (g .past))
+  pub bytesAre : w .bytes ≡ take (g .bytes) bytes ++ bytesOf (leftPieces known text (g .past))
+  pub faultIs : w .fault ≡ firstFault (g .literals) (left known text (g .past))
 
 pub record Bounds (text : List ℕ) (g : Gathered) : Type 0 where
   pub within : g .past ≤ length text
-  pub few-tokens : g .tokens ≤ g .past
-  pub few-literals : g .literals ≤ 64
-  pub few-bytes : g .bytes ≤ 4096 + g .past
+  pub fewTokens : g .tokens ≤ g .past
+  pub fewLiterals : g .literals ≤ 64
+  pub fewBytes : g .bytes ≤ 4096 + g .past
 
 -- Before a step: the next word starts in time.
 pub record Ready (text : List ℕ) (g : Gathered) (tokens rows bytes : List ℕ) : Type 0 where
@@ -100,7 +100,7 @@ pub record Meets (known : Known) (text : List ℕ) (past at end : ℕ) (r : Piec
   pub met : r .met ≡ metOf spelt
   pub made : MadeBy (between text at end) spelt
   pub next : left known text past ≡ record { place = at; piece = spelt } ∷ left known text (r .past)
-  pub not-before : past ≤ at
+  pub notBefore : past ≤ at
   pub some : at < end
   pub inside : end ≤ r .past
   pub within : r .past ≤ length text
@@ -113,37 +113,37 @@ withLiteral g size past = record { tokens = g .tokens + 1; literals = g .literal
 
 -- room for one literal more
 pub record LiteralRoom (row : Row) (word : List ℕ) (g : Gathered) (tokens rows bytes : List ℕ) : Type 0 where
-  pub token-room : g .tokens < length tokens
+  pub tokenRoom : g .tokens < length tokens
   pub few : g .literals < 64
-  pub row-room : g .literals * rowWidth + rowWidth ≤ length rows
+  pub rowRoom : g .literals * rowWidth + rowWidth ≤ length rows
   pub near : g .bytes ≤ 65535
   pub room : g .bytes + row .size ≤ length bytes
   pub size : length (literalBy (row .kind) word .bytes) ≡ row .size
   pub small : row .size ≤ 256
   pub quoted : row .kind ≡ kindAlphanumeric → 2 ≤ length word
 
-pub record LiteralLaid (row : Row) (word : List ℕ) (g : Gathered) (past : ℕ) (tokens rows bytes : List ℕ) (r : Gathered) (tokens-after rows-after bytes-after : List ℕ) : Type 0 where
+pub record LiteralLaid (row : Row) (word : List ℕ) (g : Gathered) (past : ℕ) (tokens rows bytes : List ℕ) (r : Gathered) (tokensAfter rowsAfter bytesAfter : List ℕ) : Type 0 where
   pub counts : r ≡ withLiteral g (row .size) past
-  pub token-laid : tokens-after ≡ set tokens (g .tokens) (65536 + g .literals)
-  pub row-laid : rows-after ≡ overAt (g .literals * rowWidth) (laid (movedTo (g .bytes) row)) rows
-  pub bytes-laid : bytes-after ≡ overAt (g .bytes) (literalBy (row .kind) word .bytes) bytes
+  pub tokenLaid : tokensAfter ≡ set tokens (g .tokens) (65536 + g .literals)
+  pub rowLaid : rowsAfter ≡ overAt (g .literals * rowWidth) (laid (movedTo (g .bytes) row)) rows
+  pub bytesLaid : bytesAfter ≡ overAt (g .bytes) (literalBy (row .kind) word .bytes) bytes
 
 -- What is gathered, with what is left, stays the whole.
 abbrev pub Keeps : Known → List ℕ → Gathered → List ℕ → List ℕ → List ℕ → Gathered → List ℕ → List ℕ → List ℕ → Type 0
-Keeps known text g tokens rows bytes next tokens-after rows-after bytes-after =
-    (w : Total) → Gathers known text w g tokens rows bytes → Gathers known text w next tokens-after rows-after bytes-after
+Keeps known text g tokens rows bytes next tokensAfter rowsAfter bytesAfter =
+    (w : Total) → Gathers known text w g tokens rows bytes → Gathers known text w next tokensAfter rowsAfter bytesAfter
 
 -- after a step: gathered with one piece more; nothing left; or the first fault
 abbrev pub StepGives : Known → List ℕ → Gathered → List ℕ → List ℕ → List ℕ → Stepped → List ℕ → List ℕ → List ℕ → Type 0
-StepGives known text g tokens rows bytes (On next) tokens-after rows-after bytes-after =
-    Keeps known text g tokens rows bytes next tokens-after rows-after bytes-after × Bounds text next × (g .past < next .past)
-StepGives known text g tokens rows bytes End tokens-after rows-after bytes-after =
-    Keeps known text g tokens rows bytes g tokens-after rows-after bytes-after × (left known text (g .past) ≡ [])
-StepGives known text g tokens rows bytes (Fault number place) tokens-after rows-after bytes-after =
+StepGives known text g tokens rows bytes (On next) tokensAfter rowsAfter bytesAfter =
+    Keeps known text g tokens rows bytes next tokensAfter rowsAfter bytesAfter × Bounds text next × (g .past < next .past)
+StepGives known text g tokens rows bytes End tokensAfter rowsAfter bytesAfter =
+    Keeps known text g tokens rows bytes g tokensAfter rowsAfter bytesAfter × (left known text (g .past) ≡ [])
+StepGives known text g tokens rows bytes (Fault number place) tokensAfter rowsAfter bytesAfter =
     ((w : Total) → Gathers known text w g tokens rows bytes → w .fault ≡ refusal number place) × (place < length text)
 
-pub record Steps (known : Known) (text : List ℕ) (g : Gathered) (tokens rows bytes : List ℕ) (r : Stepped) (tokens-after rows-after bytes-after : List ℕ) : Type 0 where
-  pub gives : StepGives known text g tokens rows bytes r tokens-after rows-after bytes-after
+pub record Steps (known : Known) (text : List ℕ) (g : Gathered) (tokens rows bytes : List ℕ) (r : Stepped) (tokensAfter rowsAfter bytesAfter : List ℕ) : Type 0 where
+  pub gives : StepGives known text g tokens rows bytes r tokensAfter rowsAfter bytesAfter
 
 abbrev pub earlyBy : ℕ → ℕ → Lexed
 earlyBy number place = cond (ltb place 2048) (LexedFault number place) (LexedFault 15 2048)
@@ -151,12 +151,12 @@ earlyBy number place = cond (ltb place 2048) (LexedFault number place) (LexedFau
 -- all that is gathered of a text without a fault, after the literals of a book
 pub record Holds (b : Book) (text : List ℕ) (g : Gathered) (tokens rows bytes : List ℕ) : Type 0 where
   pub faultless : faultOf (b .known) (literalsBefore b) text ≡ none
-  pub tokens-are : totalOf b text .tokens ≡ take (g .tokens) tokens
-  pub rows-are : totalOf b text .rows ≡ take (g .literals * rowWidth) rows
-  pub bytes-are : totalOf b text .bytes ≡ take (g .bytes) bytes
-  pub few-tokens : g .tokens ≤ 2048
-  pub few-literals : g .literals ≤ 64
-  pub few-bytes : g .bytes ≤ 6144
+  pub tokensAre : totalOf b text .tokens ≡ take (g .tokens) tokens
+  pub rowsAre : totalOf b text .rows ≡ take (g .literals * rowWidth) rows
+  pub bytesAre : totalOf b text .bytes ≡ take (g .bytes) bytes
+  pub fewTokens : g .tokens ≤ 2048
+  pub fewLiterals : g .literals ≤ 64
+  pub fewBytes : g .bytes ≤ 6144
 
 abbrev pub LexedGives : Book → List ℕ → List ℕ → List ℕ → List ℕ → Lexed → Type 0
 LexedGives b text tokens rows bytes (Whole g) = Holds b text g tokens rows bytes

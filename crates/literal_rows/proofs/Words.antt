@@ -174,15 +174,15 @@ told (Spells.quoted {w = w} {bs = bs} q) = inr (record { word = ap (λ (z : List
 
 -- The literal of a word, and what it is.
 module _ (w : List ℕ) (h : isLiteral w ≡ true) where
-  pub read-as : readLiteral w ≡ some (literalOf w)
-  read-as = by (readLiteral w) refl h
+  pub readAs : readLiteral w ≡ some (literalOf w)
+  readAs = by (readLiteral w) refl h
     where
       by : (o : Option Literal) → readLiteral w ≡ o → isSome o ≡ true → o ≡ some (Option·getD o (literal 0 [] 0))
       by none e h = apart h refl
       by (some x) e h = refl
 
   pub told-of : Numbers w (literalOf w) ⊎ Quotes w (literalOf w)
-  told-of = told (literal-read w (literalOf w) read-as)
+  told-of = told (literal-read w (literalOf w) readAs)
 
 number-found : (w : List ℕ) (x : Literal) → Numbers w x → numberFound w ≡ rowFound x
 unfolding isNumber

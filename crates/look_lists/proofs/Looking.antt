@@ -38,7 +38,7 @@ use Rattle.grammar.proofs.Sure.{sure}
 use Rattle.grammar.proofs.Lent.{plan-lent}
 use Rattle.rules.specs.Calls.{conditionLines, roomCheck, writes, Leaves, numbersOf, judgeWalk, runWalk}
 use Rattle.rules.specs.Footprint.{rowsAsked, footprint}
-use Rattle.rules.proofs.Passing.{after-lines, both-sound, read-as, condition-passes, tables-pass}
+use Rattle.rules.proofs.Passing.{after-lines, both-sound, readAs, condition-passes, tables-pass}
 use Rattle.rules.proofs.Answers.{plan-passes, judges-as, run-judges}
 use Rattle.resolver.specs.declared.Prepared.{Prepared}
 use Rattle.resolver.specs.declared.Prepared.the-variants.{Rows, Refused as Unprepared}
@@ -216,15 +216,15 @@ module _ {lent : Lent} {tokens : List ℕ} {r : Prepared} {before after : List �
   named-listed output h =
       let y = ready p e in
       list-given (conditionLines lent tokens) (numbersOf (namedItems lent) (read tokens)) output (condition-passes (y .passes))
-      (rw (read-as (y .passes)) (rw (y .rows, plan-named lent (y .tree)) at h))
+      (rw (readAs (y .passes)) (rw (y .rows, plan-named lent (y .tree)) at h))
 
   module _ (content : List ℕ) (switches : ℕ) (output : List ℕ) where
-    record-is : firstOf (judgeLines lent tokens content) ≡ recordCheck lent content
-    record-is = after-lines (conditionLines lent tokens) (recordCheck lent content ∷ []) (condition-passes (ready p e .passes)) ∙ line-last _
+    recordIs : firstOf (judgeLines lent tokens content) ≡ recordCheck lent content
+    recordIs = after-lines (conditionLines lent tokens) (recordCheck lent content ∷ []) (condition-passes (ready p e .passes)) ∙ line-last _
 
     pub looked-record-refused : {refusal : Refusal} → recordCheck lent content ≡ Refused refusal → Leaves (lookedGives lent tokens content switches output) (Unwritten refusal) output
     unfolding lookedGives
-    looked-record-refused h = list-refused (judgeLines lent tokens content) (lookedAt lent tokens content switches) output (record-is ∙ h)
+    looked-record-refused h = list-refused (judgeLines lent tokens content) (lookedAt lent tokens content switches) output (recordIs ∙ h)
 
     pub looked-listed : recordCheck lent content ≡ Sound → {last : List ℕ} {w : Written} →
         Leaves (listing [] (rising (lent .items) (footprint lent (runVisits (outcome lent content switches) (take (count * 5) after)))) output) w last →
@@ -234,5 +234,5 @@ module _ {lent : Lent} {tokens : List ℕ} {r : Prepared} {before after : List �
         let y = ready p e in
         let walked : running (outcome lent content switches) (take (count * 5) after) ≡ judgeWalk lent tokens content switches =
         ap (running (outcome lent content switches)) (y .rows) ∙ run-judges (y .passes) content switches ∙ sym (judges-as (y .passes) content switches ∙ rw c) in
-        list-given (judgeLines lent tokens content) (lookedAt lent tokens content switches) output (record-is ∙ c)
+        list-given (judgeLines lent tokens content) (lookedAt lent tokens content switches) output (recordIs ∙ c)
         (subst (λ (z : Walk). Leaves (listing [] (rising (lent .items) (footprint lent (z .visits))) output) w last) walked h)

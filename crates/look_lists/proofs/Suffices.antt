@@ -34,7 +34,7 @@ use Rattle.grammar.proofs.Sure.{some-rows}
 use Rattle.grammar.proofs.Segment.{run-visits}
 use Rattle.rules.specs.Calls.{conditionLines, answers, treeAnswer, judgeWalk, runWalk}
 use Rattle.rules.specs.Footprint.{rowsOfVisit, footprint}
-use Rattle.rules.proofs.Passing.{passed, both-sound, read-as, tables-pass}
+use Rattle.rules.proofs.Passing.{passed, both-sound, readAs, tables-pass}
 use Rattle.rules.proofs.Answers.{few-leaves, plan-passes}
 use Rattle.rules.proofs.Footprint.{looks-at-its-items}
 use Rattle.runner.specs.Runs.{Runnable}
@@ -201,7 +201,7 @@ judge-below lent tokens content switches =
     let (t, p) = passed lent tokens c in
     let sound = plan-passes p in
     let s = some-rows lent (planned t) sound in
-    rw (read-as p, ← run-visits (outcome lent content switches) t (omega (arith, few-leaves p)))
+    rw (readAs p, ← run-visits (outcome lent content switches) t (omega (arith, few-leaves p)))
     (reached-below lent (planned t) content (record { tables = tables-pass p; sound = sound; holds = lines-sound _ r .0 }) (outcome lent content switches)
     (planRows (planned t)) 0 (omega arith) (λ _. s .1)))
 

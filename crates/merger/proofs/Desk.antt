@@ -80,9 +80,9 @@ module _ (items literals bytes names plan old first second : List ℕ)
       let f = desk-fine (lendNames items literals bytes names) plan old first second fine in
       record {
         lies = all-lie items old (all .1 .1 .1 .1 .0);
-        first-long = f .first-long;
-        second-long = f .second-long;
-        out-long = refl;
+        firstLong = f .firstLong;
+        secondLong = f .secondLong;
+        outLong = refl;
       }
 
   pub desk-few : length items ≤ 320
@@ -97,7 +97,7 @@ pub lines-refuse : (lines : List Check) (copies : Copies) (verdict : Verdict) (o
     → Leaves (mergeWith lines copies verdict out list) (Unmerged refusal) out list
 lines-refuse lines copies verdict out list e =
     rw (lines-before lines (roomLines (length (copies .old)) (length (contested copies verdict)) out list) ∙ line-refused _ e)
-    (record { answered = refl; record-is = refl; contested-are = refl })
+    (record { answered = refl; recordIs = refl; contestedAre = refl })
 
 pub lines-pass : (lines : List Check) (copies : Copies) (verdict : Verdict) (out list : List ℕ) → firstOf lines ≡ Sound
     → mergeWith [] copies verdict out list ≡ mergeWith lines copies verdict out list
@@ -146,7 +146,7 @@ module _ (copies : Copies) (verdict : Verdict) (rows : ℕ) (counted : rows ≡ 
 
   pub room-refuses : {line : Check} → line ≡ firstOf (roomsFor (length (copies .old)) rows (length out) (length list)) → {refusal : Refusal} → line ≡ Refused refusal
       → Leaves (mergeWith [] copies verdict out list) (Unmerged refusal) out list
-  room-refuses e f = rw (sym rooms ∙ sym e ∙ f) (record { answered = refl; record-is = refl; contested-are = refl })
+  room-refuses e f = rw (sym rooms ∙ sym e ∙ f) (record { answered = refl; recordIs = refl; contestedAre = refl })
 
   module _ {line : Check} (e : line ≡ firstOf (roomsFor (length (copies .old)) rows (length out) (length list))) (f : line ≡ Sound) where
     pub bytes-fit : length (copies .old) ≤ length out
@@ -159,16 +159,16 @@ module _ (copies : Copies) (verdict : Verdict) (rows : ℕ) (counted : rows ≡ 
         → left ≡ contested copies verdict ++ drop (length (contested copies verdict)) list
         → Leaves (mergeWith [] copies verdict out list) (Counts (length (copies .old)) rows) merged left
     both-written m l =
-        rw (sym rooms ∙ sym e ∙ f) (record { answered = ap (Counts (length (copies .old))) counted; record-is = m; contested-are = l })
+        rw (sym rooms ∙ sym e ∙ f) (record { answered = ap (Counts (length (copies .old))) counted; recordIs = m; contestedAre = l })
 
 -- the same with a record's output of that length
 pub ready-for : (copies : Copies) {n m : ℕ} → Ready copies n → m ≡ length (copies .old) → Ready copies m
-ready-for copies r e = record { lies = r .lies; first-long = r .first-long; second-long = r .second-long; out-long = e }
+ready-for copies r e = record { lies = r .lies; firstLong = r .firstLong; secondLong = r .secondLong; outLong = e }
 
 pub leaves-as : {merging other : Merging} {r : Merged} {merged left : List ℕ} → merging ≡ other → Leaves merging r merged left → Leaves other r merged left
 leaves-as e l =
     record {
       answered = l .answered ∙ ap (λ (m : Merging). m .answer) e;
-      record-is = l .record-is ∙ ap (λ (m : Merging). m .content) e;
-      contested-are = l .contested-are ∙ ap (λ (m : Merging). m .rows) e;
+      recordIs = l .recordIs ∙ ap (λ (m : Merging). m .content) e;
+      contestedAre = l .contestedAre ∙ ap (λ (m : Merging). m .rows) e;
     }

@@ -27,5 +27,5 @@ roomsFor bytes rows merged contested = roomCheck bytes merged ∷ roomCheck rows
 -- the answer and both outputs of a merge
 pub record Leaves (merging : Merging) (r : Merged) (merged contested : List ℕ) : Type 0 where
   pub answered : r ≡ merging .answer
-  pub record-is : merged ≡ merging .content
-  pub contested-are : contested ≡ merging .rows
+  pub recordIs : merged ≡ merging .content
+  pub contestedAre : contested ≡ merging .rows

@@ -14,6 +14,6 @@ pub merge-told : {merging : Merging} {given : Merged} {returned : ℕ} {answer m
 merge-told l t =
     record {
       told = record { returns = t .returns ∙ ap mergedNumber (l .answered); answers = t .answers ∙ ap mergedNumbers (l .answered) };
-      record-is = l .record-is;
-      contested-are = l .contested-are;
+      recordIs = l .recordIs;
+      contestedAre = l .contestedAre;
     }

@@ -9,5 +9,5 @@ use Rattle.record_answers.specs.Merging.{mergedNumber, mergedNumbers}
 -- what the library's call gives, told, and what it leaves in both outputs
 pub record MergesTo (merging : Merging) (returned : ℕ) (answer merged contested : List ℕ) : Type 0 where
   pub told : Told (mergedNumber (merging .answer)) (mergedNumbers (merging .answer)) returned answer
-  pub record-is : merged ≡ merging .content
-  pub contested-are : contested ≡ merging .rows
+  pub recordIs : merged ≡ merging .content
+  pub contestedAre : contested ≡ merging .rows

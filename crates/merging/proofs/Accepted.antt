@@ -35,8 +35,8 @@ use Rattle.merging.proofs.Rows.{rows-all, rows-only}
 -- what the lines say where none refuses
 pub record Fine (copies : Copies) : Type 0 where
   pub clear : Clear (copies .items) (rowCount (copies .items))
-  pub first-long : length (copies .first) ≡ length (copies .old)
-  pub second-long : length (copies .second) ≡ length (copies .old)
+  pub firstLong : length (copies .first) ≡ length (copies .old)
+  pub secondLong : length (copies .second) ≡ length (copies .old)
   pub lies : Lies (copies .items) (length (copies .old)) (rowCount (copies .items))
 
 pub length-fact : (old first second : List ℕ) → lengthCheck old first second ≡ Sound
@@ -54,8 +54,8 @@ desk-fine lent plan old first second e =
     let lengths = length-fact old first second (all .1 .1 .0) in
     record {
       clear = clear-fact (lent .items) (all .1 .0);
-      first-long = lengths .0;
-      second-long = lengths .1;
+      firstLong = lengths .0;
+      secondLong = lengths .1;
       lies = lies-fact (lent .items) old (all .1 .1 .1 .1 .0);
     }
 
@@ -66,8 +66,8 @@ module _ (copies : Copies) (verdict : Verdict) (fine : Fine copies) where
       merged-length verdict (partAt (copies .items) v (copies .old)) (partAt (copies .items) v (copies .first)) (partAt (copies .items) v (copies .second))
       (rowAt (copies .items) v .size)
       (part-length (rowAt (copies .items) v) (copies .old) inside)
-      (part-length (rowAt (copies .items) v) (copies .first) (omega (arith, inside, fine .first-long)))
-      (part-length (rowAt (copies .items) v) (copies .second) (omega (arith, inside, fine .second-long)))
+      (part-length (rowAt (copies .items) v) (copies .first) (omega (arith, inside, fine .firstLong)))
+      (part-length (rowAt (copies .items) v) (copies .second) (omega (arith, inside, fine .secondLong)))
 
   item-merged : (v : ℕ) → v < rowCount (copies .items) → elementaryAt (copies .items) v ≡ true
       → partAt (copies .items) v (mergedRecord copies verdict) ≡ mergedAt copies verdict v
@@ -141,8 +141,8 @@ module _ (copies : Copies) (verdict : Verdict) (fine : Fine copies) where
       record {
         long = rewritten-length (copies .items) (mergedAt copies verdict) (copies .old) (rowCount (copies .items)) (fine .lies) sized;
         others = rewritten-outside (copies .items) (mergedAt copies verdict) (copies .old) (rowCount (copies .items)) (fine .lies) sized;
-        by-first = λ v h e p. item-merged v h e ∙ only-first verdict _ _ _ p;
-        by-second = λ v h e p. item-merged v h e ∙ only-second verdict _ _ _ p;
+        byFirst = λ v h e p. item-merged v h e ∙ only-first verdict _ _ _ p;
+        bySecond = λ v h e p. item-merged v h e ∙ only-second verdict _ _ _ p;
         alike = λ v h e p. item-merged v h e ∙ alike verdict _ _ _ p;
         apart = λ v h e a. item-merged v h e ∙ apart-decided verdict _ _ _ (both (elementaryAt (copies .items) v) _ a .1);
         stems = stems-below (rowCount (copies .items)) (omega arith);

@@ -32,9 +32,9 @@ module _ (copies : Copies) (verdict : Verdict) where
     -- "Bytes in no elementary item stay old."
     pub others : (o : ℕ) → InNone (copies .items) o → getD (mergedRecord copies verdict) o 0 ≡ getD (copies .old) o 0
     -- "Each elementary item that one side changed takes that side's bytes"
-    pub by-first : (v : ℕ) → v < rowCount (copies .items) → elementaryAt (copies .items) v ≡ true → At v (copies .second) ≡ At v (copies .old)
+    pub byFirst : (v : ℕ) → v < rowCount (copies .items) → elementaryAt (copies .items) v ≡ true → At v (copies .second) ≡ At v (copies .old)
         → At v (mergedRecord copies verdict) ≡ At v (copies .first)
-    pub by-second : (v : ℕ) → v < rowCount (copies .items) → elementaryAt (copies .items) v ≡ true → At v (copies .first) ≡ At v (copies .old)
+    pub bySecond : (v : ℕ) → v < rowCount (copies .items) → elementaryAt (copies .items) v ≡ true → At v (copies .first) ≡ At v (copies .old)
         → At v (mergedRecord copies verdict) ≡ At v (copies .second)
     -- "changed alike, those": so a merge of two equal copies has that copy in every elementary item
     pub alike : (v : ℕ) → v < rowCount (copies .items) → elementaryAt (copies .items) v ≡ true → At v (copies .first) ≡ At v (copies .second)

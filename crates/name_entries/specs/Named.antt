@@ -93,22 +93,22 @@ ReadAs text n vs (Whole t e) = (h : Naming) (p : ℕ) → joined text n (values 
 ReadAs text n vs (Fault k) = (h : Naming) (p : ℕ) → joined text n (values h p [] none) ≡ faulty (h .earlier) k
 
 abbrev pub HeldBy : List ℕ → ℕ → Rules.Row → Tally → List ℕ → List Value → NameRead → List ℕ → List ℕ → Type 0
-HeldBy text n item start notes vs (Whole t e) row-after notes-after =
-    (e ≤ length text) × (n < e) × ((ss : List Span) → (start .over ≡ false → Noted text notes start ss) → Held text item (start .over) ss vs t row-after notes-after)
-HeldBy text n item start notes vs (Fault k) row-after notes-after = Unit {0}
+HeldBy text n item start notes vs (Whole t e) rowLeft notesLeft =
+    (e ≤ length text) × (n < e) × ((ss : List Span) → (start .over ≡ false → Noted text notes start ss) → Held text item (start .over) ss vs t rowLeft notesLeft)
+HeldBy text n item start notes vs (Fault k) rowLeft notesLeft = Unit {0}
 
 -- The values of an entry, from n on.
-pub record ValuesBy (text : List ℕ) (n : ℕ) (item : Rules.Row) (start : Tally) (notes : List ℕ) (r : NameRead) (row-after notes-after : List ℕ) : Type 0 where
+pub record ValuesBy (text : List ℕ) (n : ℕ) (item : Rules.Row) (start : Tally) (notes : List ℕ) (r : NameRead) (rowLeft notesLeft : List ℕ) : Type 0 where
   pub values : List Value
   pub reads : ReadAs text n values r
-  pub held : HeldBy text n item start notes values r row-after notes-after
+  pub held : HeldBy text n item start notes values r rowLeft notesLeft
 
 -- A whole entry, whose level number stands before n.
 abbrev pub LabelledAs : List ℕ → ℕ → List Value → NameRead → Type 0
 LabelledAs text n vs (Whole t e) = (h : Naming) → joined text n (label h) ≡ joined text e (labelled h (inked text n) vs)
 LabelledAs text n vs (Fault k) = (h : Naming) → joined text n (label h) ≡ faulty (h .earlier) k
 
-pub record NamedBy (text : List ℕ) (n : ℕ) (item : Rules.Row) (start : Tally) (notes : List ℕ) (r : NameRead) (row-after notes-after : List ℕ) : Type 0 where
+pub record NamedBy (text : List ℕ) (n : ℕ) (item : Rules.Row) (start : Tally) (notes : List ℕ) (r : NameRead) (rowLeft notesLeft : List ℕ) : Type 0 where
   pub values : List Value
   pub reads : LabelledAs text n values r
-  pub held : HeldBy text n item start notes values r row-after notes-after
+  pub held : HeldBy text n item start notes values r rowLeft notesLeft

@@ -63,11 +63,11 @@ isBarred (Single low) = false
 isBarred (Range low high) = false
 
 -- A value is taken: it passes a limit, or it is stored.
-pub record Takes (w : Weighed) (f : Found) (t : Tally) (row notes : List ℕ) (r : Tally) (row-after notes-after : List ℕ) : Type 0 where
+pub record Takes (w : Weighed) (f : Found) (t : Tally) (row notes : List ℕ) (r : Tally) (rowLeft notesLeft : List ℕ) : Type 0 where
   pub over : r .over ≡ isBarred w || full t (wants w)
   pub tallied : r .over ≡ false → r ≡ tallyAfter w t
-  pub paired : r .over ≡ false → row-after ≡ rowAfter w t row
-  pub noted : r .over ≡ false → notes-after ≡ notesAfter w f t notes
+  pub paired : r .over ≡ false → rowLeft ≡ rowAfter w t row
+  pub noted : r .over ≡ false → notesLeft ≡ notesAfter w f t notes
 
 -- no literal has more than 256 bytes
 abbrev pub Small : Weighed → Type 0

@@ -111,8 +111,8 @@ row-more notes before i l f =
 
 -- The bytes of one literal more.
 module _ (text notes before : List ℕ) (n i : ℕ) (w : Words text notes n) (l : i < n) (h : length (bytesFrom text notes 0 n) ≤ length before) where
-  bytes-room : length (bytesFrom text notes 0 i) + length (bytesAt text notes i) ≤ length before
-  bytes-room =
+  bytesRoom : length (bytesFrom text notes 0 i) + length (bytesAt text notes i) ≤ length before
+  bytesRoom =
       let z : n ≡ i + 1 + (n - (i + 1)) = omega arith in
       let s = ap (λ (m : ℕ). bytesFrom text notes 0 m) z ∙ bytes-split text notes 0 (i + 1) (n - (i + 1)) in
       omega (
@@ -138,14 +138,14 @@ module _ (text notes before : List ℕ) (n i : ℕ) (w : Words text notes n) (l 
     bytes-inside = (
       omega (arith, g, k, w .each i l .starts),
       omega (arith, k, w .each i l .ends),
-      omega (arith, bytes-room, laid-at, front-length f),
+      omega (arith, bytesRoom, laid-at, front-length f),
     )
 
     pub bytes-asked : (getD notes (i * 7) 0 ≡ 2 → 2 ≤ length (take (until - from) (drop from text)))
         × (length (literalBy (getD notes (i * 7) 0) (take (until - from) (drop from text)) .bytes) ≤ length (take (length to - at) (drop at to)))
     bytes-asked = (
       λ q. rw same-word (w .each i l .quoted q),
-      omega (arith, ap length same-bytes, bytes-room, laid-at, front-length f, length-take (length to - at) (drop at to), length-drop at to),
+      omega (arith, ap length same-bytes, bytesRoom, laid-at, front-length f, length-take (length to - at) (drop at to), length-drop at to),
     )
 
     pub bytes-more : {back : List ℕ} →
@@ -156,7 +156,7 @@ module _ (text notes before : List ℕ) (n i : ℕ) (w : Words text notes n) (l 
         let size : length (bytesFrom text notes 0 i ++ bytesAt text notes i) ≡ length (bytesFrom text notes 0 i) + length (bytesAt text notes i) =
         length-append (bytesFrom text notes 0 i) (bytesAt text notes i) in
         rw (bytes-one text notes i, size, laid-at)
-        (front-part f (bytesAt text notes i) back (length (bytesAt text notes i)) refl bytes-room (rw laid-at at o))
+        (front-part f (bytesAt text notes i) back (length (bytesAt text notes i)) refl bytesRoom (rw laid-at at o))
 
 pub bytes-none : (text notes before : List ℕ) → Front (bytesFrom text notes 0 0) before (length (bytesFrom text notes 0 0)) before
 unfolding bytesFrom

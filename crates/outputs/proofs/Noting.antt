@@ -91,16 +91,16 @@ module _ (text notes : List ℕ) where
             ap length here-bytes,
           )
 
-  rows-are : (i o : ℕ) (ss : List Span) → From i o ss → rowsFrom notes i (length ss) ≡ rowNumbers (literalRows o (literalsIn text ss))
+  rowsAre : (i o : ℕ) (ss : List Span) → From i o ss → rowsFrom notes i (length ss) ≡ rowNumbers (literalRows o (literalsIn text ss))
   unfolding rowsFrom rowNumbers literalRows literalsIn
-  rows-are i o [] f = refl
-  rows-are i o (s ∷ ss) f = ap₂ _++_ (row-is i o s ss f) (rows-are (suc i) (o + length (valueOf s .bytes)) ss (from-next i o s ss f))
+  rowsAre i o [] f = refl
+  rowsAre i o (s ∷ ss) f = ap₂ _++_ (row-is i o s ss f) (rowsAre (suc i) (o + length (valueOf s .bytes)) ss (from-next i o s ss f))
 
-  bytes-are : (i o : ℕ) (ss : List Span) → From i o ss → Standing text ss → bytesFrom text notes i (length ss) ≡ literalBytes (literalsIn text ss)
+  bytesAre : (i o : ℕ) (ss : List Span) → From i o ss → Standing text ss → bytesFrom text notes i (length ss) ≡ literalBytes (literalsIn text ss)
   unfolding bytesFrom literalBytes literalsIn
-  bytes-are i o [] f h = refl
-  bytes-are i o (s ∷ ss) f h =
-      ap₂ _++_ (here-bytes i o s ss f h) (bytes-are (suc i) (o + length (valueOf s .bytes)) ss (from-next i o s ss f) (h .3))
+  bytesAre i o [] f h = refl
+  bytesAre i o (s ∷ ss) f h =
+      ap₂ _++_ (here-bytes i o s ss f h) (bytesAre (suc i) (o + length (valueOf s .bytes)) ss (from-next i o s ss f) (h .3))
 
   words-are : (i o : ℕ) (ss : List Span) → From i o ss → Standing text ss → o ≡ length (bytesFrom text notes 0 i) →
       (j : ℕ) → j < length ss → WordAt text notes (i + j)
@@ -119,10 +119,10 @@ module _ (text notes : List ℕ) where
     first = from-first (t .literals) ss (h .laid) (h .counted)
 
     pub rows-noted : rowsFrom notes 0 (t .literals) ≡ rowNumbers (literalRows 0 (literalsIn text ss))
-    rows-noted = rw (h .counted) (rows-are 0 0 ss first)
+    rows-noted = rw (h .counted) (rowsAre 0 0 ss first)
 
     pub bytes-noted : bytesFrom text notes 0 (t .literals) ≡ literalBytes (literalsIn text ss)
-    bytes-noted = rw (h .counted) (bytes-are 0 0 ss first (h .standing))
+    bytes-noted = rw (h .counted) (bytesAre 0 0 ss first (h .standing))
 
     pub words-noted : 448 ≤ length notes → Words text notes (t .literals)
     words-noted l =

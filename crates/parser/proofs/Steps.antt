@@ -13,7 +13,7 @@ use Rattle.parser.specs.declared.Answer.{Answer}
 use Rattle.parser.specs.declared.Answer.the-variants.{Parsed, Stuck}
 use Rattle.parser.specs.declared.Parse.the-variants.{Accepted, Refused}
 use Rattle.grammar.specs.Grammar.{Class, other, not, and, or, opening, closing, Is, Carry, nothing, Tree, simple, negated, bracketed, both, either}
-use Rattle.grammar.specs.Parser.{Result, Parser, _then_, continue, done, fail, on, object, parse-simple, read, parse-condition, parse-chain, parse-term, parse-body}
+use Rattle.grammar.specs.Parser.{Result, Parser, _then_, continue, done, fail, on, object, parseSimple, read, parseCondition, parseChain, parseTerm, parseBody}
 use Rattle.grammar.specs.Judging.{simpleCount}
 use Rattle.grammar.specs.Plan.{onTrue, onFalse, rowsOf, flat, planned}
 use Rattle.simples.specs.Reads.{tok, carryOf, Reads}
@@ -50,16 +50,16 @@ pub record Joins (k : Class) (w : ℕ) (join : Tree → Tree → Tree) (y n : �
       ≡ map (retargeted (y (r + simpleCount t)) (n (r + simpleCount t))) (rowsOf r onTrue onFalse t) ++ rowsOf (r + simpleCount t) onTrue onFalse u
   pub size : (t u : Tree) → simpleCount (join t u) ≡ simpleCount t + simpleCount u
 
-pub conditions : Joins or 262148 either (λ _. onTrue) (λ r. r) parse-chain parse-condition
-unfolding parse-condition simpleCount
+pub conditions : Joins or 262148 either (λ _. onTrue) (λ r. r) parseChain parseCondition
+unfolding parseCondition simpleCount
 conditions = record { word = tt; is = is-or; token = or-token; step = λ f c ts. refl; rows = rows-either; size = λ t u. refl }
 
-pub chains : Joins and 262147 both (λ r. r) (λ _. onFalse) parse-term parse-chain
-unfolding parse-condition simpleCount
+pub chains : Joins and 262147 both (λ r. r) (λ _. onFalse) parseTerm parseChain
+unfolding parseCondition simpleCount
 chains = record { word = tt; is = is-and; token = and-token; step = λ f c ts. refl; rows = rows-both; size = λ t u. refl }
 
-row-room : {tokens before : List ℕ} {at row : ℕ} → Room tokens at row before → row * 5 ≤ length before
-row-room room = omega (arith, room .within, room .short, room .few, room .wide)
+rowRoom : {tokens before : List ℕ} {at row : ℕ} → Room tokens at row before → row * 5 ≤ length before
+rowRoom room = omega (arith, room .within, room .short, room .few, room .wide)
 
 -- rows that stand after those before `row` leave these alone
 rows-front : (row next : ℕ) (before after rows : List ℕ) → row ≤ next → row * 5 ≤ length before → take (next * 5) after ≡ take (row * 5) before ++ rows →
@@ -77,7 +77,7 @@ turned-laid : (y n : ℕ) {tokens before middle between : List ℕ} {at row next
 turned-laid y n {before = before} {middle = middle} {row = row} {next = next} room t turned =
     let rows = rowsOf row onTrue onFalse (t .tree) in
     let (front, rest) = turned-rows y n row next middle (take (row * 5) before) rows turned (t .rows)
-    (length-take-le (row * 5) before (row-room room)) (omega (arith, t .count, rows-count row onTrue onFalse (t .tree))) in
+    (length-take-le (row * 5) before (rowRoom room)) (omega (arith, t .count, rows-count row onTrue onFalse (t .tree))) in
     (front, rest ∙ t .rest)
 
 -- a part that is read through, and after which nothing goes on
@@ -90,7 +90,7 @@ partly {level = level} {at = at} {next = next} {tokens = tokens} room h =
       since = h .fits .0;
       few = h .fits .1;
       most = omega (arith, h .fits, h .upto, room .short);
-      front = rows-front _ next _ _ _ (h .fits .0) (row-room room) (t .rows);
+      front = rows-front _ next _ _ _ (h .fits .0) (rowRoom room) (t .rows);
       rest = t .rest;
     }
 
@@ -173,7 +173,7 @@ module _ {k : Class} {w : ℕ} {join : Tree → Tree → Tree} {y n : ℕ → �
       (joined tokens before between after row next (t .tree) (t .count) (omega arith) first rest r _ (g .told f (omega arith))))
       (omega (arith, g .from))
       (g .upto)
-      (fits-more row next before between after r (omega arith) (rows-front row next before between _ (omega arith) (row-room room) first) rest (g .fits))
+      (fits-more row next before between after r (omega arith) (rows-front row next before between _ (omega arith) (rowRoom room) first) rest (g .fits))
 
   pub joins-on : {level at row start first p next x : ℕ} {tokens before begun middle between : List ℕ} {c held d : Carried} →
       Continues self (level + 1) tokens at c row before start held first begun →
@@ -200,7 +200,7 @@ pub single : {parser : ℕ → Carry → Parser} {q : Parser} {level at from row
 unfolding simpleCount
 single (Row a n b p d) room h placed l step =
     rw (placed .0)
-    (plans (λ f _. let (front, rest) = added-parts _ _ _ _ _ (row-room room) (placed .1) in
+    (plans (λ f _. let (front, rest) = added-parts _ _ _ _ _ (rowRoom room) (placed .1) in
     record { tree = simple a n b; gives = step f ∙ h .found; count = refl; rows = front; rest = rest }) (omega arith) (omega arith) (omega arith))
 single {row = row} {before = before} (Lost p) room h placed l step =
     let same = placed .1 in
@@ -211,15 +211,15 @@ single {row = row} {before = before} (Lost p) room h placed l step =
 -- a term, by its first token
 module _ (tokens : List ℕ) (at : ℕ) (c : Carried) {x : ℕ} (e : x ≡ tok tokens at) where
   pub term-order : (c .relation ≡ 0 → ⊥) → 262149 ≤ x → x ≤ 262151 →
-      (f : ℕ) → parse-term (suc f) (carryOf c) (drop at tokens) ≡ object (c .subject) (x - 262144) (drop (at + 1) tokens)
-  unfolding parse-condition
+      (f : ℕ) → parseTerm (suc f) (carryOf c) (drop at tokens) ≡ object (c .subject) (x - 262144) (drop (at + 1) tokens)
+  unfolding parseCondition
   term-order n l h f =
       pass-on tokens at e {k = not} (λ i. let g = not-token x i in omega arith) _ _
       ∙ at-short tokens at e c (λ m. m) _ n l h
 
   pub term-plain : {row : ℕ} {before after : List ℕ} {r : Answer} → (x ≡ 262146 → ⊥) → ((c .relation ≡ 0 → ⊥) → 262149 ≤ x → 262151 < x) →
-      Plans parse-body 0 tokens at c row before r after → Plans parse-term 1 tokens at c row before r after
-  unfolding parse-condition
+      Plans parseBody 0 tokens at c row before r after → Plans parseTerm 1 tokens at c row before r after
+  unfolding parseCondition
   term-plain g far h =
       plans
       (λ f l. rw (pass-on tokens at e {k = not} (λ i. g (not-token x i)), at-no-short tokens at e c) (h .told f (omega arith)))
@@ -228,25 +228,25 @@ module _ (tokens : List ℕ) (at : ℕ) (c : Carried) {x : ℕ} (e : x ≡ tok t
   -- after NOT
   module _ {y : ℕ} (g : x ≡ 262146) (d : y ≡ tok tokens (at + 1)) where
     pub term-not-order : (c .relation ≡ 0 → ⊥) → 262149 ≤ y → y ≤ 262151 →
-        (f : ℕ) → parse-term (suc f) (carryOf c) (drop at tokens) ≡ object (c .subject) (y - 262144 + 32) (drop (at + 2) tokens)
-    unfolding parse-condition
+        (f : ℕ) → parseTerm (suc f) (carryOf c) (drop at tokens) ≡ object (c .subject) (y - 262144 + 32) (drop (at + 2) tokens)
+    unfolding parseCondition
     term-not-order n l h f =
         let two : at + 1 + 1 ≡ at + 2 = omega arith in
         take-on tokens at e (is-not x g) tt _ _ ∙ at-short tokens (at + 1) d c (λ m. m + 32) _ n l h ∙ rw two
 
     module _ (far : (c .relation ≡ 0 → ⊥) → 262149 ≤ y → 262151 < y) where
       term-not : (f : ℕ) →
-          parse-term (suc f) (carryOf c) (drop at tokens) ≡ continue (parse-body f (carryOf c) (drop (at + 1) tokens)) (λ t k. done (negated t) k)
-      unfolding parse-condition
+          parseTerm (suc f) (carryOf c) (drop at tokens) ≡ continue (parseBody f (carryOf c) (drop (at + 1) tokens)) (λ t k. done (negated t) k)
+      unfolding parseCondition
       term-not f = take-on tokens at e (is-not x g) tt _ _ ∙ at-no-short tokens (at + 1) d c _ _ far
 
       pub term-not-stuck : {row p : ℕ} {before after : List ℕ} →
-          Plans parse-body 0 tokens (at + 1) c row before (Stuck p) after → Plans parse-term 1 tokens at c row before (Stuck p) after
+          Plans parseBody 0 tokens (at + 1) c row before (Stuck p) after → Plans parseTerm 1 tokens at c row before (Stuck p) after
       term-not-stuck h = plans (λ f l. term-not f ∙ rw (h .told f (omega arith))) (omega (arith, h .from)) (h .upto) (h .fits)
 
       pub term-not-row : {row p next : ℕ} {before middle after : List ℕ} {k : Carried} → Room tokens at row before →
-          Plans parse-body 0 tokens (at + 1) c row before (Parsed p k next) middle → Turned onFalse onTrue next after middle row →
-          Plans parse-term 1 tokens at c row before (Parsed p k next) after
+          Plans parseBody 0 tokens (at + 1) c row before (Parsed p k next) middle → Turned onFalse onTrue next after middle row →
+          Plans parseTerm 1 tokens at c row before (Parsed p k next) after
       unfolding simpleCount
       term-not-row {row} room h turned =
           plans
@@ -270,8 +270,8 @@ none = record { subject = 0; relation = 0 }
 
 -- a body, by its first token
 module _ (tokens : List ℕ) (at : ℕ) (c : Carried) {x : ℕ} (e : x ≡ tok tokens at) where
-  pub body-simple : (x ≡ 262144 → ⊥) → (f : ℕ) → parse-body (suc f) (carryOf c) (drop at tokens) ≡ parse-simple (carryOf c) (drop at tokens)
-  unfolding parse-condition
+  pub body-simple : (x ≡ 262144 → ⊥) → (f : ℕ) → parseBody (suc f) (carryOf c) (drop at tokens) ≡ parseSimple (carryOf c) (drop at tokens)
+  unfolding parseCondition
   body-simple g f = pass-on tokens at e {k = opening} (λ i. g (opening-token x i)) _ _
 
   module _ (g : x ≡ 262144) where
@@ -279,19 +279,19 @@ module _ (tokens : List ℕ) (at : ℕ) (c : Carried) {x : ℕ} (e : x ≡ tok t
     low = stands tokens at e (is-opening x g) tt
 
     body-open : (f : ℕ) →
-        parse-body (suc f) (carryOf c) (drop at tokens)
-        ≡ continue (parse-condition f nothing (drop (at + 1) tokens)) (λ t _. on closing (λ _. done (bracketed t) nothing) fail)
-    unfolding parse-condition
+        parseBody (suc f) (carryOf c) (drop at tokens)
+        ≡ continue (parseCondition f nothing (drop (at + 1) tokens)) (λ t _. on closing (λ _. done (bracketed t) nothing) fail)
+    unfolding parseCondition
     body-open f = take-on tokens at e (is-opening x g) tt _ _
 
     pub body-stuck : {row p : ℕ} {before after : List ℕ} →
-        Plans parse-condition 3 tokens (at + 1) none row before (Stuck p) after → Plans parse-body 0 tokens at c row before (Stuck p) after
+        Plans parseCondition 3 tokens (at + 1) none row before (Stuck p) after → Plans parseBody 0 tokens at c row before (Stuck p) after
     unfolding carryOf
     body-stuck h = plans (λ f l. body-open f ∙ rw (h .told f (omega (arith, low)))) (omega (arith, h .from)) (h .upto) (h .fits)
 
     module _ {row p next z : ℕ} {before after : List ℕ} {d : Carried}
-        (h : Plans parse-condition 3 tokens (at + 1) none row before (Parsed p d next) after) (y : z ≡ tok tokens p) where
-      pub body-shut : z ≡ 262145 → Plans parse-body 0 tokens at c row before (Parsed (p + 1) none next) after
+        (h : Plans parseCondition 3 tokens (at + 1) none row before (Parsed p d next) after) (y : z ≡ tok tokens p) where
+      pub body-shut : z ≡ 262145 → Plans parseBody 0 tokens at c row before (Parsed (p + 1) none next) after
       unfolding carryOf simpleCount
       body-shut k =
           plans
@@ -308,7 +308,7 @@ module _ (tokens : List ℕ) (at : ℕ) (c : Carried) {x : ℕ} (e : x ≡ tok t
           (omega (arith, stands tokens p y (is-closing z k) tt))
           (omega arith)
 
-      pub body-not-shut : Room tokens at row before → (z ≡ 262145 → ⊥) → Plans parse-body 0 tokens at c row before (Stuck p) after
+      pub body-not-shut : Room tokens at row before → (z ≡ 262145 → ⊥) → Plans parseBody 0 tokens at c row before (Stuck p) after
       unfolding carryOf
       body-not-shut room k =
           plans
@@ -319,13 +319,13 @@ module _ (tokens : List ℕ) (at : ℕ) (c : Carried) {x : ℕ} (e : x ≡ tok t
 
 -- a whole sequence, of which all is read, or a part
 module _ {tokens before after : List ℕ} where
-  pub whole-stuck : {p : ℕ} → Plans parse-condition 3 tokens 0 none 0 before (Stuck p) after → Parses tokens (Refused p) before after
+  pub whole-stuck : {p : ℕ} → Plans parseCondition 3 tokens 0 none 0 before (Stuck p) after → Parses tokens (Refused p) before after
   unfolding read carryOf Whole
   whole-stuck {p} h =
       let e : length tokens - (length tokens - p) ≡ p = omega (arith, h .upto) in
       rw (h .told (4 * length tokens + 4) (omega arith), length-drop, e) (refl, h .fits)
 
-  module _ {p n : ℕ} {d : Carried} (h : Plans parse-condition 3 tokens 0 none 0 before (Parsed p d n) after) where
+  module _ {p n : ℕ} {d : Carried} (h : Plans parseCondition 3 tokens 0 none 0 before (Parsed p d n) after) where
     pub whole-part : Room tokens 0 0 before → (p ≡ length tokens → ⊥) → Parses tokens (Refused p) before after
     unfolding read carryOf Whole
     whole-part room g =

@@ -3,7 +3,7 @@
 // chain over its terms, so that only a bracket takes more of the stack.
 ghost use Prim.Native.Nat.{_≤_};
 ghost use lib.ListN.{length};
-ghost use Rattle.grammar.specs.Parser.{parse-condition, parse-chain, parse-term, parse-body};
+ghost use Rattle.grammar.specs.Parser.{parseCondition, parseChain, parseTerm, parseBody};
 ghost use Rattle.parser.specs.Parses.{Room, Plans, Placeable, Placed, Parses};
 use crate::Answer;
 use crate::Parse;
@@ -32,7 +32,7 @@ fn condition(
     rows: &mut [u32],
 ) -> Answer
     requires { ⌜ Room (now tokens) at row (now rows) ⌝ }
-    ensures { λ r. ⌜ Plans parse-condition 3 (now (tokens .entry)) at carry row (now (rows .entry)) r (now (rows .exit)) ⌝ }
+    ensures { λ r. ⌜ Plans parseCondition 3 (now (tokens .entry)) at carry row (now (rows .entry)) r (now (rows .exit)) ⌝ }
 {
     loop {
         let part = chain(tokens, at, carry, row, rows);
@@ -63,7 +63,7 @@ fn chain(
     rows: &mut [u32],
 ) -> Answer
     requires { ⌜ Room (now tokens) at row (now rows) ⌝ }
-    ensures { λ r. ⌜ Plans parse-chain 2 (now (tokens .entry)) at carry row (now (rows .entry)) r (now (rows .exit)) ⌝ }
+    ensures { λ r. ⌜ Plans parseChain 2 (now (tokens .entry)) at carry row (now (rows .entry)) r (now (rows .exit)) ⌝ }
 {
     loop {
         let part = term(tokens, at, carry, row, rows);
@@ -89,7 +89,7 @@ fn chain(
 // NOT before > < = belongs to the relation, where one is carried; any other NOT is logical.
 fn term(tokens: &[u32], at: usize, carry: Carried, row: usize, rows: &mut [u32]) -> Answer
     requires { ⌜ Room (now tokens) at row (now rows) ⌝ }
-    ensures { λ r. ⌜ Plans parse-term 1 (now (tokens .entry)) at carry row (now (rows .entry)) r (now (rows .exit)) ⌝ }
+    ensures { λ r. ⌜ Plans parseTerm 1 (now (tokens .entry)) at carry row (now (rows .entry)) r (now (rows .exit)) ⌝ }
 {
     let here = peek(tokens, at);
     let after = peek(tokens, at + 1);
@@ -129,7 +129,7 @@ fn term(tokens: &[u32], at: usize, carry: Carried, row: usize, rows: &mut [u32])
 
 fn body(tokens: &[u32], at: usize, carry: Carried, row: usize, rows: &mut [u32]) -> Answer
     requires { ⌜ Room (now tokens) at row (now rows) ⌝ }
-    ensures { λ r. ⌜ Plans parse-body 0 (now (tokens .entry)) at carry row (now (rows .entry)) r (now (rows .exit)) ⌝ }
+    ensures { λ r. ⌜ Plans parseBody 0 (now (tokens .entry)) at carry row (now (rows .entry)) r (now (rows .exit)) ⌝ }
 {
     if peek(tokens, at) != OPEN {
         return put_single(read_simple(tokens, at, carry), row, rows);

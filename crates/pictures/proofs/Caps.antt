@@ -69,8 +69,8 @@ first-caps : (b : ℕ) → onFirst b ≡ capO (R.draw R.nothing b)
 first-caps b = by (eqb b 0x58) (eqb b 0x41) (eqb b 0x53)
   where
     by : (x a s : Bool) → cond x (On (Letters 0x58 (made 0 Last))) (cond a (On (Letters 0x41 (made 0 Last))) (cond s (On (Whole true (made 0 Settled))) (onNumber false (made 0 Settled) b)))
-        ≡ capO (cond x (some (R.letters R.letter-x (R.tally 0 R.last)))
-        (cond a (some (R.letters R.letter-a (R.tally 0 R.last))) (cond s (some (R.whole true (R.tally 0 R.settled))) (R.drawNumber false (R.tally 0 R.settled) b))))
+        ≡ capO (cond x (some (R.letters R.letterX (R.tally 0 R.last)))
+        (cond a (some (R.letters R.letterA (R.tally 0 R.last))) (cond s (some (R.whole true (R.tally 0 R.settled))) (R.drawNumber false (R.tally 0 R.settled) b))))
     by true a s = refl
     by false true s = refl
     by false false true = refl
@@ -90,10 +90,10 @@ letters-caps c (suc n) k p = rw (eqb-no (cap (suc n)) 0 (λ e. omega arith)) (by
   where
     by : (c : R.Letter) (p : Bool) → cond p (Pictured.Ended (cond (eqb (R.letterByte c) 0x58) 2 1) (cap (suc n)) 0 0 (k + 1)) (Pictured.Fault k)
         ≡ capPictured (pictured k (some (characters (R.letterKind c) (suc n))) p)
-    by R.letter-x true = refl
-    by R.letter-x false = refl
-    by R.letter-a true = refl
-    by R.letter-a false = refl
+    by R.letterX true = refl
+    by R.letterX false = refl
+    by R.letterA true = refl
+    by R.letterA false = refl
 
 digits-caps : (s : Bool) (m n z k : ℕ) (p : Bool) → z ≡ m + n → numberEnd s (cap m) (cap n) k p ≡ capPictured (pictured k (R.positive z (number s m n)) p)
 digits-caps s m n zero k p e = let i : cap (cap m + cap n) ≡ 0 = omega arith in rw i

@@ -14,7 +14,7 @@ use Rattle.grammar.specs.Plan.{planned}
 use Rattle.grammar.proofs.Segment.{planned-length}
 use Rattle.rules.specs.Calls.{conditionLines}
 use Rattle.rules.specs.Demands.{Refuses}
-use Rattle.rules.proofs.Passing.{Passes, passed, read-as}
+use Rattle.rules.proofs.Passing.{Passes, passed, readAs}
 use Rattle.rules.proofs.Answers.{few-leaves, refuses}
 use Rattle.resolver.specs.declared.Prepared.{Prepared}
 use Rattle.resolver.specs.declared.Prepared.the-variants.{Rows, Refused as Unprepared}
@@ -40,7 +40,7 @@ module _ {lent : Lent} {tokens : List ℕ} {r : Prepared} {before after : List �
   ready =
       let h : (firstOf (conditionLines lent tokens) ≡ Sound) × RowsStand (read tokens) count before after = rw e at (p .readied) in
       let (t, q) = passed lent tokens (h .0) in
-      let z : h .1 .tree ≡ t = cc (h .1 .read-as, read-as q) in
+      let z : h .1 .tree ≡ t = cc (h .1 .readAs, readAs q) in
       record { tree = t; passes = q; counted = h .1 .counted ∙ ap simpleCount z; rows = stands-rows (h .1) ∙ ap planned z }
 
   pub few-prepared : count ≤ 128

@@ -35,11 +35,11 @@ use Rattle.rules.specs.Calls.{grammarCheck, earlier, typingCheck, grammarLines}
 use Rattle.resolver.specs.Resolved.{parseCheck, parsedTokens, There, RowsStand, Resolves}
 
 -- of 7 and 8
-pub seven-first : (seven : ℕ) (eight : Refusal) → seven ≤ place eight → Refused (Grammar seven) ≡ earlier (Refused (Grammar seven)) (Refused eight)
-seven-first seven eight h = rw (le-leb seven (place eight) h)
+pub sevenFirst : (seven : ℕ) (eight : Refusal) → seven ≤ place eight → Refused (Grammar seven) ≡ earlier (Refused (Grammar seven)) (Refused eight)
+sevenFirst seven eight h = rw (le-leb seven (place eight) h)
 
-pub eight-first : (seven : ℕ) (eight : Refusal) → place eight < seven → Refused eight ≡ earlier (Refused (Grammar seven)) (Refused eight)
-eight-first seven eight h = rw (lt-leb seven (place eight) h)
+pub eightFirst : (seven : ℕ) (eight : Refusal) → place eight < seven → Refused eight ≡ earlier (Refused (Grammar seven)) (Refused eight)
+eightFirst seven eight h = rw (lt-leb seven (place eight) h)
 
 -- what was parsed is what is read
 seven : (r : Parse) (before after : List ℕ) (reading : Reading) → Whole r before after reading → parseCheck r ≡ grammarCheck reading
@@ -52,7 +52,7 @@ lies : (count : ℕ) (before after : List ℕ) (reading : Reading) → Whole (Ac
 unfolding Whole
 lies count before after (accepted t) w =
     let e : count ≡ simpleCount t = cc (w .0) in
-    record { tree = t; read-as = refl; counted = e; rows = rw e (w .1) }
+    record { tree = t; readAs = refl; counted = e; rows = rw e (w .1) }
 lies count before after (refused at) w = let z : _≡_ {A = ℕ} 0 1 = cc (w .0) in absurd (omega arith)
 
 pub stands-rows : {reading : Reading} {count : ℕ} {before after : List ℕ} (s : RowsStand reading count before after) → take (count * 5) after ≡ planned (s .tree)
@@ -121,14 +121,14 @@ module _ (items literals tokens before after : List ℕ) (count : ℕ) {depth : 
   -- 9 is tried of the rows in the buffer
   typing-of : (reading : Reading) → RowsStand reading count before after → typingCheck lent reading ≡ typedRows lent after count
   typing-of reading s =
-      ap (typingCheck lent) (s .read-as)
+      ap (typingCheck lent) (s .readAs)
       ∙ sym (ap (typedRows lent after) (s .counted) ∙ rows-typed (s .tree) after (rw (s .counted) at (stands-rows s)) lent)
 
   shaped-of : RowsStand (read tokens) count before after → Shaped lent after count
   shaped-of s =
       rw (s .counted)
       (rows-shaped (s .tree) after (rw (s .counted) at (stands-rows s)) (there .off) items literals [] (there .names)
-      (shaped (under (there .off) (lendNames items literals [] (there .names))) (sound tokens (s .tree) (s .read-as)) (there .exist)))
+      (shaped (under (there .off) (lendNames items literals [] (there .names))) (sound tokens (s .tree) (s .readAs)) (there .exist)))
 
   pub shaped-rows : Shaped lent after count
   shaped-rows = shaped-of (lies count before after (read tokens) parses)

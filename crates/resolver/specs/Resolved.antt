@@ -39,7 +39,7 @@ parsedTokens tokens (Refused eight) = suc (place eight)
 -- the buffer is so many rows of a tree, and then as it was
 pub record RowsStand (reading : Reading) (count : ℕ) (before after : List ℕ) : Type 0 where
   pub tree : Tree
-  pub read-as : reading ≡ accepted tree
+  pub readAs : reading ≡ accepted tree
   pub counted : count ≡ simpleCount tree
   pub rows : after ≡ planned tree ++ drop (count * 5) before
 

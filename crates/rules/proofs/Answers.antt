@@ -28,7 +28,7 @@ use Rattle.grammar.proofs.Segment.{run-is-judging, run-visits, run-count}
 use Rattle.grammar.proofs.Shapes.{planned-plan-sound}
 use Rattle.rules.specs.Calls.{writtenOver, Gives, Leaves, conditionLines, roomCheck, numbersOf, writing, expandGives, planGives, answers, told, judgeWalk, runWalk, runGives}
 use Rattle.rules.specs.Demands.{rulesWalk, Refuses}
-use Rattle.rules.proofs.Passing.{typing-passes, after-lines, Passes, read-as, condition-passes, tables-pass, few-tokens, tokens-exist}
+use Rattle.rules.proofs.Passing.{typing-passes, after-lines, Passes, readAs, condition-passes, tables-pass, fewTokens, tokens-exist}
 
 -- a call leaves what it gives
 pub leaves-as : {gives : Gives} {answer : Written} {output : List ℕ} → gives ≡ record { answer = answer; output = output } → Leaves gives answer output
@@ -42,11 +42,11 @@ module _ {lent : Lent} {tokens : List ℕ} {t : Tree} (p : Passes lent tokens t)
   room-left make output =
       after-lines (conditionLines lent tokens) (roomCheck (numbersOf make (read tokens)) output ∷ []) (condition-passes p)
       ∙ line-last _
-      ∙ rw (read-as p)
+      ∙ rw (readAs p)
 
   pub writes-over : (make : Tree → List ℕ) (output : List ℕ) → length (make t) ≤ length output →
       writing make lent tokens output ≡ writtenOver (make t) output
-  writes-over make output l = rw (room-left make output, read-as p, le-leb _ _ l)
+  writes-over make output l = rw (room-left make output, readAs p, le-leb _ _ l)
 
   pub lacks-room : (make : Tree → List ℕ) (output : List ℕ) → length output < length (make t) →
       writing make lent tokens output ≡ record { answer = Unwritten (Room (length (make t))); output = output }
@@ -55,13 +55,13 @@ module _ {lent : Lent} {tokens : List ℕ} {t : Tree} (p : Passes lent tokens t)
   pub judges-as : (content : List ℕ) (switches : ℕ) → judgeWalk lent tokens content switches ≡ rulesWalk lent content switches t
   unfolding judgeWalk
   judges-as content switches =
-      rw (after-lines (conditionLines lent tokens) (recordCheck lent content ∷ []) (condition-passes p), line-last, read-as p)
+      rw (after-lines (conditionLines lent tokens) (recordCheck lent content ∷ []) (condition-passes p), line-last, readAs p)
 
   pub few-leaves : simpleCount t ≤ 128
-  few-leaves = few-rows (p .accepts .derives) (few-tokens p)
+  few-leaves = few-rows (p .accepts .derives) (fewTokens p)
 
   pub plan-passes : planCheck lent (planned t) ≡ Sound
-  plan-passes = planned-plan-sound lent (p .accepts .derives) (few-tokens p) (tokens-exist p) (typing-passes lent 0 t (p .accepts .typed))
+  plan-passes = planned-plan-sound lent (p .accepts .derives) (fewTokens p) (tokens-exist p) (typing-passes lent 0 t (p .accepts .typed))
 
   pub run-judges : (content : List ℕ) (switches : ℕ) → running (outcome lent content switches) (planned t) ≡ judging (outcome lent content switches) t
   run-judges content switches =

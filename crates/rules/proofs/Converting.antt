@@ -41,7 +41,7 @@ use Rattle.grammar.proofs.ConvertedSound.{converted-tokens, converted-depth, of
 use Rattle.rules.specs.Calls.{conditionLines, roomCheck, writes, planGives, answers, told, judgeWalk, runWalk}
 use Rattle.rules.specs.Demands.{WellTyped, Accepted}
 use Rattle.rules.specs.Converting.{fitCheck, convertGives, convertPlanGives, Converted, ConditionsConvert, ConvertedRun, PlansConvert, RetiredWords}
-use Rattle.rules.proofs.Passing.{after-lines, both-sound, Passes, passed, tables-pass, tokens-exist, read-as}
+use Rattle.rules.proofs.Passing.{after-lines, both-sound, Passes, passed, tables-pass, tokens-exist, readAs}
 use Rattle.rules.proofs.Answers.{room-left, judges-as, plan-passes, after-plan}
 use Rattle.rules.proofs.Demands.{demand-three}
 
@@ -179,7 +179,7 @@ module _ (lent : Lent) {tokens : List ℕ} {t : Tree} (p : Passes (under true le
       let rest = roomCheck (convertedPlan (planned t)) other ∷ [] in
       rw (
         room-left q planned other,
-        read-as q,
+        readAs q,
         after-lines (lentLines (under true lent)) (planCheck (under true lent) (planned t) ∷ rest) (tables-pass p),
         line-sound rest (plan-passes p),
         line-last,
@@ -191,11 +191,11 @@ module _ (lent : Lent) {tokens : List ℕ} {t : Tree} (p : Passes (under true le
       record {
         tree = t;
         accepted = p .accepts;
-        accepted-on = passes-on lent p l .accepts;
-        tokens-are = refl;
+        acceptedOn = passes-on lent p l .accepts;
+        tokensAre = refl;
         judges = λ content switches. told-on _ (judgeWalk (under true lent) tokens content switches) (judge-on content switches);
         visits = λ content switches. ap (λ w. w .visits) (judge-on content switches);
-        one-plan = λ output m e other.
+        onePlan = λ output m e other.
             let h = old-plan output m e in
             rw h (plan-on other);
       }
@@ -267,7 +267,7 @@ module _ (lent : Lent) (plan : List ℕ) (s : planCheck (under true lent) plan �
   run-means : firstOf (lentLines (under true lent)) ≡ Sound → ConvertedRun lent plan (convertedPlan plan)
   run-means h =
       record {
-        numbers-are = refl;
+        numbersAre = refl;
         runs = λ content switches. told-on _ (runWalk (under true lent) plan content switches) (plan-walk content switches h);
         visits = λ content switches. ap (λ w. w .visits) (plan-walk content switches h);
       }

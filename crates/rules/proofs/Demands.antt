@@ -19,7 +19,7 @@ use Rattle.grammar.specs.Expanded.{expanded}
 use Rattle.grammar.specs.Plan.{planned}
 use Rattle.rules.specs.Calls.{writtenOver, conditionLines, roomCheck, Gives, writes, numbersOf, writing, expandGives, planGives, answers, told, treeAnswer, judgeWalk, judgeGives}
 use Rattle.rules.specs.Demands.{Accepted, Writes, Judges, DemandTwo, Demand3, DemandThree}
-use Rattle.rules.proofs.Passing.{both-sound, Passes, passed, read-as, passes-again, Nine, condition-nine, underived-refused, ill-typed-refused}
+use Rattle.rules.proofs.Passing.{both-sound, Passes, passed, readAs, passes-again, Nine, condition-nine, underived-refused, ill-typed-refused}
 use Rattle.rules.proofs.Answers.{writes-over, judges-as, runs-as, refuses, run-few}
 
 -- no condition is written, nor judged, but one that passes
@@ -57,7 +57,7 @@ module _ (lent : Lent) (tokens : List ℕ) where
       go Sound q e =
           let (f, g) = both-sound (conditionLines lent tokens) (room ∷ []) q in
           let (t, p) = passed lent tokens f in
-          (t, p, leb-true _ _ (test-sound _ _ (rw (read-as p) at (lines-sound (room ∷ []) g .0))))
+          (t, p, leb-true _ _ (test-sound _ _ (rw (readAs p) at (lines-sound (room ∷ []) g .0))))
       go (Refused refusal) q e = absurd (let z : _≡_ {A = ℕ} 0 1 = cc in omega arith)
 
 pub demand-two : DemandTwo
@@ -67,11 +67,11 @@ demand-two lent tokens f d =
       expands = λ t a. writes-over (passes t a) expanded;
       plans = λ t a. writes-over (passes t a) planned;
       judges = λ t a content switches. ap told (judges-as (passes t a) content switches);
-      expand-only = λ output w. let (t, p) = written-only lent tokens expanded nine output w in (t, p .accepts);
-      plan-only = λ output w. let (t, p) = written-only lent tokens planned nine output w in (t, p .accepts);
-      judge-only = λ content switches j. let (t, p) = judged-only lent tokens nine content switches j in (t, p .accepts);
+      expandOnly = λ output w. let (t, p) = written-only lent tokens expanded nine output w in (t, p .accepts);
+      planOnly = λ output w. let (t, p) = written-only lent tokens planned nine output w in (t, p .accepts);
+      judgeOnly = λ content switches j. let (t, p) = judged-only lent tokens nine content switches j in (t, p .accepts);
       underived = λ h at p. refuses lent tokens (underived-refused lent tokens f d h at p);
-      ill-typed = λ t h refusal e. refuses lent tokens (ill-typed-refused lent tokens f d t h refusal e);
+      illTyped = λ t h refusal e. refuses lent tokens (ill-typed-refused lent tokens f d t h refusal e);
     }
   where
     nine : Nine (firstOf (conditionLines lent tokens))
@@ -85,8 +85,8 @@ module _ (gives : Gives) (numbers output : List ℕ) (n : ℕ) (w : gives ≡ wr
   pub count-is : length numbers ≡ n
   count-is = cc
 
-  pub numbers-are : take n (gives .output) ≡ numbers
-  numbers-are = rw w (take-at numbers (drop (length numbers) output) n count-is)
+  pub numbersAre : take n (gives .output) ≡ numbers
+  numbersAre = rw w (take-at numbers (drop (length numbers) output) n count-is)
 
 demanded : {lent : Lent} {tokens : List ℕ} {t : Tree} (plan : List ℕ) (n : ℕ) → Passes lent tokens t → plan ≡ planned t → length (planned t) ≡ n → Demand3 lent tokens plan n
 unfolding expandGives planGives
@@ -100,7 +100,7 @@ demanded {lent} {tokens} {t} plan n p e c =
       reaches = λ content switches. rw e (ap (λ w. w .visits) (runs-as p content switches));
       few = λ content switches. run-few lent plan content switches;
       expands = writes-over p expanded;
-      plans-again = λ l output r. rw e (writes-over (passes-again p l) planned output (rw e at r));
+      plansAgain = λ l output r. rw e (writes-over (passes-again p l) planned output (rw e at r));
     }
 
 pub demand-three : DemandThree
@@ -108,4 +108,4 @@ unfolding planGives
 demand-three lent tokens output n e =
     let (t, p, l) = counted lent tokens planned output n e in
     let w = writes-over p planned output l in
-    demanded _ n p (numbers-are (planGives lent tokens output) (planned t) output n w e) (count-is (planGives lent tokens output) (planned t) output n w e)
+    demanded _ n p (numbersAre (planGives lent tokens output) (planned t) output n w e) (count-is (planGives lent tokens output) (planned t) output n w e)

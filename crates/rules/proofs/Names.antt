@@ -113,8 +113,8 @@ module _ (lent : Lent) (tables : firstOf (lentLines lent) ≡ Sound) (v : ℕ) (
   lines : AllSound (lentLines lent)
   lines = lines-sound (lentLines lent) tables
 
-  few-names : nameCount (lent .names) ≤ 64
-  few-names =
+  fewNames : nameCount (lent .names) ≤ 64
+  fewNames =
       let l : length (lent .names) ≤ 1152 =
       leb-true _ _ (both (eqb (length (lent .names) % 18) 0) (leb (length (lent .names)) 1152) (test-sound _ (Name 0) (name-lines lent tables v inside .0)) .1) in
       omega arith
@@ -134,8 +134,8 @@ module _ (lent : Lent) (tables : firstOf (lentLines lent) ≡ Sound) (v : ℕ) (
   few-items : item < 64
   few-items = omega (arith, item-there lent tables v inside, few-rows (lent .items) ItemTable (lines .0))
 
-  few-literals : rowCount (lent .literals) ≤ 64
-  few-literals = few-rows (lent .literals) LiteralTable (lines .1 .1 .0)
+  fewLiterals : rowCount (lent .literals) ≤ 64
+  fewLiterals = few-rows (lent .literals) LiteralTable (lines .1 .1 .0)
 
   no-group : (l : ℕ) → l < rowCount (lent .literals) → isGroup (rowAt (lent .literals) l) ≡ false
   no-group l h = literal-no-group (lent .bytes) (rowAt (lent .literals) l) (every-sound _ LiteralRow _ (lines .1 .1 .1 .0) l h)
@@ -149,8 +149,8 @@ module _ (lent : Lent) (tables : firstOf (lentLines lent) ≡ Sound) (v : ℕ) (
 
   literal-side : (content : List ℕ) (l : ℕ) → l < rowCount (lent .literals) → sideOf lent content (65536 + l) ≡ literalSide lent l
   literal-side content l h =
-      let q : (65536 + l) / 65536 ≡ 1 = omega (arith, few-literals) in
-      let r : (65536 + l) % 65536 ≡ l = omega (arith, few-literals) in
+      let q : (65536 + l) / 65536 ≡ 1 = omega (arith, fewLiterals) in
+      let r : (65536 + l) % 65536 ≡ l = omega (arith, fewLiterals) in
       rw (q, r)
 
   -- "a value that may be compared with the item", by 01's typing
@@ -159,8 +159,8 @@ module _ (lent : Lent) (tables : firstOf (lentLines lent) ≡ Sound) (v : ℕ) (
   relation-typed l h fits =
       let q : item / 65536 ≡ 0 = omega (arith, few-items) in
       let r : item % 65536 ≡ item = omega (arith, few-items) in
-      let q' : (65536 + l) / 65536 ≡ 1 = omega (arith, few-literals) in
-      let r' : (65536 + l) % 65536 ≡ l = omega (arith, few-literals) in
+      let q' : (65536 + l) / 65536 ≡ 1 = omega (arith, fewLiterals) in
+      let r' : (65536 + l) % 65536 ≡ l = omega (arith, fewLiterals) in
       rw (q, r, q', r') fits
 
   pairs-typed : (k : ℕ) → k < namePairs (lent .names) v → WellTyped lent (pairsTree item (λ j. 65536 + low j) (λ j. 65536 + high j) k)
@@ -206,8 +206,8 @@ module _ (lent : Lent) (tables : firstOf (lentLines lent) ≡ Sound) (v : ℕ) (
     the-name : out (327680 + v) 0 0 ≡ nameOutcome lent content v
     unfolding outcome
     the-name =
-        let q : (327680 + v) / 65536 ≡ 5 = omega (arith, few-names, inside) in
-        let r : (327680 + v) % 65536 ≡ v = omega (arith, few-names, inside) in
+        let q : (327680 + v) / 65536 ≡ 5 = omega (arith, fewNames, inside) in
+        let r : (327680 + v) % 65536 ≡ v = omega (arith, fewNames, inside) in
         rw (q, r)
 
     enough : 1 ≤ namePairs (lent .names) v

@@ -87,14 +87,14 @@ passed lent tokens e =
     go f (refused at) q l = absurd (earlier-refuses (Grammar at) (depthCheck tokens) (l .0))
 
 module _ {lent : Lent} {tokens : List ℕ} {t : Tree} (p : Passes lent tokens t) where
-  pub read-as : read tokens ≡ accepted t
-  read-as = complete tokens t (p .accepts .derives)
+  pub readAs : read tokens ≡ accepted t
+  readAs = complete tokens t (p .accepts .derives)
 
   pub condition-passes : firstOf (conditionLines lent tokens) ≡ Sound
   unfolding firstOf
   condition-passes =
       after-lines (tokenLines lent tokens) (grammarLines lent tokens) (p .token-lines)
-      ∙ rw (read-as, p .shallow, typing-passes lent 0 t (p .accepts .typed))
+      ∙ rw (readAs, p .shallow, typing-passes lent 0 t (p .accepts .typed))
 
   pub tables-pass : firstOf (lentLines lent) ≡ Sound
   tables-pass = both-sound (lentLines lent) (tokenCountCheck tokens ∷ tokenCheck lent tokens ∷ []) (p .token-lines) .0
@@ -102,8 +102,8 @@ module _ {lent : Lent} {tokens : List ℕ} {t : Tree} (p : Passes lent tokens t)
   tokens-pass : AllSound (tokenCountCheck tokens ∷ tokenCheck lent tokens ∷ [])
   tokens-pass = lines-sound _ (both-sound (lentLines lent) (tokenCountCheck tokens ∷ tokenCheck lent tokens ∷ []) (p .token-lines) .1)
 
-  pub few-tokens : length tokens ≤ 256
-  few-tokens = leb-true _ _ (both-true (leb 1 (length tokens)) _ (test-sound _ TokenCount (tokens-pass .0)) .1)
+  pub fewTokens : length tokens ≤ 256
+  fewTokens = leb-true _ _ (both-true (leb 1 (length tokens)) _ (test-sound _ TokenCount (tokens-pass .0)) .1)
 
   pub tokens-exist : tokenCheck lent tokens ≡ Sound
   tokens-exist = tokens-pass .1 .0

@@ -47,7 +47,7 @@ use Rattle.rules.specs.Places.{Small, Modest, Fits}
 use Rattle.rules.specs.Converting.{fitCheck, convertGives, convertPlanGives}
 use Rattle.rules.specs.Calls.{grammarCheck, earlier, typingCheck, conditionLines, roomCheck, writes, numbersOf, writing, expandGives, planGives}
 use Rattle.rules.specs.Calls.{answers, told, treeAnswer, judgeWalk, judgeGives, runWalk, runGives}
-use Rattle.rules.proofs.Passing.{both-sound, passed, read-as, few-tokens as short-passed}
+use Rattle.rules.proofs.Passing.{both-sound, passed, readAs, fewTokens as short-passed}
 use Rattle.rules.proofs.Answers.{runs-as}
 use Rattle.rules.proofs.Stops.{Stops, stops-near}
 
@@ -146,8 +146,8 @@ low-typing lent n (chained t u) l =
 low-typing lent n (either t u) l =
     low-first (typingFrom lent n t) _ (low-typing lent n t (omega arith)) (λ _. low-last _ (low-typing lent (n + simpleCount t) u (omega arith)))
 
-few-tokens : (tokens : List ℕ) → tokenCountCheck tokens ≡ Sound → length tokens ≤ 256
-few-tokens tokens e = leb-true _ _ (both (leb 1 (length tokens)) (leb (length tokens) 256) (test-sound _ TokenCount e) .1)
+fewTokens : (tokens : List ℕ) → tokenCountCheck tokens ≡ Sound → length tokens ≤ 256
+fewTokens tokens e = leb-true _ _ (both (leb 1 (length tokens)) (leb (length tokens) 256) (test-sound _ TokenCount e) .1)
 
 -- 1 to 9, and lines after them that are low where none of them applies
 low-condition : (lent : Lent) (tokens : List ℕ) (others : List Check) →
@@ -155,7 +155,7 @@ low-condition : (lent : Lent) (tokens : List ℕ) (others : List Check) →
 low-condition lent tokens others h =
     low-tables lent _ (λ few.
     low-first (tokenCountCheck tokens) _ (low-unless (leb 1 (length tokens) && leb (length tokens) 256) TokenCount (omega arith, refl)) (λ five.
-    let short = few-tokens tokens five in
+    let short = fewTokens tokens five in
     low-first (tokenCheck lent tokens) _ (low-failing _ Token (λ k. (refl, refl)) 0 (length tokens) (omega arith)) (λ six.
     low-first (earlier (grammarCheck (read tokens)) (depthCheck tokens)) _
     (low-earlier (grammarCheck (read tokens)) (depthCheck tokens) (low-grammar tokens short) (low-depth 0 0 tokens (omega arith))) (λ seven.
@@ -231,7 +231,7 @@ judge-few lent tokens content switches =
     few-answers (firstOf (conditionLines lent tokens ++ recordCheck lent content ∷ [])) (treeAnswer lent content switches (read tokens))
     (λ e.
     let (t, p) = passed lent tokens (both-sound (conditionLines lent tokens) (recordCheck lent content ∷ []) e .0) in
-    rw (read-as p) (omega (arith, visited-le (outcome lent content switches) 0 t, few-rows (p .accepts .derives) (short-passed p))))
+    rw (readAs p) (omega (arith, visited-le (outcome lent content switches) 0 t, few-rows (p .accepts .derives) (short-passed p))))
 
 run-few : (lent : Lent) (plan content : List ℕ) (switches : ℕ) → runGives lent plan content switches .count ≤ 128
 unfolding runWalk
@@ -335,7 +335,7 @@ judge-modest lent tokens content switches =
     let (t, p) = passed lent tokens lines in
     let held = lines-sound _ last .0 in
     let same = runs-as p content switches ∙ ap (λ line. answers line (judging (outcome lent content switches) t)) held in
-    rw (read-as p) (subst (λ w. Modest (w .verdict)) same (run-modest lent (planned t) content switches)))
+    rw (readAs p) (subst (λ w. Modest (w .verdict)) same (run-modest lent (planned t) content switches)))
 
 pub judge-fits : (lent : Lent) (tokens content : List ℕ) (switches : ℕ) → Fits (judgeGives lent tokens content switches)
 judge-fits lent tokens content switches = (judge-modest lent tokens content switches, judge-few lent tokens content switches)

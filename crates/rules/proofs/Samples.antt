@@ -20,7 +20,7 @@ use Rattle.compare.specs.Switches.{switchHolds}
 use Rattle.values.specs.Names.{every, some, nameCheck}
 use Rattle.values.specs.Truth.{outcome}
 use Rattle.grammar.specs.Grammar.{class}
-use Rattle.grammar.specs.Parser.{on, parse-condition, read}
+use Rattle.grammar.specs.Parser.{on, parseCondition, read}
 use Rattle.grammar.specs.Depth.{depthFrom}
 use Rattle.grammar.specs.Typed.{typingFrom}
 use Rattle.grammar.specs.Judging.{simpleCount, when, at, judged, visited}
@@ -33,8 +33,8 @@ use Rattle.rules.specs.Footprint.{itemsAmong, footprint}
 abbrev digits : Lent
 digits = record { off = false; items = 3 ∷ 0 ∷ 1 ∷ 0 ∷ 1 ∷ 3 ∷ 1 ∷ 1 ∷ 0 ∷ 1 ∷ 3 ∷ 2 ∷ 1 ∷ 0 ∷ 1 ∷ 3 ∷ 3 ∷ 1 ∷ 0 ∷ 1 ∷ []; literals = []; bytes = []; names = [] }
 
-abbrev c-blank : List ℕ
-c-blank = 0x31 ∷ 0x31 ∷ 0x20 ∷ 0x31 ∷ []
+abbrev cBlank : List ℕ
+cBlank = 0x31 ∷ 0x31 ∷ 0x20 ∷ 0x31 ∷ []
 
 abbrev one-of-two : List ℕ
 one-of-two = 0 ∷ 262151 ∷ 1 ∷ 262148 ∷ 2 ∷ 262151 ∷ 3 ∷ []
@@ -46,20 +46,20 @@ abbrev blank-not-read : List ℕ
 blank-not-read = 2 ∷ 262154 ∷ 262147 ∷ 2 ∷ 262149 ∷ 0 ∷ []
 
 -- i): cases 15 and 16 with their counts; a stop is counted; 0 where the record is too short or a token is none
-counts : (judgeGives digits one-of-two c-blank 0 ≡ record { verdict = True; count = 1 })
-    × (judgeGives digits exchanged c-blank 0 ≡ record { verdict = Refused (Data 0 2); count = 1 })
-    × (judgeGives digits blank-not-read c-blank 0 ≡ record { verdict = False; count = 1 })
-    × (judgeGives digits (0 ∷ 262151 ∷ 3 ∷ 262147 ∷ 1 ∷ 262148 ∷ 3 ∷ []) c-blank 0 ≡ record { verdict = True; count = 2 })
+counts : (judgeGives digits one-of-two cBlank 0 ≡ record { verdict = True; count = 1 })
+    × (judgeGives digits exchanged cBlank 0 ≡ record { verdict = Refused (Data 0 2); count = 1 })
+    × (judgeGives digits blank-not-read cBlank 0 ≡ record { verdict = False; count = 1 })
+    × (judgeGives digits (0 ∷ 262151 ∷ 3 ∷ 262147 ∷ 1 ∷ 262148 ∷ 3 ∷ []) cBlank 0 ≡ record { verdict = True; count = 2 })
     × (judgeGives digits one-of-two (0x31 ∷ []) 0 ≡ record { verdict = Refused (Record 1); count = 0 })
-    × (judgeGives digits (4 ∷ []) c-blank 0 ≡ record { verdict = Refused (Token 0); count = 0 })
-unfolding all numberFrom firstFrom validContent firstFailing firstOf typed byteOrder comparison classHolds outcome class on parse-condition read depthFrom typingFrom simpleCount when at judged visited judgeWalk
+    × (judgeGives digits (4 ∷ []) cBlank 0 ≡ record { verdict = Refused (Token 0); count = 0 })
+unfolding all numberFrom firstFrom validContent firstFailing firstOf typed byteOrder comparison classHolds outcome class on parseCondition read depthFrom typingFrom simpleCount when at judged visited judgeWalk
 counts = (refl, refl, refl, refl, refl, refl)
 
 -- n): what those look at: items 0 and 1; items 2 and 3; item 2, and not item 0, although the row has 0 for its object
-looks : (footprint digits (judgeWalk digits one-of-two c-blank 0 .visits) ≡ 0 ∷ 1 ∷ [])
-    × (footprint digits (judgeWalk digits exchanged c-blank 0 .visits) ≡ 2 ∷ 3 ∷ [])
-    × (footprint digits (judgeWalk digits blank-not-read c-blank 0 .visits) ≡ 2 ∷ [])
-unfolding all numberFrom firstFrom validContent firstFailing firstOf typed byteOrder comparison classHolds switchHolds outcome class on parse-condition read depthFrom typingFrom simpleCount when at judged visited judgeWalk itemsAmong footprint
+looks : (footprint digits (judgeWalk digits one-of-two cBlank 0 .visits) ≡ 0 ∷ 1 ∷ [])
+    × (footprint digits (judgeWalk digits exchanged cBlank 0 .visits) ≡ 2 ∷ 3 ∷ [])
+    × (footprint digits (judgeWalk digits blank-not-read cBlank 0 .visits) ≡ 2 ∷ [])
+unfolding all numberFrom firstFrom validContent firstFailing firstOf typed byteOrder comparison classHolds switchHolds outcome class on parseCondition read depthFrom typingFrom simpleCount when at judged visited judgeWalk itemsAmong footprint
 looks = (refl, refl, refl)
 
 -- l): NOT off 0 AND off 1 becomes on 0 AND NOT on 1; NOT ( off 1 ) becomes NOT ( NOT on 1 ); the NOT of a relation and a NOT before
@@ -76,11 +76,11 @@ unfolding flat planRow onRow onRows rowsFrom convertedPlan
 row = refl
 
 -- "Expand, plan and judge refuse it with 6, run with 11"; the old rules do not
-refused : (judgeGives digits (196608 ∷ []) c-blank 0 ≡ record { verdict = Refused (Token 0); count = 0 })
-    × (runGives digits (196608 ∷ 0 ∷ 0 ∷ 65535 ∷ 65534 ∷ []) c-blank 0 ≡ record { verdict = Refused (PlanFault 0); count = 0 })
-    × (judgeGives (under true digits) (196608 ∷ []) c-blank 0 ≡ record { verdict = True; count = 1 })
-    × (runGives (under true digits) (196608 ∷ 0 ∷ 0 ∷ 65535 ∷ 65534 ∷ []) c-blank 0 ≡ record { verdict = True; count = 1 })
-unfolding all numberFrom firstFrom validContent firstFailing firstOf typed byteOrder comparison classHolds switchHolds outcome class on parse-condition read depthFrom typingFrom simpleCount when at judged visited judgeWalk planRow planRowSound follow run reached runVisits runWalk
+refused : (judgeGives digits (196608 ∷ []) cBlank 0 ≡ record { verdict = Refused (Token 0); count = 0 })
+    × (runGives digits (196608 ∷ 0 ∷ 0 ∷ 65535 ∷ 65534 ∷ []) cBlank 0 ≡ record { verdict = Refused (PlanFault 0); count = 0 })
+    × (judgeGives (under true digits) (196608 ∷ []) cBlank 0 ≡ record { verdict = True; count = 1 })
+    × (runGives (under true digits) (196608 ∷ 0 ∷ 0 ∷ 65535 ∷ 65534 ∷ []) cBlank 0 ≡ record { verdict = True; count = 1 })
+unfolding all numberFrom firstFrom validContent firstFailing firstOf typed byteOrder comparison classHolds switchHolds outcome class on parseCondition read depthFrom typingFrom simpleCount when at judged visited judgeWalk planRow planRowSound follow run reached runVisits runWalk
 refused = (refl, refl, refl, refl)
 
 -- c): a counter of each numeric kind, three bytes each: 0 to 3 are kinds 3 to 6, at bytes 2, 5, 8 and 11; a text of kind 2 and a group lie
@@ -110,7 +110,7 @@ which-byte : (judgeGives counters (0 ∷ 262158 ∷ []) spoiled 0 ≡ record { v
     × (judgeGives counters (4 ∷ 262151 ∷ 3 ∷ []) spoiled 0 ≡ record { verdict = Refused (Data 0 13); count = 1 })
     × (judgeGives counters (3 ∷ 262151 ∷ 5 ∷ []) spoiled 0 ≡ record { verdict = False; count = 1 })
     × (judgeGives counters (4 ∷ 262154 ∷ 262148 ∷ 4 ∷ 262150 ∷ 0 ∷ []) spoiled 0 ≡ record { verdict = Refused (Data 1 2); count = 2 })
-unfolding all firstFrom validContent firstFailing firstOf typed byteOrder comparison classHolds outcome class on parse-condition read depthFrom typingFrom simpleCount when at judged visited judgeWalk
+unfolding all firstFrom validContent firstFailing firstOf typed byteOrder comparison classHolds outcome class on parseCondition read depthFrom typingFrom simpleCount when at judged visited judgeWalk
 which-byte = (refl, refl, refl, refl, refl, refl, refl, refl, refl)
 
 -- g): an owner of kind 1 in bytes 0 to 2, a text of kind 2 in 3 to 5, a group over both, a counter of kind 4 in 6 to 8, a second owner in 9
@@ -138,7 +138,7 @@ letters-and-digits : (judgeGives fields (0 ∷ 262151 ∷ 1 ∷ []) typed-in 0 �
     × (judgeGives fields (0 ∷ 262151 ∷ 3 ∷ []) typed-in 0 ≡ record { verdict = Refused (Letters 0 1); count = 1 })
     × (judgeGives fields (0 ∷ 262155 ∷ 262148 ∷ 3 ∷ 262158 ∷ []) typed-in 0 ≡ record { verdict = Refused (Data 1 7); count = 2 })
     × (judgeGives fields (4 ∷ 262149 ∷ 1 ∷ []) typed-in 0 ≡ record { verdict = True; count = 1 })
-unfolding all firstFrom validContent firstFailing firstOf typed byteOrder comparison classHolds outcome class on parse-condition read depthFrom typingFrom simpleCount when at judged visited judgeWalk
+unfolding all firstFrom validContent firstFailing firstOf typed byteOrder comparison classHolds outcome class on parseCondition read depthFrom typingFrom simpleCount when at judged visited judgeWalk
 letters-and-digits = (refl, refl, refl, refl, refl, refl, refl)
 
 -- b): of the record's first four bytes, 1 2 3 4, a group of kind 7, a group of kind 0 and a text of kind 2; a counter of kind 3, 1 and a blank,
@@ -170,7 +170,7 @@ counters-in-groups : (judgeGives groups (0 ∷ 262154 ∷ []) counted 0 ≡ reco
     × (judgeGives groups (2 ∷ 262150 ∷ 4 ∷ []) counted 0 ≡ record { verdict = Refused (Letters 0 7); count = 1 })
     × (judgeGives record { off = false; items = 10 ∷ 0 ∷ 4 ∷ 0 ∷ 0 ∷ []; literals = []; bytes = []; names = [] } (0 ∷ 262154 ∷ []) counted 0
     ≡ record { verdict = Refused (ItemRow 0); count = 0 })
-unfolding all numberFrom firstFrom validContent firstFailing firstOf typed byteOrder comparison classHolds switchHolds outcome class on parse-condition read depthFrom typingFrom simpleCount when at judged visited judgeWalk
+unfolding all numberFrom firstFrom validContent firstFailing firstOf typed byteOrder comparison classHolds switchHolds outcome class on parseCondition read depthFrom typingFrom simpleCount when at judged visited judgeWalk
 counters-in-groups = (refl, refl, refl, refl, refl, refl, refl, refl, refl, refl, refl)
 
 -- f): 001's example, "PIC S9(5)V9(3) holding −23 is hex 0000230004", in bytes 0 to 4 as item 0; bytes 5 and 6 as items 1 and 2, kinds 8 and 9 of
@@ -201,7 +201,7 @@ packed-amounts : (valueOf (sideOf amounts ledger 0) ≡ negsuc 22999)
     × (judgeGives amounts (3 ∷ 262160 ∷ []) ledger 0 ≡ record { verdict = Refused (Data 0 7); count = 1 })
     × (judgeGives amounts (0 ∷ 262151 ∷ 4 ∷ []) ledger 0 ≡ record { verdict = Refused (Typing 0); count = 0 })
     × (judgeGives amounts (0 ∷ 262151 ∷ 65537 ∷ []) ledger 0 ≡ record { verdict = Refused (Typing 0); count = 0 })
-unfolding all numberFrom packedFrom firstFrom validContent firstFailing firstOf typed byteOrder comparison classHolds switchHolds outcome class on parse-condition read depthFrom typingFrom simpleCount when at judged visited judgeWalk
+unfolding all numberFrom packedFrom firstFrom validContent firstFailing firstOf typed byteOrder comparison classHolds switchHolds outcome class on parseCondition read depthFrom typingFrom simpleCount when at judged visited judgeWalk
 packed-amounts = (refl, refl, refl, refl, refl, refl, refl, refl, refl)
 
 -- h): item 0 of kind 3, two digits; literals 5, 10, 30 of kind 3 and "30" of kind 2. Name 0 is 5 THRU 10; name 1 is 5, or 10 THRU 30.
@@ -232,7 +232,7 @@ names : (judgeGives (named pairs) (327680 ∷ []) (0x30 ∷ 0x37 ∷ []) 0 ≡ r
     × (footprint (named pairs) (judgeWalk (named pairs) (327680 ∷ []) (0x30 ∷ 0x37 ∷ []) 0 .visits) ≡ 0 ∷ [])
     × (runGives (named pairs) (327680 ∷ 0 ∷ 0 ∷ 65535 ∷ 65534 ∷ []) (0x30 ∷ 0x37 ∷ []) 0 ≡ record { verdict = True; count = 1 })
     × (runGives (named pairs) (327680 ∷ 0 ∷ 1 ∷ 65535 ∷ 65534 ∷ []) (0x30 ∷ 0x37 ∷ []) 0 ≡ record { verdict = Refused (PlanFault 0); count = 0 })
-unfolding all numberFrom firstFrom validContent firstFailing firstOf every some typed byteOrder comparison classHolds switchHolds outcome class on parse-condition read depthFrom typingFrom simpleCount when at judged visited judgeWalk planRow planRowSound follow run reached runVisits runWalk itemsAmong footprint
+unfolding all numberFrom firstFrom validContent firstFailing firstOf every some typed byteOrder comparison classHolds switchHolds outcome class on parseCondition read depthFrom typingFrom simpleCount when at judged visited judgeWalk planRow planRowSound follow run reached runVisits runWalk itemsAmong footprint
 names = (refl, refl, refl, refl, refl, refl, refl, refl, refl)
 
 -- 18: an unfit length; low above high; a count of 0; one numeric end only; a number after the pairs; an item row that is not there
@@ -263,7 +263,7 @@ owner value =
 owners : (judgeGives (owner 0) (327680 ∷ []) (0x41 ∷ 0x37 ∷ []) 0 ≡ record { verdict = Refused (Letters 0 1); count = 1 })
     × (judgeGives (owner 0) (327680 ∷ []) (0x41 ∷ 0x42 ∷ []) 0 ≡ record { verdict = True; count = 1 })
     × (judgeGives (owner 1) (327680 ∷ []) (0x41 ∷ 0x42 ∷ []) 0 ≡ record { verdict = Refused (Name 0); count = 0 })
-unfolding all numberFrom firstFrom validContent firstFailing firstOf every some typed byteOrder comparison classHolds switchHolds outcome class on parse-condition read depthFrom typingFrom simpleCount when at judged visited judgeWalk
+unfolding all numberFrom firstFrom validContent firstFailing firstOf every some typed byteOrder comparison classHolds switchHolds outcome class on parseCondition read depthFrom typingFrom simpleCount when at judged visited judgeWalk
 owners = (refl, refl, refl)
 
 -- a packed item may be compared with a number and not with a text (f)
@@ -280,5 +280,5 @@ packed value =
 amount-names : (judgeGives (packed 0) (327680 ∷ []) (0x00 ∷ 0x53 ∷ []) 0 ≡ record { verdict = True; count = 1 })
     × (judgeGives (packed 0) (327680 ∷ []) (0x00 ∷ 0x55 ∷ []) 0 ≡ record { verdict = Refused (Data 0 1); count = 1 })
     × (nameCheck (packed 1) ≡ Unsound (Name 0))
-unfolding all numberFrom packedFrom firstFrom validContent firstFailing firstOf every some typed byteOrder comparison classHolds switchHolds outcome class on parse-condition read depthFrom typingFrom simpleCount when at judged visited judgeWalk
+unfolding all numberFrom packedFrom firstFrom validContent firstFailing firstOf every some typed byteOrder comparison classHolds switchHolds outcome class on parseCondition read depthFrom typingFrom simpleCount when at judged visited judgeWalk
 amount-names = (refl, refl, refl)

@@ -66,8 +66,8 @@ pub seven-and-eight : SevenAndEightGiven
 seven-and-eight lent tokens =
     record {
       derived = derived-line tokens;
-      seven-first = λ h at p first. underived-line tokens h at p ∙ seven-before tokens at (depthCheck tokens) first;
-      eight-first = λ h at p eight e first. underived-line tokens h at p ∙ rw (e, lt-leb at (place eight) first);
+      sevenFirst = λ h at p first. underived-line tokens h at p ∙ seven-before tokens at (depthCheck tokens) first;
+      eightFirst = λ h at p eight e first. underived-line tokens h at p ∙ rw (e, lt-leb at (place eight) first);
       placed = placed-line tokens;
       given = λ f refusal e. refuses lent tokens (after-lines (tokenLines lent tokens) (grammarLines lent tokens) f ∙ line-refused _ e);
     }

@@ -104,16 +104,16 @@ first = 0 ∷ 262149 ∷ 1 ∷ 262147 ∷ 262146 ∷ 262150 ∷ 2 ∷ 262148 ∷
 abbrev signs : Lent
 signs = items (4 ∷ 0 ∷ 5 ∷ 0 ∷ 5 ∷ 2 ∷ 5 ∷ 5 ∷ 0 ∷ 0 ∷ 0 ∷ 10 ∷ 5 ∷ 0 ∷ 0 ∷ [])
 
-abbrev minus-12345 : List ℕ
-minus-12345 =
+abbrev minus12345 : List ℕ
+minus12345 =
     0x31 ∷ 0x32 ∷ 0x33 ∷ 0x34 ∷ 0x45 ∷ 0x31 ∷ 0x32 ∷ 0x33 ∷ 0x34 ∷ 0x35 ∷ 0x31 ∷ 0x32 ∷ 0x33 ∷ 0x34 ∷ 0x45 ∷ []
 
 -- 12. "30 and 40 as kind 4"
 abbrev zeros : Lent
 zeros = items (4 ∷ 0 ∷ 1 ∷ 0 ∷ 1 ∷ 4 ∷ 1 ∷ 1 ∷ 0 ∷ 1 ∷ [])
 
-abbrev plus-and-minus : List ℕ
-plus-and-minus = 0x30 ∷ 0x40 ∷ []
+abbrev plusAndMinus : List ℕ
+plusAndMinus = 0x30 ∷ 0x40 ∷ []
 
 -- 13. "150 at scale 2 equals 15 at scale 1."
 abbrev scales : Lent
@@ -128,8 +128,8 @@ BBB =
     0x42 ∷ 0x42 ∷ 0x42 ∷ 0x42 ∷ 0x42 ∷ 0x42 ∷ 0x20 ∷ 0x42 ∷ 0x42 ∷ 0x42 ∷ 0x41 ∷ 0x42 ∷ 0x42 ∷ 0x42 ∷ 0x00 ∷ []
 
 -- 15, 16. a, b and d are 1, c is blank
-abbrev c-blank : List ℕ
-c-blank = 0x31 ∷ 0x31 ∷ 0x20 ∷ 0x31 ∷ []
+abbrev cBlank : List ℕ
+cBlank = 0x31 ∷ 0x31 ∷ 0x20 ∷ 0x31 ∷ []
 
 unfoldable pub sixteen : List Case
 sixteen =
@@ -159,13 +159,13 @@ sixteen =
     (plans
     (p ∷ 0 ∷ 0 ∷ 2 ∷ 1 ∷ q ∷ 0 ∷ 0 ∷ 65534 ∷ 2 ∷ r ∷ 0 ∷ 0 ∷ 3 ∷ 65534 ∷ s ∷ 0 ∷ 0 ∷ 65535 ∷ 65534 ∷ []))
     -- 11. "is −12345; equal to alphanumeric 12345 and to group 1234E."
-    ∷ case signs (a ∷ EQUAL ∷ b ∷ []) (values minus-12345 a (negsuc 12344))
-    ∷ case signs (a ∷ EQUAL ∷ b ∷ []) (judges minus-12345 True)
-    ∷ case signs (a ∷ EQUAL ∷ c ∷ []) (judges minus-12345 True)
+    ∷ case signs (a ∷ EQUAL ∷ b ∷ []) (values minus12345 a (negsuc 12344))
+    ∷ case signs (a ∷ EQUAL ∷ b ∷ []) (judges minus12345 True)
+    ∷ case signs (a ∷ EQUAL ∷ c ∷ []) (judges minus12345 True)
     -- 12. "are equal; both ZERO."
-    ∷ case zeros (a ∷ EQUAL ∷ b ∷ []) (judges plus-and-minus True)
-    ∷ case zeros (a ∷ ZERO ∷ []) (judges plus-and-minus True)
-    ∷ case zeros (b ∷ ZERO ∷ []) (judges plus-and-minus True)
+    ∷ case zeros (a ∷ EQUAL ∷ b ∷ []) (judges plusAndMinus True)
+    ∷ case zeros (a ∷ ZERO ∷ []) (judges plusAndMinus True)
+    ∷ case zeros (b ∷ ZERO ∷ []) (judges plusAndMinus True)
     -- 13.
     ∷ case scales (a ∷ EQUAL ∷ b ∷ []) (judges (0x31 ∷ 0x35 ∷ 0x30 ∷ 0x31 ∷ 0x35 ∷ []) True)
     -- 14.
@@ -173,10 +173,10 @@ sixteen =
     ∷ case letters (a ∷ LESS ∷ c ∷ []) (judges BBB True)
     ∷ case letters (a ∷ GREATER ∷ d ∷ []) (judges BBB True)
     -- 15. "a = b OR c = d, a equal b, c blank: true. With the two relations exchanged: 13 at 0."
-    ∷ case digits (a ∷ EQUAL ∷ b ∷ OR ∷ c ∷ EQUAL ∷ d ∷ []) (judges c-blank True)
-    ∷ case digits (c ∷ EQUAL ∷ d ∷ OR ∷ a ∷ EQUAL ∷ b ∷ []) (stops c-blank 13 0 2)
+    ∷ case digits (a ∷ EQUAL ∷ b ∷ OR ∷ c ∷ EQUAL ∷ d ∷ []) (judges cBlank True)
+    ∷ case digits (c ∷ EQUAL ∷ d ∷ OR ∷ a ∷ EQUAL ∷ b ∷ []) (stops cBlank 13 0 2)
     -- 16. "x NUMERIC AND x > a, x of kind 3 and blank: false."
-    ∷ case digits (c ∷ NUMERIC ∷ AND ∷ c ∷ GREATER ∷ a ∷ []) (judges c-blank False)
+    ∷ case digits (c ∷ NUMERIC ∷ AND ∷ c ∷ GREATER ∷ a ∷ []) (judges cBlank False)
     ∷ []
 
 -- "The sixteen cases are one table under a single proved statement about the definitions."

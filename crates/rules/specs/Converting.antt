@@ -52,8 +52,8 @@ pub record Converted (lent : Lent) (tokens new : List ℕ) : Type 0 where
   -- the old rules accept the condition with a tree, and the new ones accept the new condition with the converted tree
   pub tree : Tree
   pub accepted : Accepted (under true lent) tokens tree
-  pub accepted-on : Accepted (under false lent) new (convertedTree tree)
-  pub tokens-are : new ≡ convertedTokens tokens
+  pub acceptedOn : Accepted (under false lent) new (convertedTree tree)
+  pub tokensAre : new ≡ convertedTokens tokens
   -- "Old meaning and new meaning agree on every record and switch byte": the verdict with its refusal's number and place, and the count
   pub judges : (content : List ℕ) (switches : ℕ) → judgeGives (under false lent) new content switches ≡ judgeGives (under true lent) tokens content switches
   -- and the simple conditions judged, by their on switches
@@ -61,7 +61,7 @@ pub record Converted (lent : Lent) (tokens new : List ℕ) : Type 0 where
       judgeWalk (under false lent) new content switches .visits ≡ onVisits (judgeWalk (under true lent) tokens content switches .visits)
   -- "where the condition converts, both ways give one plan": the plan of the new condition, with every output, is what the converter of
   -- plans gives of the plan that the old rules wrote
-  pub one-plan : (output : List ℕ) (m : ℕ) → planGives (under true lent) tokens output .answer ≡ Count m → (other : List ℕ) →
+  pub onePlan : (output : List ℕ) (m : ℕ) → planGives (under true lent) tokens output .answer ≡ Count m → (other : List ℕ) →
       planGives (under false lent) new other ≡ convertPlanGives lent (take m (planGives (under true lent) tokens output .output)) other
 
 abbrev pub ConditionsConvert : Type 0
@@ -70,7 +70,7 @@ ConditionsConvert = (lent : Lent) (tokens output : List ℕ) (n : ℕ) → conve
 
 -- Of a plan that is converted, with the numbers that the converter counted: run gives the same, on every record and switch byte.
 pub record ConvertedRun (lent : Lent) (plan new : List ℕ) : Type 0 where
-  pub numbers-are : new ≡ convertedPlan plan
+  pub numbersAre : new ≡ convertedPlan plan
   pub runs : (content : List ℕ) (switches : ℕ) → runGives (under false lent) new content switches ≡ runGives (under true lent) plan content switches
   pub visits : (content : List ℕ) (switches : ℕ) →
       runWalk (under false lent) new content switches .visits ≡ onVisits (runWalk (under true lent) plan content switches .visits)

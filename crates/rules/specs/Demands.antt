@@ -67,9 +67,9 @@ pub record Refuses (lent : Lent) (tokens : List ℕ) (refusal : Refusal) : Type 
 -- "length of the longest beginning that some derived sequence shares"; "of 7 and 8 the smaller place wins, and 7 on a tie".
 pub record SevenAndEight (lent : Lent) (tokens : List ℕ) : Type 0 where
   pub derived : (t : Tree) → Derives tokens t → grammarLine tokens ≡ depthCheck tokens
-  pub seven-first : ((t : Tree) → ¬ Derives tokens t) → (at : ℕ) → Place tokens at →
+  pub sevenFirst : ((t : Tree) → ¬ Derives tokens t) → (at : ℕ) → Place tokens at →
       ((eight : Refusal) → depthCheck tokens ≡ Unsound eight → at ≤ place eight) → grammarLine tokens ≡ Unsound (Grammar at)
-  pub eight-first : ((t : Tree) → ¬ Derives tokens t) → (at : ℕ) → Place tokens at →
+  pub eightFirst : ((t : Tree) → ¬ Derives tokens t) → (at : ℕ) → Place tokens at →
       (eight : Refusal) → depthCheck tokens ≡ Unsound eight → place eight < at → grammarLine tokens ≡ Unsound eight
   -- 7, where it is given, is so placed
   pub placed : (at : ℕ) → grammarLine tokens ≡ Unsound (Grammar at) → ((t : Tree) → ¬ Derives tokens t) × Place tokens at
@@ -90,11 +90,11 @@ pub record Demand2 (lent : Lent) (tokens : List ℕ) : Type 0 where
   pub judges : (t : Tree) → Accepted lent tokens t → (content : List ℕ) (switches : ℕ) →
       judgeGives lent tokens content switches ≡ rulesAnswer lent content switches t
   -- and no other condition is accepted: what has no tree is refused with 7, and what is ill typed with 9
-  pub expand-only : (output : List ℕ) → Writes (expandGives lent tokens output .answer) → (t : Tree) × Accepted lent tokens t
-  pub plan-only : (output : List ℕ) → Writes (planGives lent tokens output .answer) → (t : Tree) × Accepted lent tokens t
-  pub judge-only : (content : List ℕ) (switches : ℕ) → Judges (judgeGives lent tokens content switches .verdict) → (t : Tree) × Accepted lent tokens t
+  pub expandOnly : (output : List ℕ) → Writes (expandGives lent tokens output .answer) → (t : Tree) × Accepted lent tokens t
+  pub planOnly : (output : List ℕ) → Writes (planGives lent tokens output .answer) → (t : Tree) × Accepted lent tokens t
+  pub judgeOnly : (content : List ℕ) (switches : ℕ) → Judges (judgeGives lent tokens content switches .verdict) → (t : Tree) × Accepted lent tokens t
   pub underived : ((t : Tree) → ¬ Derives tokens t) → (at : ℕ) → Place tokens at → Refuses lent tokens (Grammar at)
-  pub ill-typed : (t : Tree) → Derives tokens t → (refusal : Refusal) → typingFrom lent 0 t ≡ Unsound refusal → Refuses lent tokens refusal
+  pub illTyped : (t : Tree) → Derives tokens t → (refusal : Refusal) → typingFrom lent 0 t ≡ Unsound refusal → Refuses lent tokens refusal
 
 abbrev pub DemandTwo : Type 0
 DemandTwo = (lent : Lent) (tokens : List ℕ) → firstOf (tokenLines lent tokens) ≡ Sound → depthCheck tokens ≡ Sound → Demand2 lent tokens
@@ -120,7 +120,7 @@ pub record Demand3 (lent : Lent) (tokens plan : List ℕ) (n : ℕ) : Type 0 whe
       expandGives lent tokens output ≡ writtenOver (expanded tree) output
   -- "If they are at most 256, plan succeeds on them with every output that has room for the first plan's numbers, and gives the
   -- same count and the same numbers."
-  pub plans-again : length (expanded tree) ≤ 256 → (output : List ℕ) → length plan ≤ length output →
+  pub plansAgain : length (expanded tree) ≤ 256 → (output : List ℕ) → length plan ≤ length output →
       planGives lent (expanded tree) output ≡ writtenOver plan output
 
 -- "A plan is written where plan succeeds .. run gets exactly the numbers that plan counted"

@@ -15,12 +15,12 @@ use Rattle.rules.specs.Calls.{writtenOver, Gives, Leaves, writing, expandGives,
 use Rattle.rules.specs.Demands.{Demand3}
 use Rattle.show.specs.Shown.{Replans, ShownCalls}
 use Rattle.rules.proofs.Answers.{writes-over}
-use Rattle.rules.proofs.Demands.{counted, count-is, numbers-are, demand-three}
+use Rattle.rules.proofs.Demands.{counted, count-is, numbersAre, demand-three}
 
 -- what a call that writes over its output leaves
 left-over : {gives : Gives} {answer : Written} {last : List ℕ} → Leaves gives answer last → (numbers output : List ℕ) → gives ≡ writtenOver numbers output →
     (answer ≡ Count (length numbers)) × (take (length numbers) last ≡ numbers)
-left-over {gives} l numbers output w = (l .answered ∙ rw w, rw (l .left) (numbers-are gives numbers output (length numbers) w (rw w)))
+left-over {gives} l numbers output w = (l .answered ∙ rw w, rw (l .left) (numbersAre gives numbers output (length numbers) w (rw w)))
 
 -- the numbers that were counted lie inside what is left
 module _ (lent : Lent) (tokens output : List ℕ) {n : ℕ} {last : List ℕ} where
@@ -57,9 +57,9 @@ shown lent tokens content switches rows form second {count} {formed = formed} {a
       plans = d .rows;
       runs = v ∙ d .runs content switches;
       expands = expands;
-      plans-again = λ l few room.
+      plansAgain = λ l few room.
           let left : Leaves (planGives lent (expanded (d .tree)) second) again second-after = rw (expands l .0, expands l .1) at r in
-          rw (← d .counts) at (left-over left (take count rows-after) second (d .plans-again few second (rw (← d .counts) room)));
+          rw (← d .counts) at (left-over left (take count rows-after) second (d .plansAgain few second (rw (← d .counts) room)));
     }
   where
     d : Demand3 lent tokens (take count rows-after) count

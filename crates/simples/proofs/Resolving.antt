@@ -13,7 +13,7 @@ use Rattle.simples.specs.declared.Carried.{Carried}
 use Rattle.simples.specs.declared.Single.{Single}
 use Rattle.simples.specs.declared.Single.the-variants.{Row, Stuck}
 use Rattle.grammar.specs.Grammar.{operand, switch, not, order, bound, test, name, Is, Carry, nothing, carried, simple}
-use Rattle.grammar.specs.Parser.{Parser, parsed, stuck, object, alone, short-bounded, short-ordered, after-operand, parse-simple}
+use Rattle.grammar.specs.Parser.{Parser, parsed, stuck, object, alone, shortBounded, shortOrdered, afterOperand, parseSimple}
 use Rattle.simples.specs.Reads.{tok, carryOf, Reads}
 use Rattle.grammar.proofs.Spelling.{not-token, order-token, bound-token, test-token}
 use Rattle.grammar.proofs.Spelling.{is-not, is-order, is-bound, is-test}
@@ -92,7 +92,7 @@ module _ (tokens : List ℕ) (at : ℕ) {x : ℕ} (e : x ≡ tok tokens at) wher
   at-no-object a n o = simp (pass-on tokens at e {k = operand} o)
 
   -- after an operand
-  pub at-relation : (c : Carry) (a : ℕ) → 262149 ≤ x → x ≤ 262153 → after-operand c a (drop at tokens) ≡ object a (x - 262144) (drop (at + 1) tokens)
+  pub at-relation : (c : Carry) (a : ℕ) → 262149 ≤ x → x ≤ 262153 → afterOperand c a (drop at tokens) ≡ object a (x - 262144) (drop (at + 1) tokens)
   at-relation c a l h =
       let n : x % 65536 ≡ x - 262144 = omega arith in
       elim (decLe x 262151) [
@@ -101,12 +101,12 @@ module _ (tokens : List ℕ) (at : ℕ) {x : ℕ} (e : x ≡ tok tokens at) wher
       ]
 
   pub at-test : (c : Carry) (a : ℕ) → 262154 ≤ x → x ≤ 262160 →
-      after-operand c a (drop at tokens) ≡ parsed (simple a (x - 262144) 0) nothing (drop (at + 1) tokens)
+      afterOperand c a (drop at tokens) ≡ parsed (simple a (x - 262144) 0) nothing (drop (at + 1) tokens)
   at-test c a l h = let n : x % 65536 ≡ x - 262144 = omega arith in simp (look tokens at e (is-test x l h) tt, n)
 
   -- an operand alone is an object, where a relation is carried
   module _ (c : Carried) (a : ℕ) (far : 262149 ≤ x → 262160 < x) (g : x ≡ 262146 → ⊥) where
-    at-alone : after-operand (carryOf c) a (drop at tokens) ≡ alone (carryOf c) a (drop at tokens)
+    at-alone : afterOperand (carryOf c) a (drop at tokens) ≡ alone (carryOf c) a (drop at tokens)
     at-alone =
         rw (
           pass-on tokens at e {k = order} (λ i. let l = order-token x i in omega (arith, far (omega arith))),
@@ -116,28 +116,28 @@ module _ (tokens : List ℕ) (at : ℕ) {x : ℕ} (e : x ≡ tok tokens at) wher
         )
 
     pub at-bare : (c .relation ≡ 0 → ⊥) →
-        after-operand (carryOf c) a (drop at tokens) ≡ parsed (simple (c .subject) (c .relation) a) (carryOf c) (drop at tokens)
+        afterOperand (carryOf c) a (drop at tokens) ≡ parsed (simple (c .subject) (c .relation) a) (carryOf c) (drop at tokens)
     at-bare n = rw (at-alone, carries c n)
 
-    pub at-no-carry : c .relation ≡ 0 → after-operand (carryOf c) a (drop at tokens) ≡ stuck (drop at tokens)
+    pub at-no-carry : c .relation ≡ 0 → afterOperand (carryOf c) a (drop at tokens) ≡ stuck (drop at tokens)
     at-no-carry n = rw (at-alone, carries-none c n)
 
   -- NOT before a word
   module _ {y : ℕ} (f : y ≡ tok tokens (at + 1)) (c : Carry) (a : ℕ) (g : x ≡ 262146) where
-    pub at-not-order : 262149 ≤ y → y ≤ 262151 → after-operand c a (drop at tokens) ≡ object a (y - 262144 + 32) (drop (at + 2) tokens)
+    pub at-not-order : 262149 ≤ y → y ≤ 262151 → afterOperand c a (drop at tokens) ≡ object a (y - 262144 + 32) (drop (at + 2) tokens)
     at-not-order l h =
         let n : y % 65536 ≡ y - 262144 = omega arith in
         let m : at + 1 + 1 ≡ at + 2 = omega arith in
         simp (look tokens at e (is-not x g) tt, look tokens (at + 1) f (is-order y l h) tt, n, m)
 
     pub at-not-test : 262154 ≤ y → y ≤ 262160 →
-        after-operand c a (drop at tokens) ≡ parsed (simple a (y - 262144 + 32) 0) nothing (drop (at + 2) tokens)
+        afterOperand c a (drop at tokens) ≡ parsed (simple a (y - 262144 + 32) 0) nothing (drop (at + 2) tokens)
     at-not-test l h =
         let n : y % 65536 ≡ y - 262144 = omega arith in
         let m : at + 1 + 1 ≡ at + 2 = omega arith in
         simp (look tokens at e (is-not x g) tt, look tokens (at + 1) f (is-test y l h) tt, n, m)
 
-    pub at-not-stuck : (262149 ≤ y → 262151 < y) → (262154 ≤ y → 262160 < y) → after-operand c a (drop at tokens) ≡ stuck (drop (at + 1) tokens)
+    pub at-not-stuck : (262149 ≤ y → 262151 < y) → (262154 ≤ y → 262160 < y) → afterOperand c a (drop at tokens) ≡ stuck (drop (at + 1) tokens)
     at-not-stuck far further =
         simp (
           look tokens at e (is-not x g) tt,
@@ -146,17 +146,17 @@ module _ (tokens : List ℕ) (at : ℕ) {x : ℕ} (e : x ≡ tok tokens at) wher
         )
 
   -- where a simple condition begins
-  pub at-operand : (c : Carry) → Is operand x → parse-simple c (drop at tokens) ≡ after-operand c x (drop (at + 1) tokens)
+  pub at-operand : (c : Carry) → Is operand x → parseSimple c (drop at tokens) ≡ afterOperand c x (drop (at + 1) tokens)
   at-operand c i = simp (look tokens at e i tt)
 
-  pub at-switch : (c : Carry) → Is switch x → parse-simple c (drop at tokens) ≡ parsed (simple x 0 0) nothing (drop (at + 1) tokens)
+  pub at-switch : (c : Carry) → Is switch x → parseSimple c (drop at tokens) ≡ parsed (simple x 0 0) nothing (drop (at + 1) tokens)
   at-switch c i = simp (look tokens at e i tt)
 
-  pub at-name : (c : Carry) → Is name x → parse-simple c (drop at tokens) ≡ parsed (simple x 0 0) nothing (drop (at + 1) tokens)
+  pub at-name : (c : Carry) → Is name x → parseSimple c (drop at tokens) ≡ parsed (simple x 0 0) nothing (drop (at + 1) tokens)
   at-name c i = simp (look tokens at e i tt)
 
   module _ (c : Carried) (no-operand : ¬ Is operand x) (no-switch : ¬ Is switch x) (no-name : ¬ Is name x) where
-    at-word : parse-simple (carryOf c) (drop at tokens) ≡ short-bounded (carryOf c) (drop at tokens)
+    at-word : parseSimple (carryOf c) (drop at tokens) ≡ shortBounded (carryOf c) (drop at tokens)
     at-word =
         rw (
           pass-on tokens at e {k = operand} no-operand,
@@ -165,12 +165,12 @@ module _ (tokens : List ℕ) (at : ℕ) {x : ℕ} (e : x ≡ tok tokens at) wher
         )
 
     pub at-bound : (c .relation ≡ 0 → ⊥) → 262152 ≤ x → x ≤ 262153 →
-        parse-simple (carryOf c) (drop at tokens) ≡ object (c .subject) (x - 262144) (drop (at + 1) tokens)
+        parseSimple (carryOf c) (drop at tokens) ≡ object (c .subject) (x - 262144) (drop (at + 1) tokens)
     at-bound n g h =
         let i : x % 65536 ≡ x - 262144 = omega arith in
         rw (at-word, carries c n) (simp (look tokens at e (is-bound x g h) tt, i))
 
-    pub at-no-simple : ((c .relation ≡ 0 → ⊥) → 262152 ≤ x → 262153 < x) → parse-simple (carryOf c) (drop at tokens) ≡ stuck (drop at tokens)
+    pub at-no-simple : ((c .relation ≡ 0 → ⊥) → 262152 ≤ x → 262153 < x) → parseSimple (carryOf c) (drop at tokens) ≡ stuck (drop at tokens)
     at-no-simple far =
         elim (ℕ-discrete (c .relation) 0) [
           | yes n ↦ rw (at-word, carries-none c n)
@@ -179,13 +179,13 @@ module _ (tokens : List ℕ) (at : ℕ) {x : ℕ} (e : x ≡ tok tokens at) wher
 
   -- > < = where a relation is carried, and any other token
   pub at-short : (c : Carried) (number : ℕ → ℕ) (q : Parser) → (c .relation ≡ 0 → ⊥) → 262149 ≤ x → x ≤ 262151 →
-      short-ordered (carryOf c) number q (drop at tokens) ≡ object (c .subject) (number (x - 262144)) (drop (at + 1) tokens)
+      shortOrdered (carryOf c) number q (drop at tokens) ≡ object (c .subject) (number (x - 262144)) (drop (at + 1) tokens)
   at-short c number q n l h =
       let i : x % 65536 ≡ x - 262144 = omega arith in
       rw (carries c n) (simp (look tokens at e (is-order x l h) tt, i))
 
   pub at-no-short : (c : Carried) (number : ℕ → ℕ) (q : Parser) → ((c .relation ≡ 0 → ⊥) → 262149 ≤ x → 262151 < x) →
-      short-ordered (carryOf c) number q (drop at tokens) ≡ q (drop at tokens)
+      shortOrdered (carryOf c) number q (drop at tokens) ≡ q (drop at tokens)
   at-no-short c number q far =
       elim (ℕ-discrete (c .relation) 0) [
         | yes n ↦ rw (carries-none c n)

@@ -2,7 +2,7 @@
 ghost use mathlib.Core.Path.{_≡_};
 ghost use Prim.Native.Nat.{_+_, _≤_, _<_};
 ghost use lib.ListN.{length};
-ghost use Rattle.grammar.specs.Parser.{object, after-operand, parse-simple};
+ghost use Rattle.grammar.specs.Parser.{object, afterOperand, parseSimple};
 ghost use Rattle.simples.specs.Reads.{carryOf, Reads, Settled};
 use crate::Carried;
 use crate::Single;
@@ -55,7 +55,7 @@ fn tested(subject: u32, relation: u32, next: usize) -> Single
 // What follows an operand, which is a subject if a relation or a class or sign word follows, else an object.
 fn after_operand(tokens: &[u32], at: usize, carry: Carried, operand: u32) -> Single
     requires { ⌜ at ≤ length (now tokens) ⌝ }
-    ensures { λ r. ⌜ Reads (after-operand (carryOf carry) operand) 0 (now (tokens .entry)) at r ⌝ }
+    ensures { λ r. ⌜ Reads (afterOperand (carryOf carry) operand) 0 (now (tokens .entry)) at r ⌝ }
     ensures { λ r. ⌜ Settled r ⌝ }
 {
     let word = peek(tokens, at);
@@ -91,7 +91,7 @@ fn after_operand(tokens: &[u32], at: usize, carry: Carried, operand: u32) -> Sin
 // A simple condition, but for one that begins with > < = or with NOT before these.
 pub fn read_simple(tokens: &[u32], at: usize, carry: Carried) -> Single
     requires { ⌜ at ≤ length (now tokens) ⌝ }
-    ensures { λ r. ⌜ Reads (parse-simple (carryOf carry)) 1 (now (tokens .entry)) at r ⌝ }
+    ensures { λ r. ⌜ Reads (parseSimple (carryOf carry)) 1 (now (tokens .entry)) at r ⌝ }
     ensures { λ r. ⌜ Settled r ⌝ }
 {
     let token = peek(tokens, at);

@@ -67,18 +67,18 @@ module _ (known : Known) where
   all-printable rows n (fault number ∷ ps) c f h at = absurd c
 
   -- 16
-  pub all-named : (n : ℕ) (ps : List Piece) → Clean n ps → AllFine known ps → (at : ℕ) → firstToken (hasName known) 16 at (tokensFrom n ps) ≡ none
+  pub allNamed : (n : ℕ) (ps : List Piece) → Clean n ps → AllFine known ps → (at : ℕ) → firstToken (hasName known) 16 at (tokensFrom n ps) ≡ none
   unfolding firstToken tokensFrom
-  all-named n [] c f at = refl
-  all-named n (token t ∷ ps) c f at = rw (f .0 .4) (all-named n ps c (f .1) (suc at))
-  all-named n (literal l ∷ ps) c f at =
+  allNamed n [] c f at = refl
+  allNamed n (token t ∷ ps) c f at = rw (f .0 .4) (allNamed n ps c (f .1) (suc at))
+  allNamed n (literal l ∷ ps) c f at =
       let k : (65536 + n) / 65536 ≡ 1 = omega (arith, c .0) in
-      rw k (all-named (suc n) ps (c .1) (f .1) (suc at))
-  all-named n (fault number ∷ ps) c f at = absurd c
+      rw k (allNamed (suc n) ps (c .1) (f .1) (suc at))
+  allNamed n (fault number ∷ ps) c f at = absurd c
 
 -- 3
-pub table-sound : (offset : ℕ) (ps : List Piece) → Clean 0 ps → lengthSound (rowsFrom offset ps) ≡ true
-table-sound offset ps c =
+pub tableSound : (offset : ℕ) (ps : List Piece) → Clean 0 ps → lengthSound (rowsFrom offset ps) ≡ true
+tableSound offset ps c =
     let e = rows-length offset ps in
     let h = few 0 ps c (omega arith) in
     and-both (eqb (length (rowsFrom offset ps) % 5) 0) (leb (length (rowsFrom offset ps)) 320)
@@ -155,7 +155,7 @@ next-sound : (test : ℕ → Bool) (refusal : ℕ → Refusal) (n k : ℕ) → t
 unfolding firstFailing
 next-sound test refusal n k e rest = rw e rest
 
-pub rows-sound : (n : ℕ) (ps : List Piece) → Clean n ps → AllFit ps → (pre preb : List ℕ)
+pub rowsSound : (n : ℕ) (ps : List Piece) → Clean n ps → AllFit ps → (pre preb : List ℕ)
     → length pre ≡ n * 5 → length preb ≤ n * 256
     → firstFailing
     (λ v. literalSound (preb ++ bytesOf ps) (rowAt (pre ++ rowsFrom (length preb) ps) v))
@@ -164,23 +164,23 @@ pub rows-sound : (n : ℕ) (ps : List Piece) → Clean n ps → AllFit ps → (p
     (literals ps)
     ≡ Sound
 unfolding firstFailing rowsFrom bytesOf
-rows-sound n [] c f pre preb e h = refl
-rows-sound n (token t ∷ ps) c f pre preb e h = rows-sound n ps c f pre preb e h
-rows-sound n (literal l ∷ ps) c f pre preb e h =
+rowsSound n [] c f pre preb e h = refl
+rowsSound n (token t ∷ ps) c f pre preb e h = rowsSound n ps c f pre preb e h
+rowsSound n (literal l ∷ ps) c f pre preb e h =
     let r : Row = rowOfLiteral (length preb) l in
     let row : List ℕ = l .kind ∷ length preb ∷ length (l .bytes) ∷ l .scale ∷ r .digits ∷ [] in
     let rest : List ℕ = rowsFrom (length preb + length (l .bytes)) ps in
     let small : length (l .bytes) ≤ 256 = small-size l (both (rowSound (rowOfLiteral 0 l)) (validContent (l .kind) (rowOfLiteral 0 l .digits) (l .bytes)) (f .0) .0) (f .1) in
     let long : length (pre ++ row) ≡ suc n * 5 = omega (arith, length-append pre row) in
     let ih =
-    rows-sound (suc n) ps (c .1) (f .2) (pre ++ row) (preb ++ l .bytes) long (omega (arith, length-append preb (l .bytes))) in
+    rowsSound (suc n) ps (c .1) (f .2) (pre ++ row) (preb ++ l .bytes) long (omega (arith, length-append preb (l .bytes))) in
     let near : length preb ≤ 65535 = omega (arith, c .0) in
     next-sound
     (λ v. literalSound (preb ++ (l .bytes ++ bytesOf ps)) (rowAt (pre ++ (l .kind ∷ length preb ∷ length (l .bytes) ∷ l .scale ∷ r .digits ∷ rest)) v))
     LiteralRow n (literals ps)
     (ap (literalSound (preb ++ (l .bytes ++ bytesOf ps))) (row-again n pre r rest e) ∙ row-sound l preb (bytesOf ps) near (f .0) (f .1))
     (rw (length-append preb (l .bytes), append-assoc pre row rest, append-assoc preb (l .bytes) (bytesOf ps)) at ih)
-rows-sound n (fault number ∷ ps) c f pre preb e h = absurd c
+rowsSound n (fault number ∷ ps) c f pre preb e h = absurd c
 
 -- pieces after pieces
 rows-append : (offset : ℕ) (ps qs : List Piece) → rowsFrom offset (ps ++ qs) ≡ rowsFrom offset ps ++ rowsFrom (offset + length (bytesOf ps)) qs
@@ -261,12 +261,12 @@ module _ {b : Book} (K : Kept b) (ps : List Piece) (c : Clean (literalsBefore b)
 
   -- 3, 4 and 6
   pub sound-table : lengthSound rows ≡ true
-  sound-table = rw whole-rows (table-sound 0 whole whole-clean)
+  sound-table = rw whole-rows (tableSound 0 whole whole-clean)
 
   pub sound-rows : firstFailing (λ v. literalSound content (rowAt rows v)) LiteralRow 0 (rowCount rows) ≡ Sound
   sound-rows =
       rw (whole-count, whole-rows, whole-bytes)
-      (rows-sound 0 whole whole-clean (fit-append (K .own) ps (K .own-fit) (all-fit (b .known) ps f)) [] [] refl (omega arith))
+      (rowsSound 0 whole whole-clean (fit-append (K .own) ps (K .own-fit) (all-fit (b .known) ps f)) [] [] refl (omega arith))
 
   pub sound-tokens : firstToken (printable (b .known) rows) 6 0 (tokensOf b ps) ≡ none
   sound-tokens =
@@ -274,4 +274,4 @@ module _ {b : Book} (K : Kept b) (ps : List Piece) (c : Clean (literalsBefore b)
 
   -- the printer refuses nothing that was read
   pub no-refusal : leb 1 (length (tokensOf b ps)) && leb (length (tokensOf b ps)) 256 ≡ true → printFault (b .known) rows content (tokensOf b ps) ≡ none
-  no-refusal t = rw (sound-table, sound-rows, t, sound-tokens) (all-named (b .known) (literalsBefore b) ps c f 0)
+  no-refusal t = rw (sound-table, sound-rows, t, sound-tokens) (allNamed (b .known) (literalsBefore b) ps c f 0)

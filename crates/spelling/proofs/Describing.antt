@@ -32,17 +32,17 @@ abbrev pieces : List Told → List Piece
 pieces [] = []
 pieces (x ∷ xs) = literal (given x) ∷ pieces xs
 
-rows-are : (o : ℕ) (xs : List Told) → numbers (literalRows o xs) ≡ rowsFrom o (pieces xs)
+rowsAre : (o : ℕ) (xs : List Told) → numbers (literalRows o xs) ≡ rowsFrom o (pieces xs)
 unfolding numbers literalRows rowsFrom
-rows-are o [] = refl
-rows-are o (x ∷ xs) =
+rowsAre o [] = refl
+rowsAre o (x ∷ xs) =
     let r = literalRow o x in
-    ap (λ (v : List ℕ). r .kind ∷ r .offset ∷ r .size ∷ r .scale ∷ r .digits ∷ v) (rows-are (o + length (x .bytes)) xs)
+    ap (λ (v : List ℕ). r .kind ∷ r .offset ∷ r .size ∷ r .scale ∷ r .digits ∷ v) (rowsAre (o + length (x .bytes)) xs)
 
-bytes-are : (xs : List Told) → literalBytes xs ≡ bytesOf (pieces xs)
+bytesAre : (xs : List Told) → literalBytes xs ≡ bytesOf (pieces xs)
 unfolding literalBytes bytesOf
-bytes-are [] = refl
-bytes-are (x ∷ xs) = ap (λ (v : List ℕ). x .bytes ++ v) (bytes-are xs)
+bytesAre [] = refl
+bytesAre (x ∷ xs) = ap (λ (v : List ℕ). x .bytes ++ v) (bytesAre xs)
 
 pieces-clean : (n : ℕ) (xs : List Told) → n + length xs ≤ 64 → Clean n (pieces xs)
 pieces-clean n [] h = tt
@@ -65,12 +65,12 @@ module _ (text : List ℕ) (t : Table) (e : describe text ≡ table t) where
         own = pieces xs;
         own-clean = pieces-clean 0 xs (omega (arith, w .literals));
         own-fit = pieces-fit xs (entries-fit (w .valid .described) (λ j d l. record { item-row = getD (t .rows) (getD (t .conditions) j d .item) (row 0 0 0 0 0); free = w .name-kept j d l .free }));
-        own-rows = ap numbers (w .valid .literals) ∙ rows-are 0 xs;
-        own-bytes = w .valid .bytes ∙ bytes-are xs;
+        own-rows = ap numbers (w .valid .literals) ∙ rowsAre 0 xs;
+        own-bytes = w .valid .bytes ∙ bytesAre xs;
       }
 
   -- literals are no longer than the text
-  pub few-bytes : length (t .bytes) ≤ 4096
-  few-bytes =
+  pub fewBytes : length (t .bytes) ≤ 4096
+  fewBytes =
       let w = kept-all in
       omega (arith, ap length (w .valid .bytes), entries-short (w .valid .described), parted-total (w .valid .parted), w .short)

@@ -87,12 +87,12 @@ range-fit {x = x} {y = y} r s t b =
 
 values-fit : {ws : List Word} {vs : List Value} (r : Row) → Values ws vs → anyBarred r vs ≡ false → AllFitting (literals vs)
 unfolding anyBarred literals
-values-fit r (Values.last-single {x = x} s) b = (single-fit r s (or-no (barredAlone r x) false b .0), tt)
-values-fit r (Values.last-range {x = x} {y = y} s t) b =
+values-fit r (Values.lastSingle {x = x} s) b = (single-fit r s (or-no (barredAlone r x) false b .0), tt)
+values-fit r (Values.lastRange {x = x} {y = y} s t) b =
     let f = range-fit r s t (or-no (barredAlone r x || (barredAlone r y || (unlike x y || above x y))) false b .0) in (f .0, (f .1, tt))
-values-fit r (Values.more-single {x = x} {vs = vs} s v) b =
+values-fit r (Values.moreSingle {x = x} {vs = vs} s v) b =
     let p = or-no (barredAlone r x) (anyBarred r vs) b in (single-fit r s (p .0), values-fit r v (p .1))
-values-fit r (Values.more-range {x = x} {y = y} {vs = vs} s t v) b =
+values-fit r (Values.moreRange {x = x} {y = y} {vs = vs} s t v) b =
     let p = or-no (barredAlone r x || (barredAlone r y || (unlike x y || above x y))) (anyBarred r vs) b in
     let f = range-fit r s t (p .0) in (f .0, (f .1, values-fit r v (p .1)))
 
@@ -133,11 +133,11 @@ bytes-join (x ∷ xs) ys = omega (arith, length-append (x .bytes) (literalBytes 
 
 values-short : {ws : List Word} {vs : List Value} → Values ws vs → length (literalBytes (literals vs)) ≤ total ws
 unfolding literals literalBytes
-values-short (Values.last-single {w = w} {x = x} s) = omega (arith, told s .short, length-append w (0x2e ∷ []), length-append (x .bytes) [])
-values-short (Values.last-range {w = w} {x = x} {y = y} s t) =
+values-short (Values.lastSingle {w = w} {x = x} s) = omega (arith, told s .short, length-append w (0x2e ∷ []), length-append (x .bytes) [])
+values-short (Values.lastRange {w = w} {x = x} {y = y} s t) =
     omega (arith, told s .short, told t .short, length-append w (0x2e ∷ []), length-append (x .bytes) (y .bytes ++ []), length-append (y .bytes) [])
-values-short (Values.more-single {x = x} {vs = vs} s v) = omega (arith, told s .short, length-append (x .bytes) (literalBytes (literals vs)), values-short v)
-values-short (Values.more-range {x = x} {y = y} {vs = vs} s t v) =
+values-short (Values.moreSingle {x = x} {vs = vs} s v) = omega (arith, told s .short, length-append (x .bytes) (literalBytes (literals vs)), values-short v)
+values-short (Values.moreRange {x = x} {y = y} {vs = vs} s t v) =
     omega (arith, told s .short, told t .short, length-append (x .bytes) (y .bytes ++ literalBytes (literals vs)), length-append (y .bytes) (literalBytes (literals vs)), values-short v)
 
 pub entries-short : {k : ℕ} {ws : List Word} {es : List Entry} {cs : List Condition} → Entries k ws es cs → length (literalBytes (literalsOf cs)) ≤ total ws

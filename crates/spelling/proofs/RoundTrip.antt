@@ -90,9 +90,9 @@ no-fault-again known n text h e = rw (le-leb (length text) 2048 h) e
 pub record WasRead (b : Book) (text tokens rows bytes : List ℕ) : Type 0 where
   pub faultless : faultOf (b .known) (literalsBefore b) text ≡ none
   pub counted : leb 1 (length (tokensOf b (pieces (b .known) text))) && leb (length (tokensOf b (pieces (b .known) text))) 256 ≡ true
-  pub tokens-are : tokens ≡ tokensOf b (pieces (b .known) text)
-  pub rows-are : rows ≡ b .rows ++ rowsFrom (length (b .bytes)) (pieces (b .known) text)
-  pub bytes-are : bytes ≡ b .bytes ++ bytesOf (pieces (b .known) text)
+  pub tokensAre : tokens ≡ tokensOf b (pieces (b .known) text)
+  pub rowsAre : rows ≡ b .rows ++ rowsFrom (length (b .bytes)) (pieces (b .known) text)
+  pub bytesAre : bytes ≡ b .bytes ++ bytesOf (pieces (b .known) text)
 
 pub was-read : (b : Book) (text tokens rows bytes : List ℕ) → reading b text ≡ read tokens rows bytes → WasRead b text tokens rows bytes
 unfolding reading
@@ -110,7 +110,7 @@ was-read b text tokens rows bytes e = by (faultOf (b .known) (literalsBefore b) 
         within : (t : Bool) → leb 1 (length ts) && leb (length ts) 256 ≡ t
             → cond t (read ts (b .rows ++ rowsFrom (length (b .bytes)) ps) (b .bytes ++ bytesOf ps)) (refused 5 0) ≡ read tokens rows bytes
             → WasRead b text tokens rows bytes
-        within true h e = record { faultless = q; counted = h; tokens-are = cc; rows-are = cc; bytes-are = cc }
+        within true h e = record { faultless = q; counted = h; tokensAre = cc; rowsAre = cc; bytesAre = cc }
         within false h e = let z : _≡_ {A = ℕ} 0 1 = cc in absurd (omega arith)
     by (refusal number place) q e = let z : _≡_ {A = ℕ} 0 1 = cc in absurd (omega arith)
 
@@ -150,7 +150,7 @@ module _ (b : Book) (K : Kept b) where
     from-printed : length (printed known rows bytes tokens) ≤ 2048 → reading b (printed known rows bytes tokens) ≡ read tokens rows bytes
     from-printed h =
         let p : printed known rows bytes tokens ≡ line (map (spell known) ps) =
-        rw (r .rows-are, r .bytes-are, r .tokens-are) (ap line (words-again known n ps c f (b .rows) (b .bytes) (own-length K))) in
+        rw (r .rowsAre, r .bytesAre, r .tokensAre) (ap line (words-again known n ps c f (b .rows) (b .bytes) (own-length K))) in
         let g : length (line (map (spell known) ps)) ≤ 2048 = subst (λ (t : List ℕ). length t ≤ 2048) p h in
         ap (reading b) p ∙ again text (r .faultless) g ∙ e
 
@@ -158,7 +158,7 @@ module _ (b : Book) (K : Kept b) where
     not-refused : printing known rows bytes tokens ≡ printedText (printed known rows bytes tokens)
     unfolding printing
     not-refused =
-        let sound : printFault known rows bytes tokens ≡ none = rw (r .rows-are, r .bytes-are, r .tokens-are) (no-refusal K ps c f (r .counted)) in
+        let sound : printFault known rows bytes tokens ≡ none = rw (r .rowsAre, r .bytesAre, r .tokensAre) (no-refusal K ps c f (r .counted)) in
         ap (λ (f : Found). printResult f (printed known rows bytes tokens)) sound
 
 pub round-trip : RoundTrip

@@ -56,11 +56,11 @@ module _ (b : Book) (K : Kept b) (text tokens rows bytes items names : List ℕ)
       let f : AllFine known ps = all-fine known (K .few) 0 (words text) in
       let all-rows : List ℕ = b .rows ++ rowsFrom (length (b .bytes)) ps in
       record {
-        table-sound = rw (r .rows-are, sound-table K ps c f);
-        rows-sound = rw (r .rows-are, r .bytes-are) (sound-rows K ps c f);
-        count-sound = rw (r .tokens-are, r .counted);
-        tokens-sound =
-            rw (n, m, r .tokens-are, r .rows-are)
+        tableSound = rw (r .rowsAre, sound-table K ps c f);
+        rowsSound = rw (r .rowsAre, r .bytesAre) (sound-rows K ps c f);
+        countSound = rw (r .tokensAre, r .counted);
+        tokensSound =
+            rw (n, m, r .tokensAre, r .rowsAre)
             (passes (printable known all-rows) (λ t. tokenThere false (length (known .items)) (rowCount all-rows) (length (known .conditions)) t)
             (λ t h. h) 6 0 [] (tokensOf b ps) (sound-tokens K ps c f));
       }

@@ -28,10 +28,10 @@ RoundTrip =
 -- "Only words are judged here; their order stays with 7": with an item table and a name table of the description's rows, refusals 3 to 6
 -- are ruled out.
 pub record TakenOn (items tokens rows bytes names : List ℕ) : Type 0 where
-  pub table-sound : literalTableCheck (lendNames items rows bytes names) ≡ Sound
-  pub rows-sound : literalRowCheck (lendNames items rows bytes names) ≡ Sound
-  pub count-sound : tokenCountCheck tokens ≡ Sound
-  pub tokens-sound : tokenCheck (lendNames items rows bytes names) tokens ≡ Sound
+  pub tableSound : literalTableCheck (lendNames items rows bytes names) ≡ Sound
+  pub rowsSound : literalRowCheck (lendNames items rows bytes names) ≡ Sound
+  pub countSound : tokenCountCheck tokens ≡ Sound
+  pub tokensSound : tokenCheck (lendNames items rows bytes names) tokens ≡ Sound
 
 abbrev pub TakenBy : Type 0
 TakenBy =

@@ -69,9 +69,9 @@ pub record Kept (text : List ℕ) (es : List Entry) (cs : List Condition) (s : N
   pub items : Items (length es) cs
 
 -- What private functions promise. A name's row and its place:
-pub record NameStored (i item values named : ℕ) (rows places row rows-after places-after : List ℕ) : Type 0 where
-  pub stored : rows-after ≡ sets rows (i * nameWidth) (item ∷ values ∷ drop 2 row)
-  pub placed : places-after ≡ set places i named
+pub record NameStored (i item values named : ℕ) (rows places row rowsAfter placesAfter : List ℕ) : Type 0 where
+  pub stored : rowsAfter ≡ sets rows (i * nameWidth) (item ∷ values ∷ drop 2 row)
+  pub placed : placesAfter ≡ set places i named
 
 pub record NameReady (text : List ℕ) (p : ℕ) (flat : List ℕ) (count : ℕ) (s : Names) (rows places notes row : List ℕ) : Type 0 where
   pub inside : p + 2 ≤ length text
@@ -85,20 +85,20 @@ pub record NameReady (text : List ℕ) (p : ℕ) (flat : List ℕ) (count : ℕ)
 
 -- One entry more, judged with the item's own entry.
 pub record Stepped (text : List ℕ) (p : ℕ) (flat : List ℕ) (count : ℕ) (s : Names) (rows places notes : List ℕ) (vs : List Value) (r : Names)
-    (rows-after places-after notes-after : List ℕ) : Type 0 where
+    (rowsAfter placesAfter notesAfter : List ℕ) : Type 0 where
   pub tallied : Tally
   pub row : List ℕ
   pub held : (ss : List Span) → (s .over || leb 64 (s .count) ≡ false → NotesHold text notes (startOf s) ss) →
-      Held text (itemRow (notedAt flat (count - 1))) (s .over || leb 64 (s .count)) ss vs tallied row notes-after
+      Held text (itemRow (notedAt flat (count - 1))) (s .over || leb 64 (s .count)) ss vs tallied row notesAfter
   pub is : r ≡ cond (tallied .over) (passedBy s p) (names false 0 (s .count + 1) (tallied .literals) (tallied .bytes))
-  pub stored : tallied .over ≡ false → NameStored (s .count) (count - 1) (tallied .values) (inked text (p + 2)) rows places row rows-after places-after
+  pub stored : tallied .over ≡ false → NameStored (s .count) (count - 1) (tallied .values) (inked text (p + 2)) rows places row rowsAfter placesAfter
 
 abbrev pub StepBy : List ℕ → ℕ → List ℕ → ℕ → Names → List ℕ → List ℕ → List ℕ → List Value → NameStep → List ℕ → List ℕ → List ℕ → Type 0
-StepBy text p flat count s rows places notes vs (Read r e) rows-after places-after notes-after =
+StepBy text p flat count s rows places notes vs (Read r e) rowsAfter placesAfter notesAfter =
     ((h : Naming) → joined text (p + 2) (label h) ≡ joined text e (labelled h (inked text (p + 2)) vs)) × (e ≤ length text) × (p + 2 < e)
-    × Stepped text p flat count s rows places notes vs r rows-after places-after notes-after
-StepBy text p flat count s rows places notes vs (Fault k) rows-after places-after notes-after = (h : Naming) → joined text (p + 2) (label h) ≡ faulty (h .earlier) k
+    × Stepped text p flat count s rows places notes vs r rowsAfter placesAfter notesAfter
+StepBy text p flat count s rows places notes vs (Fault k) rowsAfter placesAfter notesAfter = (h : Naming) → joined text (p + 2) (label h) ≡ faulty (h .earlier) k
 
-pub record NameBy (text : List ℕ) (p : ℕ) (flat : List ℕ) (count : ℕ) (s : Names) (rows places notes : List ℕ) (r : NameStep) (rows-after places-after notes-after : List ℕ) : Type 0 where
+pub record NameBy (text : List ℕ) (p : ℕ) (flat : List ℕ) (count : ℕ) (s : Names) (rows places notes : List ℕ) (r : NameStep) (rowsAfter placesAfter notesAfter : List ℕ) : Type 0 where
   pub values : List Value
-  pub by : StepBy text p flat count s rows places notes values r rows-after places-after notes-after
+  pub by : StepBy text p flat count s rows places notes values r rowsAfter placesAfter notesAfter

@@ -20,7 +20,7 @@ readingOf true d place = read (tableOf d)
 readingOf false d place = faulty d place
 
 -- The buffers hold the complete entries of the text, with counts that stop at 65,536, and the answer says what the reading is.
-pub record ReadBy (text reading-of : List ℕ) (is : Reading) (flat rows places notes : List ℕ) (r : Found) : Type 0 where
+pub record ReadBy (text : List ℕ) (is : Reading) (flat rows places notes : List ℕ) (r : Found) : Type 0 where
   pub exact : List Noted
   pub conditions : List Condition
   pub held : notedFrom flat 0 (r .count) ≡ map capNoted exact

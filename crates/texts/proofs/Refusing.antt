@@ -168,7 +168,7 @@ module _ {description : List ℕ} {items : ℕ} {places rows content tokens : Li
   known = knownAt description items places
 
   pub some-tokens : (1 ≤ length tokens) × (length tokens ≤ 256)
-  some-tokens = by (leb 1 (length tokens)) refl (leb (length tokens) 256) refl (S .count-sound)
+  some-tokens = by (leb 1 (length tokens)) refl (leb (length tokens) 256) refl (S .countSound)
     where
       by : (a : Bool) → leb 1 (length tokens) ≡ a → (b : Bool) → leb (length tokens) 256 ≡ b → unless (a && b) WrongCount ≡ Sound → (1 ≤ length tokens) × (length tokens ≤ 256)
       by true p true q e = (leb-true _ _ p, leb-true _ _ q)
@@ -179,7 +179,7 @@ module _ {description : List ℕ} {items : ℕ} {places rows content tokens : Li
   printable-at i h =
       record {
         there = passes-each (printable known rows) tokens there i h;
-        sound = λ v l. each-sound (λ v. literalSound content (rowAt rows v)) LiteralRow 0 (rowCount rows) (S .rows-sound) v (omega arith) (omega arith);
+        sound = λ v l. each-sound (λ v. literalSound content (rowAt rows v)) LiteralRow 0 (rowCount rows) (S .rowsSound) v (omega arith) (omega arith);
         listed = S .listed .within;
       }
 
@@ -228,7 +228,7 @@ module _ {description : List ℕ} (d : Named) {places table-rows table-bytes : L
       → printing (knownAt description (b .items) (take (b .places) places)) rows content tokens ≡ printCondition description rows content tokens
   named-print {b} e =
       let F = book-found d N e in
-      ap (λ (known : Known). printing known rows content tokens) (F .known-are)
+      ap (λ (known : Known). printing known rows content tokens) (F .knownAre)
       ∙ sym (ap (λ (o : Outcome). printAfter description o rows content tokens) (F .described))
 
   pub undescribed-print : {p : ℕ} → d ≡ Faulty p → printCondition description rows content tokens ≡ refused 14 p

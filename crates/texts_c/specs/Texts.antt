@@ -10,12 +10,12 @@ use Rattle.answers.specs.Answer.{Told}
 use Rattle.text_answers.specs.Texts.{readNumbers, printNumbers}
 
 -- what the library's calls give, told
-pub record Reads (description condition tokens literals bytes : List ℕ) (returned : ℕ) (answer tokens-after literals-after bytes-after : List ℕ) : Type 0 where
+pub record Reads (description condition tokens literals bytes : List ℕ) (returned : ℕ) (answer tokensAfter literalsAfter bytesAfter : List ℕ) : Type 0 where
   pub given : Recognized
-  pub reads : ReadAs (readCondition description condition) tokens literals bytes given tokens-after literals-after bytes-after
+  pub reads : ReadAs (readCondition description condition) tokens literals bytes given tokensAfter literalsAfter bytesAfter
   pub told : Told (readNumber given) (readNumbers given) returned answer
 
-pub record Prints (description literals bytes tokens text : List ℕ) (returned : ℕ) (answer text-after : List ℕ) : Type 0 where
+pub record Prints (description literals bytes tokens text : List ℕ) (returned : ℕ) (answer textAfter : List ℕ) : Type 0 where
   pub given : Printed
-  pub prints : PrintedAs (printCondition description literals bytes tokens) text given text-after
+  pub prints : PrintedAs (printCondition description literals bytes tokens) text given textAfter
   pub told : Told (printNumber given) (printNumbers given) returned answer

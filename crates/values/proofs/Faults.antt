@@ -65,8 +65,8 @@ StopAt row bytes out = (rest : Outcome) → out ≡ orStop (row .kind) (wrongByt
 
 -- a side with a fault, where it is unseen or not: it is an item of invalid content, and its stop is the answer
 module _ (unseen : Bool) (s : Side) (t : not (nowhere (cond unseen Nowhere (wrongByte s))) ≡ true) where
-  fault-is : (validContent (s .row .kind) (s .row .digits) (s .bytes) ≡ false) × (cond unseen Nowhere (wrongByte s) ≡ wrongByte (side true (s .row) (s .bytes)))
-  fault-is = go unseen (s .item) t
+  faultIs : (validContent (s .row .kind) (s .row .digits) (s .bytes) ≡ false) × (cond unseen Nowhere (wrongByte s) ≡ wrongByte (side true (s .row) (s .bytes)))
+  faultIs = go unseen (s .item) t
     where
       go : (u b : Bool) → not (nowhere (cond u Nowhere (cond b (moved (s .row .offset) (firstWrong (s .row .kind) (s .row .digits) (s .bytes))) Nowhere))) ≡ true
           → (validContent (s .row .kind) (s .row .digits) (s .bytes) ≡ false)
@@ -80,11 +80,11 @@ module _ (unseen : Bool) (s : Side) (t : not (nowhere (cond unseen Nowhere (wron
       go false false e = absurd (false≢true e)
 
   pub invalid-there : validContent (s .row .kind) (s .row .digits) (s .bytes) ≡ false
-  invalid-there = fault-is .0
+  invalid-there = faultIs .0
 
   pub stops-there : {out : Outcome} → StopAt (s .row) (s .bytes) out → (rest : Outcome)
       → out ≡ orStop (s .row .kind) (cond unseen Nowhere (wrongByte s)) rest
-  stops-there stop rest = stop rest ∙ ap (λ w. orStop (s .row .kind) w rest) (sym (fault-is .1))
+  stops-there stop rest = stop rest ∙ ap (λ w. orStop (s .row .kind) w rest) (sym (faultIs .1))
 
 -- without a fault what comes else is the answer
 pub goes-on : (kind : ℕ) (w : Wrong) (rest : Outcome) → not (nowhere w) ≡ false → orStop kind w rest ≡ rest

@@ -38,7 +38,7 @@ is-apart-requires c κs =
     let e = c .row-at .ensures in
     let h : rowAt (now (a .items)) (c .before .before .loop .v) .offset + rowAt (now (a .items)) (c .before .before .loop .v) .size ≤ length (now (a .old))
     = pre .lies (c .before .before .loop .v) (c .before .loop-test .taken) in
-    (rw e h, pre .first-long, pre .second-long)
+    (rw e h, pre .firstLong, pre .secondLong)
 
 add-count : tie.Need-add-count Inv-loop μ-loop
 add-count c = omega arith

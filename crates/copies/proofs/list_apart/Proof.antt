@@ -43,7 +43,7 @@ is-apart-requires c κs =
     let e = c .row-at .ensures in
     let h : rowAt (now (a .items)) (c .before .before .loop .v) .offset + rowAt (now (a .items)) (c .before .before .loop .v) .size ≤ length (now (a .old))
     = pre .0 .lies (c .before .before .loop .v) (c .before .loop-test .taken) in
-    (rw e h, pre .0 .first-long, pre .0 .second-long)
+    (rw e h, pre .0 .firstLong, pre .0 .secondLong)
 
 cast-list : tie.Need-cast-list Inv-loop μ-loop
 cast-list c = omega (arith, c .before .before .before .before .before .before .before .before .before .before .pre .1)

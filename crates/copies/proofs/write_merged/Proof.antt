@@ -22,7 +22,7 @@ abbrev μ-loop : tie.MeasureT-loop
 μ-loop items old first second verdict out₀ rows v₀ out v = rows - v
 
 copy-bytes-requires : tie.Need-copy-bytes-requires Inv-loop μ-loop
-copy-bytes-requires c κs = c .before .before .before .before .before .before .pre .out-long
+copy-bytes-requires c κs = c .before .before .before .before .before .before .pre .outLong
 
 loop-holds : tie.Need-loop-holds Inv-loop μ-loop
 unfolding rewritten
@@ -39,7 +39,7 @@ merge-row-requires c κs =
     let e = c .before .row-at .ensures in
     let h : rowAt (now (a .items)) (c .before .before .before .loop .v) .offset + rowAt (now (a .items)) (c .before .before .before .loop .v) .size ≤
     length (now (a .old)) = pre .lies (c .before .before .before .loop .v) (c .before .before .loop-test .taken) in
-    (rw e h, pre .first-long, pre .second-long, c .before .before .before .loop .inv .1)
+    (rw e h, pre .firstLong, pre .secondLong, c .before .before .before .loop .inv .1)
 
 add-v : tie.Need-add-v Inv-loop μ-loop
 add-v c = omega arith
@@ -63,7 +63,7 @@ loop-again c =
     )
 
 same-length : tie.Need-same-length Inv-loop μ-loop
-same-length c = c .before .loop .inv .1 ∙ sym (c .before .before .before .before .before .before .before .before .before .before .before .pre .out-long)
+same-length c = c .before .loop .inv .1 ∙ sym (c .before .before .before .before .before .before .before .before .before .before .before .pre .outLong)
 
 returns : tie.Need-returns Inv-loop μ-loop
 returns c =

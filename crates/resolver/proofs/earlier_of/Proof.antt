@@ -1,5 +1,5 @@
 -- Of 7 and 8 the smaller place, by the laws of `earlier`.
-use Rattle.resolver.proofs.Resolving.{seven-first, eight-first}
+use Rattle.resolver.proofs.Resolving.{sevenFirst, eightFirst}
 use borrow.Author.Needs.{needs}
 use Rattle.resolver.proofs.earlier_of.Statement.{statement}
 use Rattle.resolver.proofs.earlier_of.Tie as tie
@@ -28,13 +28,13 @@ returns-2 c = rw (c .before .before .before .parsed .given .1, c .enum-told2 .gi
 returns-3 : tie.Need-returns-3
 returns-3 c =
     let c6 = c .before .before .before .before .before .before in
-    rw (c6 .parsed .given .1, c .before .before .before .depth .given .1) (seven-first (c6 .parsed .given .0 .0) (c .before .before .before .depth .given .0 .0)
+    rw (c6 .parsed .given .1, c .before .before .before .depth .given .1) (sevenFirst (c6 .parsed .given .0 .0) (c .before .before .before .depth .given .0 .0)
     (rw (c .before .place-of .ensures) at (c .if1 .taken)))
 
 returns-4 : tie.Need-returns-4
 returns-4 c =
     let c6 = c .before .before .before .before .before .before in
-    rw (c6 .parsed .given .1, c .before .before .before .depth .given .1) (eight-first (c6 .parsed .given .0 .0) (c .before .before .before .depth .given .0 .0)
+    rw (c6 .parsed .given .1, c .before .before .before .depth .given .1) (eightFirst (c6 .parsed .given .0 .0) (c .before .before .before .depth .given .0 .0)
     (rw (c .before .place-of .ensures) at (c .if1 .left)))
 
 pub earlier-of-spec : {M : Type 1} → statement M

@@ -9,17 +9,17 @@ use Rattle.describing.proofs.giving.give.Tie as tie
 mul-t21 : tie.Need-mul-t21
 mul-t21 c =
     let p13 = c .before .before .before .before .before .before .before .before .before .before .before .before .before in
-    omega (arith, p13 .pre .few, p13 .pre .few-names, p13 .pre .few-literals)
+    omega (arith, p13 .pre .few, p13 .pre .fewNames, p13 .pre .fewLiterals)
 
 mul-t22 : tie.Need-mul-t22
 mul-t22 c =
     let p14 = c .before .before .before .before .before .before .before .before .before .before .before .before .before .before in
-    omega (arith, p14 .pre .few, p14 .pre .few-names, p14 .pre .few-literals)
+    omega (arith, p14 .pre .few, p14 .pre .fewNames, p14 .pre .fewLiterals)
 
 mul-t23 : tie.Need-mul-t23
 mul-t23 c =
     let p15 = c .before .before .before .before .before .before .before .before .before .before .before .before .before .before .before in
-    omega (arith, p15 .pre .few, p15 .pre .few-names, p15 .pre .few-literals)
+    omega (arith, p15 .pre .few, p15 .pre .fewNames, p15 .pre .fewLiterals)
 
 room-for-requires : tie.Need-room-for-requires
 room-for-requires c κs = search needs

@@ -8,49 +8,49 @@ use Rattle.describing.proofs.giving.write.Tie as tie
 mul-copy-numbers : tie.Need-mul-copy-numbers
 mul-copy-numbers c =
     let p13 = c .before .before .before .before .before .before .before .before .before .before .before .before .before in
-    omega (arith, p13 .pre .0 .few, p13 .pre .0 .few-names)
+    omega (arith, p13 .pre .0 .few, p13 .pre .0 .fewNames)
 
 copy-numbers-requires : tie.Need-copy-numbers-requires
 copy-numbers-requires c κs =
     let p14 = c .before .before .before .before .before .before .before .before .before .before .before .before .before .before in
-    (p14 .pre .0 .rows, p14 .pre .1 .for-rows)
+    (p14 .pre .0 .rows, p14 .pre .1 .forRows)
 
 copy-named-requires : tie.Need-copy-named-requires
 copy-named-requires c κs =
     let p16 = c .before .before .before .before .before .before .before .before .before .before .before .before .before .before .before .before in
     let p18 = p16 .before .before in
-    (p18 .pre .0 .entries, p18 .pre .1 .for-places)
+    (p18 .pre .0 .entries, p18 .pre .1 .forPlaces)
 
 mul-copy-numbers-2 : tie.Need-mul-copy-numbers-2
 mul-copy-numbers-2 c =
     let p16 = c .before .before .before .before .before .before .before .before .before .before .before .before .before .before .before .before in
     let p22 = p16 .before .before .before .before .before .before in
-    omega (arith, p22 .pre .0 .few, p22 .pre .0 .few-names)
+    omega (arith, p22 .pre .0 .few, p22 .pre .0 .fewNames)
 
 copy-numbers-requires-2 : tie.Need-copy-numbers-requires-2
 copy-numbers-requires-2 c κs =
     let p16 = c .before .before .before .before .before .before .before .before .before .before .before .before .before .before .before .before in
     let p23 = p16 .before .before .before .before .before .before .before in
-    (p23 .pre .0 .names, p23 .pre .1 .for-names)
+    (p23 .pre .0 .names, p23 .pre .1 .forNames)
 
 copy-numbers-requires-3 : tie.Need-copy-numbers-requires-3
 copy-numbers-requires-3 c κs =
     let p16 = c .before .before .before .before .before .before .before .before .before .before .before .before .before .before .before .before in
     let p27 = p16 .before .before .before .before .before .before .before .before .before .before .before in
-    (p27 .pre .0 .places, p27 .pre .1 .for-name-places)
+    (p27 .pre .0 .places, p27 .pre .1 .forNamePlaces)
 
 copy-rows-requires : tie.Need-copy-rows-requires
 copy-rows-requires c κs =
     let p16 = c .before .before .before .before .before .before .before .before .before .before .before .before .before .before .before .before in
     let p31 = p16 .before .before .before .before .before .before .before .before .before .before .before .before .before .before .before in
-    (p31 .pre .0 .words .long, p31 .pre .1 .for-literals)
+    (p31 .pre .0 .words .long, p31 .pre .1 .forLiterals)
 
 copy-words-requires : tie.Need-copy-words-requires
 copy-words-requires c κs =
     let p16 = c .before .before .before .before .before .before .before .before .before .before .before .before .before .before .before .before in
     let p32 = p16 .before .before .before .before .before .before .before .before .before .before .before .before .before .before .before .before in
     let p35 = p32 .before .before .before in
-    (p35 .pre .0 .words, omega (arith, p35 .pre .0 .sized, p35 .pre .1 .for-bytes))
+    (p35 .pre .0 .words, omega (arith, p35 .pre .0 .sized, p35 .pre .1 .forBytes))
 
 same-length : tie.Need-same-length
 same-length c = search needs

@@ -5,7 +5,7 @@ use Prim.Native.Nat.{ℕ, _+_, _-_, _≤_, _<_}
 use native.Mathlib.Omega.{arith}
 use borrow.Author.Needs.{needs}
 use lib.ListN.{length, length-drop}
-use Rattle.grammar.specs.Expanded.{full-form}
+use Rattle.grammar.specs.Expanded.{fullForm}
 use Rattle.expander.proofs.Progress.{Progress, start, upto, ended, halted, further}
 use Rattle.tables.proofs.Front.{Front, front-none, front-length, front-rest, front-part}
 use Rattle.expander.proofs.expand.write_expanded.Statement.{statement}
@@ -21,7 +21,7 @@ abbrev μ-loop : tie.MeasureT-loop
 next : (c : tie.After-known-told Inv-loop μ-loop) →
     let l = c .before .before .before .before .before .loop in
     let (a, (n, (b, (place, (carry, _))))) = c .before .single .given .0 in
-    Progress (c .before .before .before .before .before .before .before .before .args .tokens .now) (l .inv .0 ++ full-form a n b) place (l .written + length (full-form a n b)) carry
+    Progress (c .before .before .before .before .before .before .before .before .args .tokens .now) (l .inv .0 ++ fullForm a n b) place (l .written + length (fullForm a n b)) carry
     × (n < 64) × (l .at < place)
 next c =
     let c4 = c .before .before .before .before in
@@ -29,7 +29,7 @@ next c =
 
 room : (c : tie.After-known-told Inv-loop μ-loop) →
     let (a, (n, (b, _))) = c .before .single .given .0 in
-    c .before .before .before .before .before .loop .written + length (full-form a n b) ≤ length (c .before .before .before .before .before .before .before .before .args .out .now)
+    c .before .before .before .before .before .loop .written + length (fullForm a n b) ≤ length (c .before .before .before .before .before .before .before .before .args .out .now)
 room c = omega (arith, upto (next c .0), c .before .before .before .before .before .before .before .before .pre)
 
 loop-holds : tie.Need-loop-holds Inv-loop μ-loop
@@ -77,7 +77,7 @@ loop-again c =
     let s = c .before .before .write-simple in
     let (e, g) = s .ensures in
     let h = room (c .before .before .before .before) in
-    (w ++ full-form a n b, rw e (next (c .before .before .before .before) .0), front-part f (full-form a n b) (s .last .0) (s .result) e (omega arith) g)
+    (w ++ fullForm a n b, rw e (next (c .before .before .before .before) .0), front-part f (fullForm a n b) (s .last .0) (s .result) e (omega arith) g)
 
 same-length-2 : tie.Need-same-length-2 Inv-loop μ-loop
 same-length-2 c = front-length (c .before .loop .inv .2)

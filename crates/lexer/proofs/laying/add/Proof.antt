@@ -17,7 +17,7 @@ add-token-requires : tie.Need-add-token-requires
 add-token-requires c κs =
     let c10 = c .before .before .before .before .before .before .before .before .before .before in
     let p = c10 .pre in
-    omega (arith, p .0 .bounds .few-tokens, p .0 .soon, p .0 .rooms .tokens-room)
+    omega (arith, p .0 .bounds .fewTokens, p .0 .soon, p .0 .rooms .tokensRoom)
 
 enum-known-met-2 : tie.Need-enum-known-met-2
 enum-known-met-2 c = search needs

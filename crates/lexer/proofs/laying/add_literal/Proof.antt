@@ -74,9 +74,9 @@ returns c =
     let a = c13 .args in
     record {
       counts = ap (λ n. withLiteral (a .held) n (a .past)) (c .wide .ensures);
-      token-laid = refl;
-      row-laid = c7 .lay-row .ensures;
-      bytes-laid =
+      tokenLaid = refl;
+      rowLaid = c7 .lay-row .ensures;
+      bytesLaid =
           bytes-over (a .held .bytes) (literalBy (a .row .kind) (now (a .word)) .bytes) (now (a .bytes)) (c .before .before .before .copy-literal .last .1 .1 .0)
           (omega (arith, c13 .pre .size, c13 .pre .room)) (c .before .before .before .copy-literal .ensures);
     }

@@ -7,7 +7,7 @@ use lib.ListN.{length}
 use borrow.Author.Needs.{needs}
 use borrow.Fn.Kinds.{In}
 use borrow.Fn.PlainCycle.{Measures, is, falls, and}
-use Rattle.grammar.specs.Parser.{parse-condition, parse-chain}
+use Rattle.grammar.specs.Parser.{parseCondition, parseChain}
 use Rattle.simples.proofs.Looking.{inside}
 use Rattle.simples.proofs.Classes.{order-within}
 use Rattle.simples.proofs.Resolving.{Here, short-here, no-short}
@@ -61,13 +61,13 @@ abbrev term-below : ℕ → In 2 term-kinds.ps
 term-below t = and 2 term-kinds.ps (falls 2 term-kinds.ps _<_ μ-term t) term.Pre
 
 abbrev chain-Inv : chain-lts.InvT-loop
-chain-Inv tokens at₀ carry₀ row₀ rows₀ at carry row rows = Continues parse-chain 2 tokens at₀ carry₀ row₀ rows₀ at carry row rows
+chain-Inv tokens at₀ carry₀ row₀ rows₀ at carry row rows = Continues parseChain 2 tokens at₀ carry₀ row₀ rows₀ at carry row rows
 
 abbrev chain-loop-μ : chain-lts.MeasureT-loop
 chain-loop-μ tokens at₀ carry₀ row₀ rows₀ at carry row rows = length tokens - at
 
 abbrev condition-Inv : condition-lts.InvT-loop
-condition-Inv tokens at₀ carry₀ row₀ rows₀ at carry row rows = Continues parse-condition 3 tokens at₀ carry₀ row₀ rows₀ at carry row rows
+condition-Inv tokens at₀ carry₀ row₀ rows₀ at carry row rows = Continues parseCondition 3 tokens at₀ carry₀ row₀ rows₀ at carry row rows
 
 abbrev condition-loop-μ : condition-lts.MeasureT-loop
 condition-loop-μ tokens at₀ carry₀ row₀ rows₀ at carry row rows = length tokens - at

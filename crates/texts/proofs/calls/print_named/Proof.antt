@@ -68,9 +68,9 @@ print-there-requires c κs = let s = tables-sound (knownAt (now
     (c .before .before .before .before .before .before .check-tables .ensures) ∙ c .before .before .before .before .enum-told .given .1) in record {
       short = c .before .before .before .before .before .before .before .before .before .before .before .before .before .before .pre .0;
       listed = c .before .before .before .before .before .before .before .before .before .before .before .before .before .before .pre .1;
-      table-sound = s .0;
-      rows-sound = s .1;
-      count-sound = sym
+      tableSound = s .0;
+      rowsSound = s .1;
+      countSound = sym
           (c .before .before .before .check-token-count .ensures) ∙ c .before .enum-told2 .given .1;
     }
 

@@ -21,8 +21,8 @@ returns : tie.Need-returns
 returns c = refused-print (token-refuses (knownAt (now (c .before .before .before .before .before .before .before .before .args .description))
     (c .before .before .before .before .before .before .before .before .args .items) (now (c .before .before .before .before .before .before .before .before .args .places))) (now
     (c .before .before .before .before .before .before .before .before .args .literals)) (now (c .before .before .before .before .before .before .before .before .args .bytes)) (now
-    (c .before .before .before .before .before .before .before .before .args .tokens)) (c .before .before .before .before .before .before .before .before .pre .table-sound)
-    (c .before .before .before .before .before .before .before .before .pre .rows-sound) (c .before .before .before .before .before .before .before .before .pre .count-sound)
+    (c .before .before .before .before .before .before .before .before .args .tokens)) (c .before .before .before .before .before .before .before .before .pre .tableSound)
+    (c .before .before .before .before .before .before .before .before .pre .rowsSound) (c .before .before .before .before .before .before .before .before .pre .countSound)
     (omega (
       arith,
       (c .before .first-missing .ensures ∙ missing-same (now (c .before .before .before .before .before .before .before .before .args .description))
@@ -58,9 +58,9 @@ returns-2 c = refused-print (name-refuses (knownAt (now (c .before .before .befo
     (c .before .before .before .before .before .before .before .before .before .before .args .literals)) (now
     (c .before .before .before .before .before .before .before .before .before .before .args .bytes)) (now
     (c .before .before .before .before .before .before .before .before .before .before .args .tokens))
-    (c .before .before .before .before .before .before .before .before .before .before .pre .table-sound)
-    (c .before .before .before .before .before .before .before .before .before .before .pre .rows-sound)
-    (c .before .before .before .before .before .before .before .before .before .before .pre .count-sound) (omega (
+    (c .before .before .before .before .before .before .before .before .before .before .pre .tableSound)
+    (c .before .before .before .before .before .before .before .before .before .before .pre .rowsSound)
+    (c .before .before .before .before .before .before .before .before .before .before .pre .countSound) (omega (
       arith,
       (c .before .before .before .first-missing .ensures ∙ missing-same (now (c .before .before .before .before .before .before .before .before .before .before .args .description))
           (c .before .before .before .before .before .before .before .before .before .before .args .items) (now
@@ -75,7 +75,7 @@ returns-2 c = refused-print (name-refuses (knownAt (now (c .before .before .befo
 put-requires : tie.Need-put-requires
 put-requires c κs = record {
   sized = c .before .before .before .before .before .before .before .before .before .before .before .pre;
-  all-there = omega (
+  allThere = omega (
     arith,
     (c .before .before .before .before .first-missing .ensures ∙ missing-same (now
         (c .before .before .before .before .before .before .before .before .before .before .before .args .description))
@@ -86,7 +86,7 @@ put-requires c κs = record {
         (c .before .before .before .before .before .before .before .before .before .before .before .pre .listed .within)),
     c .before .before .before .if1 .left,
   );
-  all-named = omega
+  allNamed = omega
       (arith, c .before .before .first-unnamed .ensures, c .before .if2 .left);
 }
 

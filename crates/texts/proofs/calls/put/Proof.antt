@@ -13,28 +13,28 @@ use Rattle.texts.proofs.calls.put.Tie as tie
 line-size-requires : tie.Need-line-size-requires
 line-size-requires c κs = (
   some-tokens (c .before .before .before .before .before .before .pre .sized)
-      (c .before .before .before .before .before .before .pre .all-there) .0,
+      (c .before .before .before .before .before .before .pre .allThere) .0,
   all-printable (c .before .before .before .before .before .before .pre .sized)
-      (c .before .before .before .before .before .before .pre .all-there),
+      (c .before .before .before .before .before .before .pre .allThere),
 )
 
 returns : tie.Need-returns
 returns c = no-room (prints (knownAt (now (c .before .before .before .before .before .before .before .before .args .description))
     (c .before .before .before .before .before .before .before .before .args .items) (now (c .before .before .before .before .before .before .before .before .args .places))) (now
     (c .before .before .before .before .before .before .before .before .args .literals)) (now (c .before .before .before .before .before .before .before .before .args .bytes)) (now
-    (c .before .before .before .before .before .before .before .before .args .tokens)) (c .before .before .before .before .before .before .before .before .pre .sized .table-sound)
-    (c .before .before .before .before .before .before .before .before .pre .sized .rows-sound)
-    (c .before .before .before .before .before .before .before .before .pre .sized .count-sound) (c .before .before .before .before .before .before .before .before .pre .all-there)
-    (c .before .before .before .before .before .before .before .before .pre .all-named)) (c .before .line-size .ensures) (c .if1 .taken)
+    (c .before .before .before .before .before .before .before .before .args .tokens)) (c .before .before .before .before .before .before .before .before .pre .sized .tableSound)
+    (c .before .before .before .before .before .before .before .before .pre .sized .rowsSound)
+    (c .before .before .before .before .before .before .before .before .pre .sized .countSound) (c .before .before .before .before .before .before .before .before .pre .allThere)
+    (c .before .before .before .before .before .before .before .before .pre .allNamed)) (c .before .line-size .ensures) (c .if1 .taken)
 
 put-line-requires : tie.Need-put-line-requires
 put-line-requires c κs = (
   (
     some-tokens (c .before .before .before .before .before .before .before .before .before .pre .sized)
-        (c .before .before .before .before .before .before .before .before .before .pre .all-there) .0,
+        (c .before .before .before .before .before .before .before .before .before .pre .allThere) .0,
     all-printable
         (c .before .before .before .before .before .before .before .before .before .pre .sized)
-        (c .before .before .before .before .before .before .before .before .before .pre .all-there),
+        (c .before .before .before .before .before .before .before .before .before .pre .allThere),
   ),
   omega (arith, c .before .before .line-size .ensures, c .before .if1 .left),
 )
@@ -49,11 +49,11 @@ returns-2 c = all-room (prints (knownAt (now (c .before .before .before .before 
     (c .before .before .before .before .before .before .before .before .before .before .before .before .args .literals)) (now
     (c .before .before .before .before .before .before .before .before .before .before .before .before .args .bytes)) (now
     (c .before .before .before .before .before .before .before .before .before .before .before .before .args .tokens))
-    (c .before .before .before .before .before .before .before .before .before .before .before .before .pre .sized .table-sound)
-    (c .before .before .before .before .before .before .before .before .before .before .before .before .pre .sized .rows-sound)
-    (c .before .before .before .before .before .before .before .before .before .before .before .before .pre .sized .count-sound)
-    (c .before .before .before .before .before .before .before .before .before .before .before .before .pre .all-there)
-    (c .before .before .before .before .before .before .before .before .before .before .before .before .pre .all-named))
+    (c .before .before .before .before .before .before .before .before .before .before .before .before .pre .sized .tableSound)
+    (c .before .before .before .before .before .before .before .before .before .before .before .before .pre .sized .rowsSound)
+    (c .before .before .before .before .before .before .before .before .before .before .before .before .pre .sized .countSound)
+    (c .before .before .before .before .before .before .before .before .before .before .before .before .pre .allThere)
+    (c .before .before .before .before .before .before .before .before .before .before .before .before .pre .allNamed))
     (c .before .before .before .before .before .line-size .ensures) (c .before .before .before .before .if1 .left) (c .before .before .put-line .ensures)
 
 pub put-spec : {M : Type 1} → statement M

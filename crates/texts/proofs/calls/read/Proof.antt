@@ -49,8 +49,8 @@ read-named-requires c κs = let f = book-found (c .before .before .before .befor
           (c .before .before .before .before .before .before .before .named .given .1),
       omega arith,
       omega arith,
-      f .few-literals,
-      f .few-bytes,
+      f .fewLiterals,
+      f .fewBytes,
     )
 
 enum-known-named-2 : tie.Need-enum-known-named-2

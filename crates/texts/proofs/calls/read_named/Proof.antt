@@ -16,7 +16,7 @@ gather-requires : tie.Need-gather-requires
 gather-requires c κs =
     let c11 = c .before .before .before .before .before .before .before .before .before .before .before in
     let p = c11 .pre in
-    (p .0, record { tokens-room = omega arith; rows-room = p .1; bytes-room = p .2 }, p .3, p .4)
+    (p .0, record { tokensRoom = omega arith; rowsRoom = p .1; bytesRoom = p .2 }, p .3, p .4)
 
 enum-known-lexed : tie.Need-enum-known-lexed
 enum-known-lexed c = search needs
