@@ -15,7 +15,6 @@ use senses::Met;
 use senses::Piece;
 use tables::tokens::FIRST_LITERAL;
 
-// The numbers of a row.
 fn wide(x: u32) -> usize
     ensures { λ r. ⌜ r ≡ x ⌝ }
 {
