@@ -1,5 +1,8 @@
 -- Nothing where the byte is seen; else words and two digits, which are one text.
+use mathlib.Core.Path.{_≡_}
+use mathlib.Core.Bool.{true, false}
 use Rattle.lines.proofs.Joining.{joined}
+use Rattle.report.specs.Messages.{isSeen}
 use borrow.Author.Needs.{needs}
 use Rattle.report.proofs.messages.put_unseen.Statement.{statement}
 use Rattle.report.proofs.messages.put_unseen.Tie as tie
@@ -14,7 +17,10 @@ same-length : tie.Need-same-length
 same-length c = search needs
 
 returns : tie.Need-returns
-returns c = rw (c .before .before .before .before .before .if1 .taken) (c .before .before .put .ensures)
+returns c =
+    let tested = c .before .before .before .before .before in
+    let seen : isSeen (tested .before .before .args .byte) ≡ true = tested .if1 .taken in
+    rw seen (c .before .before .put .ensures)
 
 slice-aggregate-put-2 : tie.Need-slice-aggregate-put-2
 slice-aggregate-put-2 c = search needs
@@ -36,10 +42,13 @@ same-length-2 c = search needs
 
 returns-2 : tie.Need-returns-2
 returns-2 c =
-    let L = c .before .before .before .before .before .before .before .before .before .before .before .put2 .ensures in
+    let lead = c .before .before .before .before .before .before .before .before .before .before .before in
+    let L = lead .put2 .ensures in
     let H = c .before .before .before .before .before .before .before .put-hex .ensures in
     let F = c .before .before .put3 .ensures in
-    rw (c .before .before .before .before .before .before .before .before .before .before .before .before .before .before .if1 .left) (joined (joined L H) F)
+    let tested = lead .before .before .before in
+    let hidden : isSeen (tested .before .before .args .byte) ≡ false = tested .if1 .left in
+    rw hidden (joined (joined L H) F)
 
 pub put-unseen-spec : {M : Type 1} → statement M
 put-unseen-spec =
