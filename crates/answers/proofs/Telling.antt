@@ -48,3 +48,8 @@ list-told l t =
       told = record { returns = t .returns ∙ ap writtenNumber (l .answered); answers = t .answers ∙ ap listedNumbers (l .answered) };
       left = l .left;
     }
+
+-- what is told of the answer that is given is told of the one that it equals
+pub answer-told : {written other : Written} {returned : ℕ} {answer : List ℕ} → written ≡ other → Told (writtenNumber written) (listedNumbers written) returned answer
+    → Told (writtenNumber other) (listedNumbers other) returned answer
+answer-told w t = record { returns = t .returns ∙ ap writtenNumber w; answers = t .answers ∙ ap listedNumbers w }

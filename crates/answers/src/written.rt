@@ -17,7 +17,7 @@ pub fn narrow(x: usize) -> u32
 }
 
 // Every count and every place is at most 640, and a byte is one of an item.
-pub(crate) fn answer_numbers(value: usize, byte: usize, judged: usize, written: usize) -> [u32; 9]
+pub fn answer_numbers(value: usize, byte: usize, judged: usize, written: usize) -> [u32; 9]
     requires { ⌜ (value ≤ 640) × (byte ≤ 131071) × (judged ≤ 640) × (written ≤ 640) ⌝ }
     ensures { λ r. ⌜ r ≡ answerNumbers value byte judged written ⌝ }
 {

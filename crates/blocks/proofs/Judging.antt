@@ -11,7 +11,7 @@ use Rattle.tables.specs.Operands.{Lent}
 use Rattle.tables.specs.Tokens.{isName}
 use Rattle.values.specs.Truth.{outcome}
 use Rattle.grammar.specs.declared.PlanRow.{PlanRow}
-use Rattle.block_words.specs.Columns.{recordAt, outcomeAt, Right}
+use Rattle.block_truths.specs.Columns.{recordAt, outcomeAt, Right}
 use Rattle.places.proofs.Storing.{Stored, stores, skips}
 use Rattle.blocks.specs.Blocks.{truthNumber, Judges}
 

@@ -15,7 +15,7 @@ use Rattle.grammar.proofs.Sure.{Sure, some-rows, sure}
 use Rattle.rules.specs.Calls.{told}
 use Rattle.runner.proofs.Running.{readable, Going, start, goes-true, goes-false, ends-true, ends-false}
 use Rattle.places.specs.Places.{startPlace, nextPlace, nextCount, UpTo, Lowest}
-use Rattle.block_words.specs.Columns.{recordAt, Judgeable}
+use Rattle.block_truths.specs.Columns.{recordAt, Judgeable}
 use Rattle.blocks.specs.Blocks.{placeOf, Placed, Judges, Walkable, Settled}
 use Rattle.blocks.proofs.Standing.{Kind, at-true, at-false, at-row, kind, target-row, target-false, target-true, later-place, leaves-row, little-more}
 

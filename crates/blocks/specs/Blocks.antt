@@ -14,7 +14,7 @@ use Rattle.tables.specs.Operands.{Lent}
 use Rattle.grammar.specs.declared.PlanRow.{PlanRow}
 use Rattle.grammar.specs.Plan.{onTrue, onFalse, planCheck}
 use Rattle.runner.specs.Runs.{Runnable}
-use Rattle.block_words.specs.Columns.{recordAt, outcomeAt, Right, Laid}
+use Rattle.block_truths.specs.Columns.{recordAt, outcomeAt, Right, Laid}
 
 -- "A simple condition gives true, false or its stop": a stop is not judged here, and its record is run by itself
 abbrev pub truthNumber : Outcome → ℕ

@@ -6,17 +6,17 @@ ghost use Rattle.tables.specs.Operands.{lendNames};
 ghost use Rattle.values.specs.Truth.{outcome};
 ghost use Rattle.grammar.specs.Plan.{running};
 ghost use Rattle.rules.specs.Calls.{told};
-ghost use Rattle.block_words.specs.Columns.{recordAt};
+ghost use Rattle.block_truths.specs.Columns.{recordAt};
 ghost use Rattle.blocks.specs.Blocks.{placeOf, Placed, Walkable, Settled};
 use crate::rows::judge_row;
-use block_words::Block;
+use block_truths::Block;
 use places::AT_FALSE;
 use places::AT_TRUE;
 use places::advance;
 use places::fill;
 use places::least;
 use places::start;
-use plan_checks::plan_row;
+use plan_rows::rows::plan_row;
 use plans::Target;
 
 fn wide(x: u8) -> usize

@@ -1,4 +1,1 @@
 pub mod WordLaws
-pub mod TestLaws
-pub mod DigitLaws
-pub mod ValueLaws

@@ -1,3 +1,3 @@
-// Eight bytes as one word: of a field of digits, with their test and their number.
+// Eight bytes as one word. Of digits, their test and their number are `eight_digits`.
 
 pub mod words; // the word of a field

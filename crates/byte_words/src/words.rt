@@ -3,8 +3,7 @@ ghost use mathlib.Core.Path.{_≡_};
 ghost use mathlib.Core.List.{[], _∷_};
 ghost use Prim.Native.Nat.{_-_, _*_, _^_, _≤_, _<_};
 ghost use lib.ListN.{length, take, drop};
-ghost use Rattle.byte_words.specs.Words.{wordFrom, digitOf, digitWord, digitsIn, valueIn};
-use std::num::wrapping_add_u64;
+ghost use Rattle.byte_words.specs.Words.{wordFrom, digitOf, digitWord};
 
 // Eight bytes as one word. Written flat, with the bytes read one after another, it is one load.
 fn join(a: u8, b: u8, c: u8, d: u8, e: u8, f: u8, g: u8, h: u8) -> u64
@@ -79,21 +78,4 @@ pub fn short_word(bytes: &[u8]) -> u64
         i += 1;
     }
     word
-}
-
-// Whether each of a word's bytes is a digit: its left half is 0, and 6 more leave it 0.
-pub fn all_digits(word: u64) -> bool
-    ensures { λ r. ⌜ r ≡ digitsIn 8 word ⌝ }
-{
-    (word | wrapping_add_u64(word, 0x0606060606060606)) & 0xf0f0f0f0f0f0f0f0 == 0
-}
-
-// The number that the right halves of a word's bytes write: two neighbours at once, then four, then eight.
-pub fn digits_value(word: u64) -> u64
-    ensures { λ r. ⌜ r ≡ valueIn 8 word ⌝ }
-{
-    let ones = word & 0x0f0f0f0f0f0f0f0f;
-    let twos = (ones + (ones >> 8) * 10) & 0x00ff00ff00ff00ff;
-    let fours = (twos + (twos >> 16) * 100) & 0x0000ffff0000ffff;
-    (fours & 0xffffffff) + (fours >> 32) * 10000
 }

@@ -10,12 +10,12 @@ ghost use Rattle.tables.specs.Refusals.{firstOf};
 ghost use Rattle.tables.specs.Tables.{lengthSound, literalSound, itemRowCheck, literalRowCheck, tableLines, recordCheck};
 use content::Row;
 use numbers::reading::read_number;
+use row_rules::sound::row_sound;
 use tables::Check;
 use tables::Refusal;
 use tables::rows::ends_within;
 use tables::rows::row_at;
 use tables::rows::row_part;
-use tables::rows::row_sound;
 
 fn length_sound(table: &[u32]) -> bool
     ensures { λ r. ⌜ r ≡ lengthSound (now (table .entry)) ⌝ }

@@ -1,4 +1,3 @@
-// Refusals 1 to 6 and 12.
+// Refusals 1 to 4 and 12: tables and the record. Tokens are `token_checks`.
 
 pub mod lent; // tables and the record
-pub mod tokens; // tokens

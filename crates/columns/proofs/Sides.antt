@@ -20,9 +20,9 @@ use Rattle.digit_words.specs.Words.{fitsWord}
 use Rattle.digit_words.specs.Asked.{askedOf, answered}
 use Rattle.byte_words.proofs.WordLaws.{Bytes}
 use Rattle.digit_words.proofs.Outcomes.{item-field, relation-by-words, numeric-by-word}
-use Rattle.block_words.specs.Columns.{recordAt, outcomeAt, bit, fieldAt, related, relatedTo, Right, Judgeable, FieldOf}
-use Rattle.block_words.proofs.Rights.{bit-right, related-right, first-right, second-right}
-use Rattle.block_words.proofs.Firsts.{item-inside, small}
+use Rattle.block_truths.specs.Columns.{recordAt, outcomeAt, bit, fieldAt, related, relatedTo, Right, Judgeable, FieldOf}
+use Rattle.block_truths.proofs.Rights.{bit-right, related-right, first-right, second-right}
+use Rattle.block_truths.proofs.Firsts.{item-inside, small}
 
 -- a row that is read as a word has at most 8 bytes
 pub word-size : (row : Row) → fitsWord row ≡ true → row .size ≤ 8

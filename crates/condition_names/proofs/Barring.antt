@@ -14,7 +14,7 @@ use Rattle.description.specs.Stages.{isLiteral, literalIn}
 use Rattle.description.proofs.Bytes.{apart}
 use Rattle.literal_words.specs.declared.Number.{Number}
 use Rattle.literal_words.specs.declared.Number.the-variants.{Is, Not}
-use Rattle.literal_rows.specs.Spelling.{literalOf, rowFound, Written, unlikeRows}
+use Rattle.literal_pairs.specs.Spelling.{literalOf, rowFound, Written, unlikeRows}
 use Rattle.condition_names.specs.Values.{valueOf, shown, rowsOf, weighed}
 use Rattle.condition_names.specs.declared.Found.{Found}
 use Rattle.condition_names.specs.declared.Weighed.the-variants.{Barred, Single, Range}

@@ -10,7 +10,7 @@ use description::Spelled;
 use literal_spans::spans::spelled_at;
 use text_bytes::blanks::next_ink;
 use text_bytes::bytes::byte_at;
-use words::literals::literal;
+use wanted_words::literals::literal;
 
 // The high end after THRU, whose low end stands from low to mid.
 fn high_at(text: &[u8], low: usize, mid: usize, n: usize) -> ValueRead

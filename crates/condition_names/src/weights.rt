@@ -5,14 +5,14 @@ ghost use Prim.Native.Nat.{_-_};
 ghost use lib.ListN.{length, take, drop};
 ghost use Rattle.description.specs.Limits.{barredAlone};
 ghost use Rattle.description.specs.Stages.{literalIn};
-ghost use Rattle.literal_rows.specs.Spelling.{Written};
+ghost use Rattle.literal_pairs.specs.Spelling.{Written};
 ghost use Rattle.condition_names.specs.Values.{Stands, shown, valueOf, weighed};
 use crate::Found;
 use crate::Weighed;
 use content::Row;
+use literal_pairs::pairs::may_compare;
+use literal_pairs::pairs::unlike;
 use literal_rows::literals::literal_row;
-use literal_rows::pairs::may_compare;
-use literal_rows::pairs::unlike;
 use literal_words::Number;
 use ranges::ends::exceeds;
 

@@ -3,8 +3,8 @@
 ghost use Rattle.tables.specs.Operands.{lendNames};
 ghost use Rattle.rules.specs.Calls.{expandGives, planGives, judgeGives, runGives};
 ghost use Rattle.answers.specs.Answer.{Leaves, Tells};
-use answers::judged::tell_judged;
 use answers::written::tell_written;
+use judged_answers::judged::tell_judged;
 
 #[no_mangle]
 pub extern "C" fn oboecurlew_expand(

@@ -1,4 +1,3 @@
-// Conditions and plans of the rules that had switch-off words, written with switch-on words only.
+// Conditions of the rules that had switch-off words, written with switch-on words only. Plans are `plan_conversion`.
 
 pub mod words; // the tokens of a condition
-pub mod rows; // the rows of a plan

@@ -13,8 +13,9 @@ use fronts::front_bytes;
 use grammar::PlanRow;
 use libc::STDOUT_FILENO;
 use looks::calls::looked_at_plan;
-use plan_checks::plan_row;
+use plan_rows::rows::plan_row;
 use plans::Target;
+use printouts::printing::print;
 use tables::Judged;
 use tables::Refusal;
 use tables::Verdict;
@@ -24,7 +25,6 @@ use tables::rows::is_group;
 use tables::rows::row_at;
 use tables::tokens::FIRST_WORD;
 use tables::words::NOT;
-use texts::calls::print;
 use texts::calls::read;
 
 // An entry of the logbook, for each tape drive that the club inspects.

@@ -6,10 +6,10 @@ ghost use Rattle.describing.specs.Calls.{roomFor, Ready, Roomy, Wrote, G
 use crate::Described;
 use crate::Sizes;
 use content::Row;
+use literal_outputs::literals::copy_rows;
+use literal_outputs::literals::copy_words;
 use outputs::copies::copy_named;
 use outputs::copies::copy_numbers;
-use outputs::literals::copy_rows;
-use outputs::literals::copy_words;
 use storing::Found;
 use tables::rows::NAME_WIDTH;
 

@@ -4,7 +4,7 @@ use Prim.Native.Nat.{ℕ}
 use Rattle.describing.specs.declared.Described.{Described}
 use Rattle.describing.specs.Calls.{number, DescribedBy}
 use Rattle.answers.specs.Answer.{Told}
-use Rattle.text_answers.specs.Description.{describedNumbers}
+use Rattle.description_answers.specs.Description.{describedNumbers}
 
 -- what the library's call gives, told
 pub record Describes (text rows places names namePlaces literals bytes : List ℕ) (returned : ℕ)

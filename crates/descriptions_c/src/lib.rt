@@ -1,6 +1,6 @@
 // Record descriptions for C and COBOL, told as `answers` says.
 ghost use Rattle.descriptions_c.specs.Description.{Describes};
-use text_answers::described::tell_described;
+use description_answers::described::tell_described;
 
 #[no_mangle]
 pub extern "C" fn oboecurlew_describe(

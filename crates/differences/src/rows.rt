@@ -9,7 +9,7 @@ ghost use Rattle.tables.specs.Rows.{part};
 ghost use Rattle.differences.specs.Differ.{differs, mark, entryOf, Held};
 use compare::orders::relation_holds;
 use content::Row;
-use items::parts::same_bytes;
+use item_parts::parts::same_bytes;
 use numbers::reading::read_number;
 use scaled::compare_scaled;
 use tables::rows::is_group;

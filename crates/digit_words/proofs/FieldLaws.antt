@@ -9,7 +9,7 @@ use Rattle.tables.proofs.Tests.{both}
 use Rattle.compare.specs.Order.{order}
 use Rattle.byte_words.specs.Words.{wordFrom, digitOf, digitWord}
 use Rattle.byte_words.proofs.WordLaws.{Bytes, none, more}
-use Rattle.byte_words.proofs.DigitLaws.{digit-byte, half-byte}
+use Rattle.eight_digits.proofs.DigitLaws.{digit-byte, half-byte}
 use Rattle.digit_words.proofs.OrderLaws.{Alike, nought, digit, alike-order}
 
 -- two fields of digits are ordered as their words are

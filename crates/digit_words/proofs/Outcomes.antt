@@ -30,7 +30,7 @@ use Rattle.digit_words.specs.Words.{fitsWord}
 use Rattle.digit_words.specs.Asked.{askedOf, answered}
 use Rattle.byte_words.proofs.WordLaws.{Bytes, bytes-take, bytes-drop, drop-take}
 use Rattle.digit_words.proofs.FieldLaws.{word-order}
-use Rattle.byte_words.proofs.DigitLaws.{word-test}
+use Rattle.eight_digits.proofs.DigitLaws.{word-test}
 use Rattle.digit_words.proofs.AskedLaws.{asked-answers}
 
 -- two sides whose rows are read as words, at one scale, compare by what their digits write

@@ -31,7 +31,7 @@ use Rattle.description.proofs.Bytes.{apart, and-both}
 use Rattle.description.proofs.Stages.{reach-le}
 use Rattle.description.proofs.Takes.{picture-read}
 use Rattle.text_bytes.proofs.Laws.{inked-le}
-use Rattle.words.proofs.Laws.{common-le}
+use Rattle.wanted_words.proofs.Laws.{common-le}
 use Rattle.pictures.specs.Drawings.{capPictured}
 use Rattle.levels.proofs.Stack.{digits-of, digit-range}
 use Rattle.entries.specs.Entries.{itemOf, itemAt, calledOf, namedAt}

@@ -14,7 +14,7 @@ use description::Sided;
 use pictures::scan::picture_at;
 use text_bytes::blanks::next_ink;
 use text_bytes::bytes::byte_at;
-use words::literals::literal;
+use wanted_words::literals::literal;
 
 fn side_word(word: &[u8], kind: u32, text: &[u8], n: usize) -> Sided
     requires { ⌜ n ≤ length (now text) ⌝ }

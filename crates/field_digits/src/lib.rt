@@ -1,4 +1,3 @@
-// What a numeric field holds: its digits and its sign.
+// What a numeric field holds: its digits. Its sign is `field_signs`.
 
 pub mod digits; // digits
-pub mod signs; // signs

@@ -5,7 +5,7 @@ use mathlib.Core.List.{List}
 use Prim.Native.Nat.{ℕ}
 use Rattle.byte_words.specs.Words.{digitsIn}
 use Rattle.places.proofs.Storing.{Stored}
-use Rattle.block_words.specs.Columns.{wordAt, tested}
+use Rattle.block_truths.specs.Columns.{wordAt, tested}
 
 -- those of the first j records are told
 abbrev pub Tested : (ℕ → ℕ → Bool) → List ℕ → ℕ → ℕ → ℕ → ℕ → ℕ → ℕ → ℕ → ℕ → List ℕ → List ℕ → ℕ → Type 0

@@ -5,15 +5,15 @@ ghost use Prim.Native.Nat.{ℕ, _<_, _≤_};
 ghost use lib.Dec.{eqb, ltb};
 ghost use lib.ListN.{length, getD};
 ghost use Rattle.byte_words.specs.Words.{digitsIn};
-ghost use Rattle.block_words.specs.Columns.{fieldAt, related, tested, Laid, FieldOf};
-use block_words::Bits;
-use block_words::Block;
-use block_words::truths::bits_of;
-use block_words::words::extent_of;
-use byte_words::words::all_digits;
+ghost use Rattle.block_truths.specs.Columns.{fieldAt, related, tested, Laid, FieldOf};
+use block_truths::Bits;
+use block_truths::Block;
+use block_truths::truths::bits_of;
 use byte_words::words::field_word;
 use content::Row;
 use digit_words::Asked;
+use eight_digits::digits::all_digits;
+use field_words::words::extent_of;
 use places::choose;
 
 // The truth of a row that is not judged here.

@@ -18,7 +18,7 @@ use Rattle.typing.specs.Typing.{typed}
 use Rattle.values.specs.Comparison.{Side, side, sideOf}
 use Rattle.values.specs.Truth.{relationOutcome, classOutcome, outcome, Readable, Fit, Sided}
 use Rattle.values.proofs.Reading.{read-class}
-use Rattle.block_words.specs.Columns.{recordAt, Right}
+use Rattle.block_truths.specs.Columns.{recordAt, Right}
 
 -- a record that starts at its place
 pub at-record : {base : ℕ} (records : List ℕ) (from size j : ℕ) → base ≡ from + j * size → take (base + size - base) (drop base records) ≡ recordAt records from size j

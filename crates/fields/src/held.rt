@@ -14,8 +14,8 @@ use content::relations::ALPHABETIC;
 use content::rows::is_packed;
 use content::rows::is_zoned;
 use field_digits::digits::all_digits;
-use field_digits::signs::is_sign;
-use field_digits::signs::is_signed_digit;
+use field_signs::signs::is_sign;
+use field_signs::signs::is_signed_digit;
 use packed::halves::packed_right;
 use packed::halves::packed_valid;
 

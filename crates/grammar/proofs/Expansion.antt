@@ -26,7 +26,8 @@ worded low high small range (plain {w = w} h) =
 worded low high small range (withNot {n = x} {w = w} i h) =
     let g : (262144 + low ≤ w) × (w ≤ 262144 + high) = range w h in
     let e : 262144 + (w % 65536 + 32 - 32) ≡ w = omega arith in
-    record { says = rw (le-ltb (w % 65536 + 32) 32 (omega arith), e, not-token x i); above = omega arith; below = omega arith }
+    let says : stated (w % 65536 + 32) ≡ x ∷ w ∷ [] = rw (le-ltb (w % 65536 + 32) 32 (omega arith), e, not-token x i) in
+    record { says = says; above = omega arith; below = omega arith }
 
 pub relation-worded : {r : List ℕ} {n : ℕ} → Relation r n → Worded 5 9 r n
 relation-worded (ordered s) = worded 5 9 (omega arith) (λ w h. omega (arith, order-token w h)) s

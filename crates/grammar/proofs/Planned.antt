@@ -1,9 +1,10 @@
 -- The plan of a well typed tree is sound: refusal 11 is never given of it.
-use mathlib.Core.Path.{_≡_, sym, _∙_}
-use mathlib.Core.Bool.{true, or-true}
+use mathlib.Core.Path.{_≡_, sym, ap, _∙_}
+use mathlib.Core.Bool.{true, _&&_, _||_, or-true}
 use Prim.Native.Nat.{ℕ, _+_, _<_, _≤_, _%_}
 use native.Mathlib.Omega.{arith}
 use lib.ListN.{length}
+use lib.Dec.{eqb, ltb}
 use borrow.Author.Tests.{lt-ltb, le-leb, eq-eqb}
 use Rattle.tables.specs.declared.Check.the-variants.{Sound}
 use Rattle.tables.specs.declared.Refusal.the-variants.{PlanRow as PlanFault, Typing}
@@ -64,7 +65,9 @@ pub exit-false : (rows m : ℕ) → Exit rows m onFalse
 exit-false rows m k l = rw (or-true _)
 
 pub exit-row : (rows m : ℕ) → m < rows → Exit rows m m
-exit-row rows m l k h = rw (lt-ltb k m h, lt-ltb m rows l)
+exit-row rows m l k h =
+    let between : ltb k m && ltb m rows ≡ true = rw (lt-ltb k m h, lt-ltb m rows l) in
+    ap (λ b. b || eqb m onFalse || eqb m onTrue) between
 
 -- Where both exits of a tree are sound as targets of its rows, the targets inside it are too: they are later rows of the tree.
 pub targets-of-rows : (rows : ℕ) (row : ℕ → PlanRow) (n y f : ℕ) (t : Tree) → Stands row n (rowsOf n y f t) → n + simpleCount t ≤ rows →

@@ -63,7 +63,7 @@ spelled-parts (suc (suc (suc (suc (suc (suc q)))))) w = omega arith
 
 pub spelled : {k : Class} (x : ℕ) → Is k x → Spelled k (x / 65536) (x % 65536)
 unfolding class
-spelled x h = rw (h .is) at (spelled-parts (x / 65536) (x % 65536))
+spelled x h = subst (λ k. Spelled k (x / 65536) (x % 65536)) (h .is) (spelled-parts (x / 65536) (x % 65536))
 
 pub operand-token : (x : ℕ) → Is operand x → x < 131072
 operand-token x h = omega (arith, spelled x h)

@@ -3,10 +3,10 @@ ghost use Rattle.lines.specs.Parts.{PutsLine};
 ghost use Rattle.item_lines.specs.Items.{itemLine};
 use content::Row;
 use kind_words::put_kind;
-use lines::numbers::put_number;
-use lines::numbers::put_number_column;
 use lines::text::put;
 use lines::text::put_column;
+use number_lines::numbers::put_number;
+use number_lines::numbers::put_number_column;
 
 // Row number, name, kind, offset, size, digits and scale, in columns.
 pub fn put_item(out: &mut [u8], at: usize, v: usize, name: &[u8], row: Row) -> usize

@@ -36,7 +36,7 @@ use Rattle.literal_words.specs.declared.Text.the-variants.{Is as Held, Not as N
 use Rattle.literal_words.specs.Found.{numberFound, textFound}
 use Rattle.literal_bytes.specs.Written.{literalBy, writtenOver}
 use Rattle.literal_words.proofs.Holding.{text-again}
-use Rattle.literal_rows.specs.Spelling.{literalOf, rowFound, heldRow, Written}
+use Rattle.literal_pairs.specs.Spelling.{literalOf, rowFound, heldRow, Written}
 
 -- Digits have no point.
 digit-point : (b : ℕ) → isDigit b ≡ true → isPoint b ≡ false

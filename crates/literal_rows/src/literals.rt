@@ -4,7 +4,7 @@ ghost use mathlib.Core.Bool.{true};
 ghost use Prim.Native.Nat.{_≤_};
 ghost use lib.ListN.{length};
 ghost use Rattle.description.specs.Stages.{isLiteral};
-ghost use Rattle.literal_rows.specs.Spelling.{literalOf, rowFound, heldRow};
+ghost use Rattle.literal_pairs.specs.Spelling.{literalOf, rowFound, heldRow};
 use content::Row;
 use literal_words::Number;
 use literal_words::Text;

@@ -12,9 +12,9 @@ ghost use Rattle.content.specs.Kinds.{kindUnsigned, kindSignLeading};
 use crate::Number;
 use content::Row;
 use field_digits::digits::all_digits;
-use field_digits::signs::is_sign;
+use field_signs::signs::is_sign;
 use literal_bytes::points::point_place;
-use tables::rows::row_sound;
+use row_rules::sound::row_sound;
 
 // Whether all bytes after place `at` are digits.
 fn digits_after(word: &[u8], at: usize) -> bool

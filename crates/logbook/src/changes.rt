@@ -1,9 +1,9 @@
 // Items of two copies side by side.
 use crate::print::text;
 use crate::wording::item_name;
+use change_lines::changes::put_change;
 use content::Row;
 use fronts::front_bytes;
-use item_lines::changes::put_change;
 use libc::STDOUT_FILENO;
 
 // An item has at most 256 bytes, each shown as three at most, and it is shown twice.

@@ -23,7 +23,7 @@ use files::load;
 use forms::calls::plan;
 use fronts::front;
 use fronts::front_bytes;
-use items::parts::same_bytes;
+use item_parts::parts::same_bytes;
 use judge_record::judge_record;
 use libc::STDERR_FILENO;
 use libc::STDOUT_FILENO;

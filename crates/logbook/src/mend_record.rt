@@ -10,7 +10,7 @@ use crate::print::text;
 use crate::refusals::of_record;
 use content::Row;
 use fronts::front_bytes;
-use items::parts::same_bytes;
+use item_parts::parts::same_bytes;
 use libc::STDOUT_FILENO;
 use mender::calls::mend;
 use tables::Written;

@@ -1,6 +1,6 @@
 // Pieces of lines, on standard output or on standard error.
 use fronts::front_bytes;
-use lines::numbers::put_number;
+use number_lines::numbers::put_number;
 
 pub(crate) fn text(to: i32, bytes: &[u8]) {
     io::write_all(to, bytes);

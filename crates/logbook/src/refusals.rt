@@ -6,6 +6,10 @@ use crate::wording::item_name;
 use fronts::front;
 use fronts::front_bytes;
 use libc::STDERR_FILENO;
+use line_places::places::after_ink;
+use line_places::places::line_number;
+use line_places::places::line_rest;
+use line_places::places::line_start;
 use lines::text::put;
 use positions::refusals::refusal_place;
 use refusal_numbers::number_of;
@@ -14,10 +18,6 @@ use report::messages::put_caret;
 use report::messages::put_refusal;
 use report::messages::put_spot;
 use report::messages::put_unseen;
-use report::places::after_ink;
-use report::places::line_number;
-use report::places::line_rest;
-use report::places::line_start;
 use tables::Refusal;
 
 // A line of a text, and a caret as far on in the next.

@@ -9,13 +9,13 @@ use forms::calls::expand;
 use fronts::front;
 use fronts::front_bytes;
 use grammar::PlanRow;
-use item_lines::plans::put_plan_row;
 use libc::STDOUT_FILENO;
 use looks::calls::named_items;
-use plan_checks::plan_row;
+use plan_lines::plans::put_plan_row;
+use plan_rows::rows::plan_row;
+use printouts::printing::print;
 use refusal_numbers::number_of;
 use tables::Written;
-use texts::calls::print;
 
 // Words enough for 634 tokens, unless they repeat the longest literals.
 const WORDS: usize = 131072;

@@ -10,6 +10,8 @@ use crate::refusals::of_record;
 use crate::refusals::sentence;
 use crate::verdicts::stop;
 use content::Row;
+use entry_lines::entries::put_entry;
+use entry_lines::entries::put_totals;
 use fronts::front;
 use fronts::front_bytes;
 use libc::STDERR_FILENO;
@@ -19,8 +21,6 @@ use std::num::wrapping_sub_usize;
 use sweeper::calls::sweep;
 use sweeps::Swept;
 use tables::rows::row_at;
-use verdict_lines::entries::put_entry;
-use verdict_lines::entries::put_totals;
 
 // The bytes that are read at once: no entry has more than 131,070.
 const PART: usize = 131072;

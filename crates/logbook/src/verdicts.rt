@@ -9,7 +9,7 @@ use fronts::front;
 use fronts::front_bytes;
 use grammar::PlanRow;
 use libc::STDOUT_FILENO;
-use plan_checks::plan_row;
+use plan_rows::rows::plan_row;
 use tables::tokens::FIRST_WORD;
 use tables::words::NOT;
 use verdict_lines::verdicts::put_judged;

@@ -3,9 +3,9 @@ use crate::files::wide;
 use books::Printed;
 use content::Row;
 use fronts::front_bytes;
+use printouts::printing::print;
 use tables::rows::is_group;
 use tables::rows::row_at;
-use texts::calls::print;
 
 // Whether a name ends before this byte.
 fn ends_name(byte: u8) -> bool {

@@ -12,7 +12,7 @@ use change_lists::counting::count_changes;
 use change_lists::listing::list_changes;
 use content::Row;
 use content::rows::is_zoned;
-use items::parts::put_part;
+use item_parts::parts::put_part;
 use meters::kinds::mended_into;
 use tables::rows::is_group;
 use tables::rows::row_at;

@@ -12,8 +12,8 @@ ghost use Rattle.merger.specs.Desk.{contestedCount, Decides, roomsFor, L
 use checks::lent::check_record;
 use checks::lent::check_tables;
 use conditions::calls::run;
-use copies::count_apart;
-use copies::list_apart;
+use contested::apart::count_apart;
+use contested::apart::list_apart;
 use copies::write_merged;
 use items::lines::check_room;
 use merging::Merged;

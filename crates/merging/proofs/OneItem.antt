@@ -8,7 +8,7 @@ use lib.ListN.{length}
 use Rattle.tables.specs.declared.Verdict.{Verdict}
 use Rattle.tables.specs.declared.Verdict.the-variants.{True, False, Refused as Stopped}
 use Rattle.items.specs.Items.{same}
-use Rattle.items.proofs.Sameness.{same-refl, same-eq, same-comm}
+use Rattle.item_parts.proofs.Sameness.{same-refl, same-eq, same-comm}
 use Rattle.merging.specs.Merge.{decided, changedApart, mergedItem}
 
 -- one item: who changed it, and what it becomes

@@ -10,7 +10,7 @@ use content::marks::is_space;
 use content::marks::marks;
 use content::rows::is_zoned;
 use fields::held::valid_content;
-use items::parts::copy_bytes;
+use item_parts::parts::copy_bytes;
 
 fn all_spaces(bytes: &[u8]) -> bool
     ensures { λ r. ⌜ r ≡ all isSpace (now (bytes .entry)) ⌝ }

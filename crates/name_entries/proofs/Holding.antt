@@ -16,7 +16,7 @@ use Rattle.description.specs.Grammar.{Row, Literal, literalRow, Value, single, 
 use Rattle.description.specs.Limits.{ruled, unfit, barredAlone, barred, anyBarred}
 use Rattle.description.specs.Stages.{isLiteral, literalIn}
 use Rattle.description.proofs.Bytes.{apart}
-use Rattle.literal_rows.specs.Spelling.{literalOf, Written}
+use Rattle.literal_pairs.specs.Spelling.{literalOf, Written}
 use Rattle.literal_rows.proofs.Words.{written-small}
 use Rattle.condition_names.specs.Values.{alone, valueOf, Stands, shown, rowsOf, weighed}
 use Rattle.condition_names.specs.declared.Found.{Found}

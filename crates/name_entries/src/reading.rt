@@ -13,7 +13,7 @@ use condition_names::scan::value_at;
 use condition_names::weights::weigh;
 use content::Row;
 use description::Reached;
-use words::literals::literal;
+use wanted_words::literals::literal;
 use words::names::label_at;
 
 // The values after VALUE, up to the entry's period. `row` is a row of zeros, for their pairs.

@@ -21,7 +21,7 @@ use Rattle.values.specs.Truth.{truth, orStop, nameOutcome, Fit, Named}
 use Rattle.values.proofs.Faults.{StopAt, item-flag, goes-on}
 use Rattle.values.proofs.Reading.{tables-sound}
 use Rattle.values.proofs.Names.{literal-fit, item-fit, item-there, few-pairs, pair-at}
-use Rattle.names.specs.Ranges.{Literals, Pairs}
+use Rattle.literal_sides.specs.Ranges.{Literals, Pairs}
 
 pub fit-as : {row : Row} {bytes : List ℕ} (item other : Bool) → Fit (side item row bytes) → Fit (side other row bytes)
 fit-as item other f = record { sound = f .sound; sized = f .sized }

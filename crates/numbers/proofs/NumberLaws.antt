@@ -22,8 +22,8 @@ use Rattle.compare.specs.Compared.{scaledOrder}
 use Rattle.compare.proofs.OrderLaws.{order-lt, order-eq, order-gt}
 use Rattle.byte_words.specs.Words.{digitWord, digitsIn, valueIn}
 use Rattle.byte_words.proofs.WordLaws.{Bytes, bytes-take, bytes-drop}
-use Rattle.byte_words.proofs.DigitLaws.{word-test}
-use Rattle.byte_words.proofs.ValueLaws.{eight-digits}
+use Rattle.eight_digits.proofs.DigitLaws.{word-test}
+use Rattle.eight_digits.proofs.ValueLaws.{eight-digits}
 
 pub order-same : (a b x y : ℕ) → (x < y → a < b) → (x ≡ y → a ≡ b) → (y < x → b < a) → order a b ≡ order x y
 order-same a b x y f e g = go (decLt x y) (decLt y x)

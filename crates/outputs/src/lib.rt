@@ -1,4 +1,3 @@
-// What was read of a description, copied to the outputs.
+// What was read of a description's rows and names, copied to the outputs. Literals are `literal_outputs`.
 
 pub mod copies; // rows, and places of names
-pub mod literals; // literal rows and literal bytes

@@ -1,48 +1,16 @@
-// Rows of a plan: their typing (refusal 9), and their soundness in a plan that was lent (refusal 11).
+// Rows of a plan that was lent: their soundness (refusal 11).
+
 ghost use mathlib.Core.Path.{_≡_};
 ghost use mathlib.Core.List.{[]};
-ghost use Prim.Native.Nat.{_+_, _*_, _≤_, _<_};
-ghost use lib.ListN.{length};
-ghost use Rattle.tables.specs.Operands.{lend, lendNames, under};
-ghost use Rattle.grammar.specs.Plan.{planRow, targetSound, planRowSound, planCheck};
-ghost use Rattle.grammar.specs.Typed.{typedRows, Shaped};
+ghost use Prim.Native.Nat.{_+_, _<_};
+ghost use Rattle.tables.specs.Operands.{lendNames, under};
+ghost use Rattle.grammar.specs.Plan.{targetSound, planRowSound, planCheck};
 use grammar::PlanRow;
+use plan_rows::rows::plan_row;
 use plans::Target;
 use shapes::condition_sound;
 use tables::Check;
 use tables::Refusal;
-use typing::sides::well_typed;
-
-// The five numbers of row k.
-pub fn plan_row(plan: &[u32], k: usize) -> PlanRow
-    requires { ⌜ k * 5 + 4 < length (now plan) ⌝ }
-    ensures { λ r. ⌜ r ≡ planRow (now (plan .entry)) k ⌝ }
-{
-    let at = k * 5;
-    PlanRow {
-        subject: plan[at],
-        relation: plan[at + 1],
-        object: plan[at + 2],
-        holds: plan[at + 3],
-        fails: plan[at + 4],
-    }
-}
-
-// 9: the first of so many rows whose simple condition is not well typed.
-pub fn check_typing(items: &[u32], literals: &[u32], rows: &[u32], count: usize) -> Check
-    requires { ⌜ Shaped (lend (now items) (now literals) []) (now rows) count ⌝ }
-    ensures { λ r. ⌜ r ≡ typedRows (lend (now (items .entry)) (now (literals .entry)) []) (now (rows .entry)) count ⌝ }
-{
-    let mut k: usize = 0;
-    while k < count {
-        let row = plan_row(rows, k);
-        if !well_typed(items, literals, row.subject, row.relation, row.object) {
-            return Check::Refused(Refusal::Typing(k));
-        }
-        k += 1;
-    }
-    Check::Sound
-}
 
 // A target of row k is a later row of the plan, or a verdict.
 fn target_sound(rows: usize, k: usize, target: u32) -> bool

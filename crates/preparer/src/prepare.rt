@@ -7,12 +7,12 @@ ghost use Rattle.tables.specs.Refusals.{firstOf};
 ghost use Rattle.rules.specs.Calls.{tokenLines};
 ghost use Rattle.preparer.specs.Prepared.{Prepares};
 use checks::lent::check_tables;
-use checks::tokens::check_token_count;
-use checks::tokens::check_tokens;
 use name_tables::check_names;
 use resolver::Prepared;
 use resolver::resolve;
 use tables::Check;
+use token_checks::tokens::check_token_count;
+use token_checks::tokens::check_tokens;
 
 // 1 to 6, and 18 just after 4. `off`, here and below: the rules have the switch-off words.
 fn check_lent(

@@ -23,7 +23,7 @@ use Rattle.naming.proofs.Finding.{leading-short}
 use Rattle.vocabulary.specs.Spellings.{spelt}
 use Rattle.vocabulary.proofs.Cells.{allBelow, below}
 use Rattle.quoting.proofs.Doubling.{doubled-most, quoted-length}
-use Rattle.quoting.proofs.Pointing.{whole, pointed-length}
+use Rattle.pointing.proofs.Pointing.{whole, pointed-length}
 use Rattle.printer.specs.Prints.{literalOf, Printable, AllPrintable}
 use Rattle.printer.proofs.Literally.{small, scaled, in-quotes, with-point}
 use Rattle.printer.proofs.Wording.{item-word, condition-word, literal-sound, literal-word, switch-there, switch-word, word-there, word-word}

@@ -1,2 +1,1 @@
 pub mod Doubling
-pub mod Pointing

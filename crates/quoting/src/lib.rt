@@ -1,3 +1,3 @@
-// Literals as they are written: in quotes, or with a point.
+// Literals as they are written in quotes. Numbers with their point are `pointing`.
 
 pub mod parts; // their bytes

@@ -7,7 +7,7 @@ ghost use Rattle.compare.specs.Order.{isGreater};
 ghost use Rattle.values.specs.Comparison.{side, comparison};
 ghost use Rattle.values.specs.Truth.{Fit, Numeral};
 ghost use Rattle.description.specs.Limits.{above};
-ghost use Rattle.literal_rows.specs.Spelling.{literalOf, Written};
+ghost use Rattle.literal_pairs.specs.Spelling.{literalOf, Written};
 use compare::orders::relation_holds;
 use content::Row;
 use content::relations::GREATER;

@@ -1,4 +1,3 @@
-// What a member is told: where a byte stands in a text, and lines that tell of a refusal.
+// What a member is told: lines that tell of a refusal. Where a byte stands in a text is `line_places`.
 
 pub mod messages; // lines that tell of a refusal
-pub mod places; // the line and the column of a byte

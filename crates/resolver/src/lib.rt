@@ -10,8 +10,8 @@ ghost use Rattle.resolver.specs.Resolved.{parseCheck, parsedTokens, Ther
 use brackets::check_depth;
 use parser::Parse;
 use parser::cycle::parse;
-use plan_checks::check_typing;
 use refusal_numbers::place_of;
+use row_typing::rows::check_typing;
 use tables::Check;
 use tables::Refusal;
 

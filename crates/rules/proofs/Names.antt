@@ -63,9 +63,12 @@ stop-when n (Letters byte) x y = refl
 -- the relations of m + 1 pairs, by what each of them gives
 module _ (out : Outcomes) (item : ℕ) (low high : ℕ → ℕ) (m : ℕ) where
   module _ (a b : ℕ → Bool) (lows : (k : ℕ) → k ≤ m → out item 8 (low k) ≡ truth (a k)) (highs : (k : ℕ) → k ≤ m → out item 9 (high k) ≡ truth (b k)) where
+    told-pair : (k n j : ℕ) → k ≤ m → when (at n (out item 8 (low k))) (at j (out item 9 (high k))) False Refused ≡ told (a k && b k)
+    told-pair k n j l = rw (lows k l, highs k l, at-truth n (a k), at-truth j (b k)) (told-and (a k) (b k))
+
     pair-judged : (k n : ℕ) → k ≤ m → judged out n (pairTree item (low k) (high k)) ≡ told (a k && b k)
     unfolding judged simpleCount
-    pair-judged k n l = rw (lows k l, highs k l, at-truth n (a k), at-truth (n + 1) (b k)) (told-and (a k) (b k))
+    pair-judged k n l = told-pair k n (n + 1) l
 
     pairs-judged : (k n : ℕ) → k ≤ m → judged out n (pairsTree item low high k) ≡ told (some (λ j. a j && b j) (suc k))
     unfolding judged some pairsTree

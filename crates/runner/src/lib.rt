@@ -6,7 +6,7 @@ ghost use Rattle.grammar.specs.Judging.{stopped};
 ghost use Rattle.grammar.specs.Plan.{running};
 ghost use Rattle.rules.specs.Calls.{told};
 ghost use Rattle.runner.specs.Runs.{Runnable};
-use plan_checks::plan_row;
+use plan_rows::rows::plan_row;
 use plans::Target;
 use tables::Judged;
 use tables::Outcome;

@@ -22,7 +22,7 @@ use Rattle.spelling.specs.Names.{Known, everyName}
 use Rattle.spelling.specs.Literals.{Literal, isText, isNumber, textOf, numberOf, fits, rowOfLiteral, quoted, isPoint, doubled, undoubled, withoutPoint, afterPoint, pointed, written}
 use Rattle.spelling.specs.Keywords.{Piece, token, literal, fault, Meaning, alone, item, value, order, equal, faulty, Keyword, vocabulary}
 use Rattle.spelling.specs.Meanings.{lookup, meaning, named, called, count, position, pieceOf}
-use Rattle.spelling.specs.Printing.{wordOf, spaced, printable, hasName}
+use Rattle.spelling.specs.Printing.{wordOf, spaced, printable, uniquely, hasName}
 use Rattle.spelling.proofs.Cutting.{Stands, same-true}
 use Rattle.spelling.proofs.Plain.{plain-name, plain-number, plain-stands, quoted-stands, pointed-again}
 use Rattle.spelling.proofs.Joining.{Means, by-itself, by-item, by-value}
@@ -167,6 +167,10 @@ not-filler known w {t} m = by (same w (bytes "FILLER")) refl
     by true f = absurd (wrong (same-true w (bytes "FILLER") f) m)
     by false f = f
 
+-- a condition's name that is no other's is told
+condition-named : (known : Known) (t : ℕ) → t / 65536 ≡ 5 → uniquely known (getD (known .conditions) (t % 65536) []) ≡ true → hasName known t ≡ true
+condition-named known t k e = rw k e
+
 module _ (known : Known) (few : (length (known .items) ≤ 64) × (length (known .conditions) ≤ 64)) (w : List ℕ) where
   text-good : isText w ≡ true → meaning known w ≡ value (textOf w) → Good known (value (textOf w))
   unfolding isText
@@ -233,7 +237,7 @@ module _ (known : Known) (few : (length (known .items) ≤ 64) × (length (known
       let l : isLiteral t ≡ false = rw k in
       item-fine known t w (rw (k, i) g) (by-itself e) (name-stands f) l
       (rw (k, i, lt-ltb v (length (known .conditions)) there))
-      (rw (k, i, g, not-filler known w {t = t} (by-itself e), eq-eqb (count w (everyName known)) 1 c))
+      (condition-named known t k (rw (i, g, not-filler known w {t = t} (by-itself e), eq-eqb (count w (everyName known)) 1 c)))
 
   called-good : isName w ≡ true → count w (everyName known) ≡ 1 → meaning known w ≡ called items place → Good known (called items place)
   called-good f c e = by (ltb place items) refl e

@@ -6,7 +6,7 @@ ghost use lib.ListN.{length, drop};
 ghost use Rattle.tables.specs.Operands.{lendNames};
 ghost use Rattle.tables.specs.Refusals.{firstOf};
 ghost use Rattle.sweeps.specs.Sweep.{evenly, ruleLines, sweptNumbers, sweepGives, Leaves, Sweepable};
-use block_words::Block;
+use block_truths::Block;
 use checks::lent::check_record;
 use checks::lent::check_tables;
 use name_tables::check_names;

@@ -9,7 +9,7 @@ use lib.ListN.{length, getD, take, drop}
 use lib.Seq.{sets, drop-drop}
 use Rattle.tables.specs.declared.Judged.{Judged}
 use Rattle.tables.specs.Operands.{Lent}
-use Rattle.block_words.specs.Columns.{recordAt}
+use Rattle.block_truths.specs.Columns.{recordAt}
 use Rattle.blocks.specs.Blocks.{Walkable, Settled}
 use Rattle.sweeps.specs.Sweep.{laid, answerOf, answersOf, Sweepable}
 use Rattle.sweeps.specs.Parts.{Part, Walked}

@@ -7,7 +7,7 @@ use Rattle.tables.specs.Operands.{Lent}
 use Rattle.values.specs.Truth.{outcome}
 use Rattle.grammar.specs.Plan.{running}
 use Rattle.rules.specs.Calls.{told}
-use Rattle.block_words.specs.Columns.{recordAt}
+use Rattle.block_truths.specs.Columns.{recordAt}
 use Rattle.blocks.specs.Blocks.{Settled}
 
 -- n records of a file, at least one, which start at a byte; their numbers have room from `out` on

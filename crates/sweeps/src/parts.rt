@@ -12,7 +12,7 @@ ghost use Rattle.blocks.specs.Blocks.{Walkable, Settled};
 ghost use Rattle.sweeps.specs.Sweep.{laid, answersOf, Sweepable};
 ghost use Rattle.sweeps.specs.Parts.{Part, Walked};
 use crate::answers::put_answer;
-use block_words::Block;
+use block_truths::Block;
 use blocks::walk::walk_block;
 use places::AT_FALSE;
 use places::AT_TRUE;

@@ -1,11 +1,8 @@
--- How the answers of `read` and `print` are told to C and COBOL.
+-- How the answer of `read` is told to C and COBOL.
 use mathlib.Core.List.{List, [], _∷_}
 use Prim.Native.Nat.{ℕ}
 use Rattle.books.specs.declared.Recognized.{Recognized}
 use Rattle.books.specs.declared.Recognized.the-variants.{Counts, Description, Word, Name, TokenCount, Room}
-use Rattle.books.specs.declared.Printed.{Printed}
-use Rattle.books.specs.declared.Printed.the-variants.{Count, Description as Undescribed, Refused, Name as Unnamed}
-use Rattle.books.specs.Calls.{printPlace}
 use Rattle.answers.specs.Answer.{narrowed}
 
 -- the place of a refusal and no count
@@ -20,13 +17,3 @@ readNumbers (Word place) = placeNumbers place
 readNumbers (Name place) = placeNumbers place
 readNumbers TokenCount = 0 ∷ 0 ∷ 0 ∷ 0 ∷ 0 ∷ 0 ∷ 0 ∷ 0 ∷ 0 ∷ []
 readNumbers (Room needed) = placeNumbers needed
-
-abbrev pub printCount : Printed → ℕ
-printCount (Count n) = n
-printCount (Undescribed place) = 0
-printCount (Refused refusal) = 0
-printCount (Unnamed token) = 0
-
--- one count, or the place
-abbrev pub printNumbers : Printed → List ℕ
-printNumbers answer = narrowed (printPlace answer) ∷ 0 ∷ 0 ∷ narrowed (printCount answer) ∷ 0 ∷ 0 ∷ 0 ∷ 0 ∷ 0 ∷ []

@@ -1,5 +1,3 @@
-// How the answers of calls on texts are told to C and COBOL, as `answers` says.
+// How the answer of read is told to C and COBOL, as `answers` says.
 
-pub mod described; // of describe
-pub mod printed; // of print
 pub mod recognized; // of read

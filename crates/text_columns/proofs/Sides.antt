@@ -23,10 +23,10 @@ use Rattle.byte_words.proofs.WordLaws.{Bytes}
 use Rattle.digit_words.proofs.Outcomes.{item-field}
 use Rattle.text_words.specs.Texts.{fitsText, textWord}
 use Rattle.text_words.proofs.Outcomes.{texts-by-words}
-use Rattle.block_words.specs.Columns.{recordAt, outcomeAt, related, relatedTo, Right, Laid, Judgeable}
-use Rattle.block_words.proofs.Bases.{ends-inside}
-use Rattle.block_words.proofs.Rights.{related-right, first-right, second-right}
-use Rattle.block_words.proofs.Firsts.{item-inside, small}
+use Rattle.block_truths.specs.Columns.{recordAt, outcomeAt, related, relatedTo, Right, Laid, Judgeable}
+use Rattle.field_words.proofs.Bases.{ends-inside}
+use Rattle.block_truths.proofs.Rights.{related-right, first-right, second-right}
+use Rattle.block_truths.proofs.Firsts.{item-inside, small}
 use Rattle.text_columns.specs.TextColumns.{textOf, Text, Literal}
 
 -- a row that is read as a text has at most 8 bytes

@@ -3,13 +3,13 @@ ghost use mathlib.Core.Path.{_≡_};
 ghost use mathlib.Core.Bool.{true};
 ghost use Prim.Native.Nat.{ℕ, _<_, _≤_};
 ghost use lib.ListN.{length, getD};
-ghost use Rattle.block_words.specs.Columns.{compared, Laid};
+ghost use Rattle.block_truths.specs.Columns.{compared, Laid};
 ghost use Rattle.text_columns.specs.TextColumns.{textOf, TextOf};
-use block_words::Block;
-use block_words::OrderBits;
-use block_words::words::compare_words;
-use block_words::words::extent_of;
+use block_truths::Block;
+use block_truths::OrderBits;
 use content::Row;
+use field_words::words::compare_words;
+use field_words::words::extent_of;
 use text_words::texts::filled_text;
 
 // Two texts of each record.

@@ -1,3 +1,3 @@
-// Conditions as printed: the calls.
+// Conditions as printed: the call that reads them. The one that prints is `printouts`.
 
-pub mod calls; // the calls that users make
+pub mod calls; // the call that users make to read

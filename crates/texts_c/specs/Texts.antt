@@ -7,7 +7,8 @@ use Rattle.books.specs.declared.Recognized.{Recognized}
 use Rattle.books.specs.declared.Printed.{Printed}
 use Rattle.books.specs.Calls.{readNumber, printNumber, ReadAs, PrintedAs}
 use Rattle.answers.specs.Answer.{Told}
-use Rattle.text_answers.specs.Texts.{readNumbers, printNumbers}
+use Rattle.text_answers.specs.Texts.{readNumbers}
+use Rattle.print_answers.specs.Prints.{printNumbers}
 
 -- what the library's calls give, told
 pub record Reads (description condition tokens literals bytes : List ℕ) (returned : ℕ) (answer tokensAfter literalsAfter bytesAfter : List ℕ) : Type 0 where

@@ -1,6 +1,6 @@
 // Conditions as printed, for C and COBOL, told as `answers` says.
 ghost use Rattle.texts_c.specs.Texts.{Reads, Prints};
-use text_answers::printed::tell_printed;
+use print_answers::printed::tell_printed;
 use text_answers::recognized::tell_read;
 
 #[no_mangle]
@@ -32,7 +32,7 @@ pub extern "C" fn oboecurlew_print(
     ensures { λ r. ⌜ Prints (now (description .entry)) (now (literals .entry)) (now (bytes .entry)) (now (tokens .entry)) (now (text .entry)) r (now (answer .exit)) (now (text .exit)) ⌝ }
 {
     tell_printed(
-        texts::calls::print(description, literals, bytes, tokens, text),
+        printouts::printing::print(description, literals, bytes, tokens, text),
         answer,
     )
 }

@@ -30,20 +30,3 @@ stopLines condition item byte held =
     ∷ say (hexadecimal held)
     ∷ say (0x0A ∷ [])
     ∷ []
-
--- "one line for each entry that is true or stops": its number, before what is said of it
-abbrev pub entryStart : ℕ → List Part
-entryStart n = say (bytes "entry ") ∷ count n ∷ say (bytes ": ") ∷ []
-
--- "and totals"
-abbrev pub totalsLine : ℕ → ℕ → ℕ → ℕ → List Part
-totalsLine entries held failed stopped =
-    count entries
-    ∷ say (bytes " entries: ")
-    ∷ count held
-    ∷ say (bytes " true, ")
-    ∷ count failed
-    ∷ say (bytes " false, ")
-    ∷ count stopped
-    ∷ say (bytes " stopped" ++ 0x0A ∷ [])
-    ∷ []

@@ -2,9 +2,9 @@
 ghost use Rattle.lines.specs.Put.{Puts};
 ghost use Rattle.lines.specs.Parts.{PutsLine};
 ghost use Rattle.verdict_lines.specs.Verdicts.{truthWord, judgedLine, verdictLines, stopLines};
-use lines::numbers::put_hex;
-use lines::numbers::put_number;
 use lines::text::put;
+use number_lines::numbers::put_hex;
+use number_lines::numbers::put_number;
 
 fn put_truth(out: &mut [u8], at: usize, truth: bool) -> usize
     ensures { λ r. ⌜ Puts (now (out .entry)) at (truthWord truth) r (now (out .exit)) ⌝ }

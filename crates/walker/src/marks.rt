@@ -10,7 +10,7 @@ ghost use Rattle.rules.specs.Footprint.{rowsAsked, itemsAmong};
 ghost use Rattle.rules.specs.Calls.{roomCheck, writes, Leaves};
 ghost use Rattle.walker.specs.Marks.{marked, markedRow, lentNames, AllBelow, Markable};
 use items::lines::check_room;
-use names::ranges::number_at;
+use literal_sides::literals::number_at;
 use operands::tokens::is_item;
 use tables::Check;
 use tables::Written;

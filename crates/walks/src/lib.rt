@@ -11,7 +11,7 @@ ghost use Rattle.rules.specs.Footprint.{footprint};
 ghost use Rattle.runner.specs.Runs.{Runnable};
 ghost use Rattle.walker.specs.Marks.{marked, lentNames, AllMarkable, rowsAt, next};
 use grammar::PlanRow;
-use plan_checks::plan_row;
+use plan_rows::rows::plan_row;
 use plans::Target;
 use tables::Outcome;
 use truth::conditions::truth_of;

@@ -2,7 +2,7 @@
 //! written from document 02 alone.
 
 pub mod case;
-#[cfg(feature = "convert")]
+#[cfg(feature = "library")]
 pub mod compare;
 mod generate;
 #[cfg(test)]

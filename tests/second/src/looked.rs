@@ -3,7 +3,7 @@
 //! item too)".
 
 pub mod case;
-#[cfg(feature = "looked")]
+#[cfg(feature = "library")]
 pub mod compare;
 mod generate;
 #[cfg(test)]

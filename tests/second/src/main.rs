@@ -114,13 +114,13 @@ fn about(verb: &str, subject: &str, numbers: &[&str]) -> io::Result<ExitCode> {
         ("compare", "differ") => compare(numbers, differ::compare::compare),
         #[cfg(feature = "library")]
         ("compare", "mend") => compare(numbers, mend::compare::compare),
-        #[cfg(feature = "convert")]
+        #[cfg(feature = "library")]
         ("compare", "convert") => compare(numbers, convert::compare::compare),
-        #[cfg(feature = "looked")]
+        #[cfg(feature = "library")]
         ("compare", "looked") => compare(numbers, looked::compare::compare),
-        #[cfg(feature = "sweep")]
+        #[cfg(feature = "library")]
         ("compare", "sweep") => compare(numbers, sweep::compare::compare),
-        #[cfg(feature = "merge")]
+        #[cfg(feature = "library")]
         ("compare", "merge") => compare(numbers, merge::compare::compare),
         (_, "spelling") => of_subject::<spelling::case::Case>(verb, numbers),
         (_, "differ") => of_subject::<differ::case::Case>(verb, numbers),

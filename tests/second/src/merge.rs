@@ -1,7 +1,7 @@
 //! The merge desk (02, k), written from document 02 alone.
 
 pub mod case;
-#[cfg(feature = "merge")]
+#[cfg(feature = "library")]
 pub mod compare;
 mod generate;
 #[cfg(test)]

@@ -2,7 +2,7 @@
 //! alone. Comments in double quotes are the request's sentences.
 
 pub mod case;
-#[cfg(feature = "sweep")]
+#[cfg(feature = "library")]
 pub mod compare;
 mod generate;
 #[cfg(test)]

@@ -7,8 +7,8 @@ use denote.Ref.{now}
 use borrow.Author.Needs.{needs}
 use Rattle.byte_words.specs.Words.{digitsIn}
 use Rattle.values.specs.Truth.{turned}
-use Rattle.block_words.specs.Columns.{bit, fieldAt, tested}
-use Rattle.block_words.proofs.Rights.{asked-related}
+use Rattle.block_truths.specs.Columns.{bit, fieldAt, tested}
+use Rattle.block_truths.proofs.Rights.{asked-related}
 use Rattle.field_pairs.proofs.relate_fields.Statement.{statement}
 use Rattle.field_pairs.proofs.relate_fields.Tie as tie
 

@@ -8,8 +8,8 @@ use lib.ListN.{getD}
 use borrow.Author.Needs.{needs}
 use Rattle.byte_words.specs.Words.{digitsIn}
 use Rattle.places.proofs.Storing.{none-stored, stores}
-use Rattle.block_words.specs.Columns.{Field}
-use Rattle.block_words.proofs.Bases.{next-base, ends-inside, field-there}
+use Rattle.block_truths.specs.Columns.{Field}
+use Rattle.field_words.proofs.Bases.{next-base, ends-inside, field-there}
 use Rattle.field_pairs.proofs.Tested.{Tested}
 use Rattle.field_pairs.proofs.same_fields.Statement.{statement}
 use Rattle.field_pairs.proofs.same_fields.Tie as tie

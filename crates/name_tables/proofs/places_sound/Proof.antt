@@ -6,7 +6,7 @@ use mathlib.Core.Bool.{true}
 use denote.Ref.{now}
 use Rattle.tables.proofs.Lines.{passes, fails}
 use Rattle.values.specs.Names.{every}
-use Rattle.names.specs.Ranges.{placeOf}
+use Rattle.literal_sides.specs.Ranges.{placeOf}
 use Rattle.names.proofs.Counting.{all-yet, every-more, every-fails}
 use Rattle.name_tables.proofs.places_sound.Statement.{statement}
 use Rattle.name_tables.proofs.places_sound.Tie as tie

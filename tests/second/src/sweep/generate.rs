@@ -41,7 +41,7 @@ pub fn case(seed: u64, index: u64) -> Case {
 }
 
 /// A file of so many records that sweep takes.
-#[cfg(feature = "sweep")]
+#[cfg(feature = "library")]
 pub fn long_file(seed: u64, count: usize) -> Case {
     let mut random = Random::new(seed ^ 0x53EE_9001, 0);
     loop {

@@ -9,7 +9,7 @@ use borrow.Author.Needs.{needs}
 use Rattle.tables.specs.Operands.{lendNames}
 use Rattle.values.specs.Truth.{outcome, Readable}
 use Rattle.places.proofs.Storing.{Stored, none-stored, stores, skips}
-use Rattle.block_words.proofs.Bases.{next-base}
+use Rattle.field_words.proofs.Bases.{next-base}
 use Rattle.blocks.proofs.Judging.{Told, judged, passed-by}
 use Rattle.blocks.proofs.rows.judge_each.Statement.{statement}
 use Rattle.blocks.proofs.rows.judge_each.Tie as tie

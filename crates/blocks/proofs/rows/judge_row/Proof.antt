@@ -9,7 +9,7 @@ use denote.Ref.{now}
 use borrow.Author.Tests.{eqb-true, not-true}
 use Rattle.tables.specs.Operands.{lendNames}
 use Rattle.tables.proofs.Tests.{both}
-use Rattle.block_words.proofs.Firsts.{first-within, first-readable}
+use Rattle.block_truths.proofs.Firsts.{first-within, first-readable}
 use Rattle.blocks.proofs.Judging.{once}
 use borrow.Author.Needs.{needs}
 use Rattle.blocks.proofs.rows.judge_row.Statement.{statement}

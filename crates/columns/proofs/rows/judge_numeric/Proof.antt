@@ -14,7 +14,7 @@ use Rattle.values.specs.Truth.{Sided}
 use Rattle.values.proofs.Reading.{read-class}
 use Rattle.digit_words.specs.Words.{fitsWord}
 use Rattle.byte_words.proofs.WordLaws.{bytes-of}
-use Rattle.block_words.proofs.Firsts.{first-readable}
+use Rattle.block_truths.proofs.Firsts.{first-readable}
 use Rattle.columns.proofs.Sides.{field-of, numeric-right}
 use Rattle.columns.proofs.rows.judge_numeric.Statement.{statement}
 use Rattle.columns.proofs.rows.judge_numeric.Tie as tie

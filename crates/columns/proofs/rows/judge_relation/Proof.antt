@@ -13,7 +13,7 @@ use Rattle.tables.proofs.Tests.{both}
 use Rattle.values.specs.Truth.{Sided}
 use Rattle.values.proofs.Reading.{read-relation}
 use Rattle.byte_words.proofs.WordLaws.{Bytes, bytes-of}
-use Rattle.block_words.proofs.Firsts.{first-readable, first-within, within-unnamed}
+use Rattle.block_truths.proofs.Firsts.{first-readable, first-within, within-unnamed}
 use Rattle.columns.proofs.Sides.{Worded, field-of, word-size, items-right, object-right, subject-right}
 use Rattle.columns.proofs.rows.judge_relation.Statement.{statement}
 use Rattle.columns.proofs.rows.judge_relation.Tie as tie

@@ -12,8 +12,8 @@ use Rattle.compare.specs.Classes.{classHolds}
 use Rattle.values.specs.Comparison.{side}
 use Rattle.values.specs.Truth.{truth, turned, classOutcome}
 use Rattle.values.proofs.Reading.{some-bytes}
-use Rattle.block_words.specs.Columns.{recordAt, Right}
-use Rattle.block_words.proofs.Bases.{next-base}
+use Rattle.block_truths.specs.Columns.{recordAt, Right}
+use Rattle.field_words.proofs.Bases.{next-base}
 use Rattle.places.proofs.Storing.{Stored, none-stored, stores, skips}
 use Rattle.field_rows.proofs.Fitting.{right-for, at-record, part-inside}
 use Rattle.field_rows.proofs.each.classify_each.Statement.{statement}

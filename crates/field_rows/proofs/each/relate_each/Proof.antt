@@ -11,8 +11,8 @@ use borrow.Author.Needs.{needs}
 use Rattle.tables.specs.Rows.{part}
 use Rattle.values.specs.Comparison.{side}
 use Rattle.values.specs.Truth.{relationOutcome}
-use Rattle.block_words.specs.Columns.{recordAt, Right}
-use Rattle.block_words.proofs.Bases.{next-base}
+use Rattle.block_truths.specs.Columns.{recordAt, Right}
+use Rattle.field_words.proofs.Bases.{next-base}
 use Rattle.places.proofs.Storing.{Stored, none-stored, stores, skips}
 use Rattle.field_rows.proofs.Fitting.{right-for, at-record, item-inside}
 use Rattle.field_rows.proofs.each.relate_each.Statement.{statement}

@@ -2,7 +2,7 @@
 use mathlib.Core.Path.{refl}
 use mathlib.Core.Bool.{true, false}
 use borrow.Author.Needs.{needs}
-use Rattle.block_words.proofs.Rights.{bit-right, two-right}
+use Rattle.block_truths.proofs.Rights.{bit-right, two-right}
 use Rattle.field_rows.proofs.each.truth_number.Statement.{statement}
 use Rattle.field_rows.proofs.each.truth_number.Tie as tie
 

@@ -8,7 +8,7 @@ use Rattle.tables.proofs.Tests.{both}
 use Rattle.values.specs.Comparison.{side}
 use Rattle.values.proofs.Reading.{by-value}
 use Rattle.values.proofs.Faults.{number-faulty, relation-goes}
-use Rattle.block_words.proofs.Rights.{two-right}
+use Rattle.block_truths.proofs.Rights.{two-right}
 use Rattle.field_rows.proofs.Fitting.{right-for}
 use Rattle.field_rows.proofs.each.value_truth.Statement.{statement}
 use Rattle.field_rows.proofs.each.value_truth.Tie as tie

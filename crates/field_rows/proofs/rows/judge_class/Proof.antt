@@ -1,7 +1,7 @@
 -- Rests on the side of a record being the one that is looked up, and on what `classify_each` ensures.
 use borrow.Author.Needs.{needs}
 use Rattle.values.proofs.Reading.{read-class}
-use Rattle.block_words.proofs.Firsts.{first-readable}
+use Rattle.block_truths.proofs.Firsts.{first-readable}
 use Rattle.field_rows.proofs.Fitting.{right-for, item-fits, class-is}
 use Rattle.field_rows.proofs.rows.judge_class.Statement.{statement}
 use Rattle.field_rows.proofs.rows.judge_class.Tie as tie

@@ -6,8 +6,8 @@ use denote.Ref.{now}
 use borrow.Author.Needs.{needs}
 use Rattle.tables.specs.Operands.{lendNames}
 use Rattle.values.proofs.Reading.{read-relation}
-use Rattle.block_words.specs.Columns.{recordAt}
-use Rattle.block_words.proofs.Firsts.{first-readable, first-within, within-unnamed}
+use Rattle.block_truths.specs.Columns.{recordAt}
+use Rattle.block_truths.proofs.Firsts.{first-readable, first-within, within-unnamed}
 use Rattle.field_rows.proofs.Fitting.{right-for, side-here, side-fits, relation-is}
 use Rattle.field_rows.proofs.rows.judge_relation.Statement.{statement}
 use Rattle.field_rows.proofs.rows.judge_relation.Tie as tie

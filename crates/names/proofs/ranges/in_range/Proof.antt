@@ -1,5 +1,5 @@
 -- Of a single value one comparison tells; else the low end and then the high end.
-use mathlib.Core.Path.{sym, ap, _∙_}
+use mathlib.Core.Path.{_≡_, sym, ap, _∙_}
 use mathlib.Core.Bool.{true, _&&_}
 use mathlib.Core.List.{[]}
 use denote.Ref.{now}
@@ -33,7 +33,9 @@ relation-holds-requires-2 : tie.Need-relation-holds-requires-2
 relation-holds-requires-2 c κs = search needs
 
 returns-2 : tie.Need-returns-2
-returns-2 c = rw (fails (rw (c .before .before .before .compare-end .ensures) at (c .before .relation-holds2 .ensures)) (c .if2 .taken))
+returns-2 c =
+    let low : c .before .relation-holds2 .result ≡ relationHolds 8 (c .before .before .before .compare-end .result) = c .before .relation-holds2 .ensures in
+    rw (fails (low ∙ ap (relationHolds 8) (c .before .before .before .compare-end .ensures)) (c .if2 .taken))
 
 compare-end-requires-2 : tie.Need-compare-end-requires-2
 compare-end-requires-2 c κs = search needs
@@ -43,8 +45,8 @@ relation-holds-requires-3 c κs = search needs
 
 returns-3 : tie.Need-returns-3
 returns-3 c =
-    rw (passes (rw (c .before .before .before .before .before .compare-end .ensures) at (c .before .before .before .relation-holds2 .ensures)) (c .before .before .if2 .left))
-    (rw (c .before .compare-end2 .ensures) at (c .relation-holds3 .ensures))
+    rw (passes (c .before .before .before .relation-holds2 .ensures ∙ ap (relationHolds 8) (c .before .before .before .before .before .compare-end .ensures)) (c .before .before .if2 .left))
+    (c .relation-holds3 .ensures ∙ ap (relationHolds 9) (c .before .compare-end2 .ensures))
 
 pub in-range-spec : {M : Type 1} → statement M
 in-range-spec =

@@ -1,5 +1,5 @@
 -- The invariant: none of the ranges passed holds the item.
-use Prim.Native.Nat.{_-_, _≤_, ℕ}
+use Prim.Native.Nat.{_-_, _≤_, _<_, ℕ}
 use native.Mathlib.Omega.{arith}
 use mathlib.Core.Path.{_≡_, sym, ap, _∙_}
 use mathlib.Core.Bool.{Bool, true, false}
@@ -63,7 +63,8 @@ number-at-requires-3 c κs = omega arith
 in-range-requires : tie.Need-in-range-requires Inv-loop μ-loop
 in-range-requires c κs =
     let start = c .before .before .before .before .before .before .before .before .before in
-    let l = rw (c .before .before .before .before .number-at .ensures) at (c .before .before .loop-test .taken) in
+    let l : c .before .before .before .loop .k < namePairs (now (start .args .names)) (start .args .v) =
+    omega (arith, c .before .before .before .before .number-at .ensures, c .before .before .loop-test .taken) in
     let low = start .pre .1 .1 .low (c .before .before .before .loop .k) l in
     let high = start .pre .1 .1 .high (c .before .before .before .loop .k) l in
     (start .pre .0, (start .pre .1 .0, rw (c .before .number-at2 .ensures) low, rw (c .number-at3 .ensures) high))

@@ -18,6 +18,17 @@ abbrev μ-loop : tie.MeasureT-loop
 loop-holds : tie.Need-loop-holds Inv-loop μ-loop
 loop-holds c = (omega arith, (refl, refl))
 
+loop-again : tie.Need-loop-again Inv-loop μ-loop
+loop-again c = (
+  omega arith,
+  (
+    simp length-set (c .before .before .loop .inv .1 .0),
+    copy-more (now (c .before .before .before .args .from))
+        (now (c .before .before .before .args .to)) (c .before .before .loop .i) (omega (arith, c .before .before .before .pre .0))
+        (omega (arith, c .before .before .before .pre .1)) (c .before .before .loop .inv .1 .1),
+  ),
+)
+
 mul-to : tie.Need-mul-to Inv-loop μ-loop
 mul-to c = omega (arith, c .before .before .pre .0, c .before .before .pre .1, c .before .loop .inv .1 .0)
 
@@ -35,17 +46,6 @@ add-i c = omega (arith, c .before .before .before .pre .0, c .before .before .be
 
 loop-less : tie.Need-loop-less Inv-loop μ-loop
 loop-less c = omega (arith, c .before .before .before .pre .0, c .before .before .before .pre .1, c .before .before .loop .inv .1 .0)
-
-loop-again : tie.Need-loop-again Inv-loop μ-loop
-loop-again c = (
-  omega arith,
-  (
-    simp length-set (c .before .before .loop .inv .1 .0),
-    copy-more (now (c .before .before .before .args .from))
-        (now (c .before .before .before .args .to)) (c .before .before .loop .i) (omega (arith, c .before .before .before .pre .0))
-        (omega (arith, c .before .before .before .pre .1)) (c .before .before .loop .inv .1 .1),
-  ),
-)
 
 same-length : tie.Need-same-length Inv-loop μ-loop
 same-length c = c .before .loop .inv .1 .0

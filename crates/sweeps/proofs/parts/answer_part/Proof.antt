@@ -8,8 +8,8 @@ use lib.Seq.{sets, length-sets}
 use denote.Ref.{now}
 use borrow.Author.Needs.{needs}
 use Rattle.tables.specs.Operands.{lendNames}
-use Rattle.block_words.specs.Columns.{recordAt}
-use Rattle.block_words.proofs.Bases.{next-base}
+use Rattle.block_truths.specs.Columns.{recordAt}
+use Rattle.field_words.proofs.Bases.{next-base}
 use Rattle.rules.specs.Calls.{runGives}
 use Rattle.rules.proofs.Places.{run-fits}
 use Rattle.sweeps.specs.Sweep.{laid, answerOf, answersOf}

@@ -12,7 +12,7 @@ use Rattle.tables.proofs.Tests.{both}
 use Rattle.values.specs.Truth.{Sided}
 use Rattle.values.proofs.Reading.{read-relation}
 use Rattle.byte_words.proofs.WordLaws.{Bytes, bytes-of}
-use Rattle.block_words.proofs.Firsts.{first-readable, first-within, item-inside, within-unnamed}
+use Rattle.block_truths.proofs.Firsts.{first-readable, first-within, item-inside, within-unnamed}
 use Rattle.text_columns.proofs.Sides.{Texts, longer, short, text-of, literal-of, items-right, object-right, subject-right}
 use borrow.Author.Needs.{needs}
 use Rattle.text_columns.proofs.rows.judge_relation.Statement.{statement}

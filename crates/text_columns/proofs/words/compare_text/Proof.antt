@@ -6,8 +6,8 @@ use native.Mathlib.Omega.{arith}
 use lib.ListN.{getD}
 use borrow.Author.Needs.{needs}
 use Rattle.places.proofs.Storing.{Stored, none-stored, stores}
-use Rattle.block_words.specs.Columns.{compared}
-use Rattle.block_words.proofs.Bases.{next-base, ends-inside}
+use Rattle.block_truths.specs.Columns.{compared}
+use Rattle.field_words.proofs.Bases.{next-base, ends-inside}
 use Rattle.text_columns.specs.TextColumns.{textAt, Text}
 use Rattle.text_columns.proofs.Sides.{text-there}
 use Rattle.text_columns.proofs.words.compare_text.Statement.{statement}

@@ -1,0 +1,3 @@
+// Items that both copies changed apart.
+
+pub mod apart; // what both copies changed apart

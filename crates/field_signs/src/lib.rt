@@ -1,0 +1,3 @@
+// The sign of a numeric field.
+
+pub mod signs; // signs

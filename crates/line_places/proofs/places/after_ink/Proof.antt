@@ -1,0 +1,58 @@
+-- The first byte without ink.
+use mathlib.Core.Path.{_≡_, refl, sym, ap, _∙_}
+use Prim.Native.Nat.{ℕ, _+_, _-_, _≤_}
+use native.Mathlib.Omega.{arith}
+use lib.ListN.{length, drop}
+use denote.Ref.{now}
+use Rattle.line_places.specs.Places.{afterInk}
+use Rattle.line_places.proofs.Walking.{ink-here, ink-later, ink-done}
+use Rattle.line_places.proofs.places.after_ink.Statement.{statement}
+use Rattle.line_places.proofs.places.after_ink.Tie as tie
+
+abbrev Inv-loop : tie.InvT-loop
+Inv-loop rest i₀ i = (i ≤ length rest) × (afterInk (drop i rest) ≡ afterInk rest)
+
+abbrev μ-loop : tie.MeasureT-loop
+μ-loop rest i₀ i = length rest - i
+
+loop-holds : tie.Need-loop-holds Inv-loop μ-loop
+loop-holds c = (omega arith, refl)
+
+shared-slice-read-byte : tie.Need-shared-slice-read-byte Inv-loop μ-loop
+shared-slice-read-byte c = c .before .loop-test .taken
+
+returns : tie.Need-returns Inv-loop μ-loop
+returns c =
+    let l = c .before .before .before .loop in
+    sym (ink-here (now (c .before .before .before .before .args .rest)) (l .i) (c .before .before .loop-test .taken) (c .if1 .taken)) ∙ l .inv .1
+
+add-i : tie.Need-add-i Inv-loop μ-loop
+add-i c = omega (arith, c .before .before .loop-test .taken)
+
+loop-less : tie.Need-loop-less Inv-loop μ-loop
+loop-less c = omega (arith, c .before .before .loop-test .taken)
+
+loop-again : tie.Need-loop-again Inv-loop μ-loop
+loop-again c =
+    let l = c .before .before .before .loop in
+    let t = c .before .before .loop-test .taken in
+    (omega (arith, t), ink-later (now (c .before .before .before .before .args .rest)) (l .i) t (c .if1 .left) ∙ l .inv .1)
+
+returns-2 : tie.Need-returns-2 Inv-loop μ-loop
+returns-2 c =
+    let l = c .before .loop in
+    sym (ink-done (now (c .before .before .args .rest)) (l .i) (l .inv .0) (c .loop-test .left)) ∙ l .inv .1
+
+pub after-ink-spec : {M : Type 1} → statement M
+after-ink-spec =
+    tie.close
+    (tie.spec
+    Inv-loop
+    μ-loop
+    loop-holds
+    shared-slice-read-byte
+    returns
+    add-i
+    loop-less
+    loop-again
+    returns-2)

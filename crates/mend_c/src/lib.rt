@@ -1,0 +1,3 @@
+// The call that mends, for C and COBOL, told as `answers` says.
+
+pub mod mend; // mending

@@ -1,0 +1,3 @@
+// Numbers as text in a lent buffer: decimal, and bytes in hexadecimal.
+
+pub mod numbers; // decimal numbers, and bytes in hexadecimal

@@ -1,0 +1,3 @@
+// A plan's rows, read.
+
+pub mod rows; // one row

@@ -1,0 +1,3 @@
+// How print's answer is told to C and COBOL, as `answers` says.
+
+pub mod printed; // of print

@@ -1,0 +1,3 @@
+// Conditions as printed: the call that prints.
+
+pub mod printing; // a condition as text

@@ -1,0 +1,3 @@
+// What makes a row of a table sound.
+
+pub mod sound; // what makes a row sound

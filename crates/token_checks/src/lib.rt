@@ -1,0 +1,3 @@
+// Refusals 5 and 6: tokens.
+
+pub mod tokens; // tokens
