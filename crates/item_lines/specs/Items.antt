@@ -1,4 +1,4 @@
--- What `logbook items`, `rule`, `differ`, `mend` and `merge` say of items.
+-- What `logbook items` says of an item.
 use mathlib.Core.List.{List, [], _∷_}
 use Prim.Native.Nat.{ℕ}
 use Rattle.content.specs.declared.Row.{Row}
