@@ -107,6 +107,15 @@ pub eight-listed : (xs : List ℕ) (at : ℕ) {word : ℕ} → at + 8 ≤ length
     → word ≡ wordFrom 0 (take 8 (drop at xs))
 eight-listed xs at h e = e ∙ ap (wordFrom 0) (sym (rw (add-zero at) at (take-listed xs at 0 8 (omega arith))))
 
+-- the first four, after four bytes of 0, with the bits of hex 30 turned over
+pub four-listed : {xs : List ℕ} → Bytes xs → 4 ≤ length xs → {word : ℕ}
+    → word ≡ wordFrom 0 (0 ∷ 0 ∷ 0 ∷ 0 ∷ getD xs 0 0 ∷ getD xs 1 0 ∷ getD xs 2 0 ∷ getD xs 3 0 ∷ [])
+    → bitXor word 0x30303030 ≡ digitWord (take 4 xs)
+unfolding wordFrom
+four-listed {xs} b h e =
+    ap (λ (n : ℕ). bitXor n 0x30303030) (e ∙ ap (wordFrom 0) (sym (take-listed xs 0 0 4 (omega arith))))
+    ∙ (rw (length-take-le 4 xs h) at (turned-over 0 0 (bytes-take 4 b)))
+
 -- a field is the end of the 8 bytes before its end
 pub ends-there : (xs : List ℕ) (end size : ℕ) → 8 ≤ end → size ≤ 8
     → take 8 (drop (end - 8) xs) ≡ take (8 - size) (drop (end - 8) xs) ++ take size (drop (end - size) xs)

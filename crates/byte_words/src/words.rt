@@ -66,16 +66,35 @@ fn digit_of(b: u8) -> u64
     wide(b ^ 0x30)
 }
 
-// The same of a field that may have fewer than 8 bytes before its end, as a literal's: byte by byte.
-pub fn short_word(bytes: &[u8]) -> u64
-    requires { ⌜ length (now bytes) ≤ 8 ⌝ }
+// The word of a field's first 4 bytes, flat as well.
+fn first_four(bytes: &[u8]) -> u64
+    requires { ⌜ 4 ≤ length (now bytes) ⌝ }
+    ensures { λ r. ⌜ r ≡ digitWord (take 4 (now (bytes .entry))) ⌝ }
+{
+    join(0, 0, 0, 0, bytes[0], bytes[1], bytes[2], bytes[3]) ^ 0x30303030
+}
+
+// What is left of a field after the word of its first bytes, byte by byte.
+fn longer_word(bytes: &[u8], from: usize, first: u64) -> u64
+    requires { ⌜ (from ≤ length (now bytes)) × (length (now bytes) ≤ 8) × (first ≡ digitWord (take from (now bytes))) ⌝ }
     ensures { λ r. ⌜ r ≡ digitWord (now (bytes .entry)) ⌝ }
 {
-    let mut word: u64 = 0;
-    let mut i: usize = 0;
+    let mut word = first;
+    let mut i = from;
     while i < bytes.len() {
         word = word * 256 + digit_of(bytes[i]);
         i += 1;
     }
     word
+}
+
+// The same of a field that may have fewer than 8 bytes before its end, as a part of a record or a literal.
+pub fn short_word(bytes: &[u8]) -> u64
+    requires { ⌜ length (now bytes) ≤ 8 ⌝ }
+    ensures { λ r. ⌜ r ≡ digitWord (now (bytes .entry)) ⌝ }
+{
+    if 4 <= bytes.len() {
+        return longer_word(bytes, 4, first_four(bytes));
+    }
+    longer_word(bytes, 0, 0)
 }

@@ -1,15 +1,16 @@
 // The lines of the table of refusals that look at tables and the record: 1 to 4 and 12.
 ghost use mathlib.Core.Path.{_≡_};
-ghost use mathlib.Core.Bool.{false};
+ghost use mathlib.Core.Bool.{true};
 ghost use mathlib.Core.List.{[]};
-ghost use lib.Dec.{eqb};
-ghost use Rattle.compare.specs.Fields.{NumberField};
+ghost use Prim.Native.Nat.{_≤_};
+ghost use lib.ListN.{length};
 ghost use Rattle.content.specs.WrongByte.{validContent};
 ghost use Rattle.tables.specs.Operands.{lend};
 ghost use Rattle.tables.specs.Refusals.{firstOf};
-ghost use Rattle.tables.specs.Tables.{lengthSound, literalSound, itemRowCheck, literalRowCheck, tableLines, recordCheck};
+ghost use Rattle.tables.specs.Tables.{lengthSound, isLiteralKind, literalSound, itemRowCheck, literalRowCheck, tableLines, recordCheck};
 use content::Row;
-use numbers::reading::read_number;
+use field_signs::signs::is_sign;
+use numbers::reading::only_digits;
 use row_rules::sound::row_sound;
 use tables::Check;
 use tables::Refusal;
@@ -38,16 +39,19 @@ fn check_item_rows(items: &[u32]) -> Check
     Check::Sound
 }
 
-// A literal's content; of a number its digits are read eight at once, which costs less than to ask for each.
+// A literal's content; digits are looked at eight at once, which costs less than to ask for each.
 fn literal_valid(row: Row, bytes: &[u8]) -> bool
-    requires { ⌜ (eqb (row .kind) 2 ≡ false → NumberField (row .kind) (now bytes)) ⌝ }
+    requires { ⌜ (isLiteralKind (row .kind) ≡ true) × (1 ≤ length (now bytes)) ⌝ }
     ensures { λ r. ⌜ r ≡ validContent (row .kind) (row .digits) (now (bytes .entry)) ⌝ }
 {
-    if row.kind == Row::ALPHANUMERIC {
+    let kind = row.kind;
+    if kind == Row::ALPHANUMERIC {
         return true;
     }
-    let number = read_number(row, bytes);
-    number.valid
+    if kind == Row::UNSIGNED {
+        return only_digits(bytes);
+    }
+    is_sign(bytes[0]) & only_digits(&bytes[1..])
 }
 
 fn literal_sound(row: Row, bytes: &[u8]) -> bool

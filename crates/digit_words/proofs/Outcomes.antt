@@ -1,6 +1,6 @@
 -- What a simple condition comes to, told by the words of its sides: relations of two rows that are read as words, at one scale, and NUMERIC of one.
 use mathlib.Core.Path.{_≡_, refl, sym, ap, _∙_}
-use mathlib.Core.Bool.{Bool, true, false, not, cond, _&&_, and-false}
+use mathlib.Core.Bool.{Bool, true, false, not, cond}
 use mathlib.Core.List.{List}
 use Prim.Native.Nat.{ℕ, _+_, _-_, _≤_}
 use native.Mathlib.Omega.{arith}
@@ -10,21 +10,21 @@ use lib.Seq.{take-take, drop-drop}
 use borrow.Author.Tests.{leb-true, eqb-true}
 use Rattle.content.specs.Content.{all, isDigit, numberFrom}
 use Rattle.tables.proofs.Tests.{both}
-use Rattle.compare.specs.Order.{order}
+use Rattle.compare.specs.Order.{order, relationHolds}
 use Rattle.compare.specs.Classes.{classHolds}
-use Rattle.content.specs.WrongByte.{nowhere, validContent}
+use Rattle.content.specs.WrongByte.{nowhere}
 use Rattle.content.proofs.WrongByte.{valid-digits}
 use Rattle.content.specs.declared.Row.{Row}
-use Rattle.tables.specs.Rows.{isGroup, rowAt, part}
+use Rattle.tables.specs.Rows.{rowAt, part}
 use Rattle.tables.specs.Tokens.{isItem, indexOf}
 use Rattle.tables.specs.Operands.{Lent, rowOf, operandBytes}
 use Rattle.typing.specs.declared.Test.the-variants.{Relation, Class}
 use Rattle.typing.specs.Tests.{testOf}
 use Rattle.numbers.proofs.NumberLaws.{same-scale}
 use Rattle.values.specs.Comparison.{Side, sideOf, numeric, comparison, fault}
-use Rattle.values.specs.Truth.{truth, turned, outcome}
+use Rattle.values.specs.Truth.{truth, turned, outcome, relationOutcome}
 use Rattle.values.proofs.Reading.{by-value}
-use Rattle.values.proofs.Faults.{fault-flag, relation-goes}
+use Rattle.values.proofs.Faults.{valid-faultless, relation-goes}
 use Rattle.byte_words.specs.Words.{digitWord, digitsIn}
 use Rattle.digit_words.specs.Words.{fitsWord}
 use Rattle.digit_words.specs.Asked.{askedOf, answered}
@@ -44,12 +44,8 @@ module _ (s o : Side) (k : s .row .kind ≡ 3) (l : o .row .kind ≡ 3) where
       ∙ rw (k, l) (same-scale (numberFrom 0 (s .bytes)) (numberFrom 0 (o .bytes)) e)
 
 -- digits have no fault
-no-fault : (s : Side) (other : Row) → s .row .kind ≡ 3 → all isDigit (s .bytes) ≡ true → not (nowhere (fault s other)) ≡ false
-no-fault s other k d =
-    let valid : validContent (s .row .kind) (s .row .digits) (s .bytes) ≡ true = rw k (valid-digits (s .row .digits) (s .bytes) ∙ d) in
-    sym (fault-flag s other)
-    ∙ ap (λ (t : Bool). s .item && not (isGroup other) && not t) valid
-    ∙ and-false (s .item && not (isGroup other))
+digits-faultless : (s : Side) (other : Row) → s .row .kind ≡ 3 → all isDigit (s .bytes) ≡ true → not (nowhere (fault s other)) ≡ false
+digits-faultless s other k d = valid-faultless s other (rw k (valid-digits (s .row .digits) (s .bytes) ∙ d))
 
 -- NUMERIC of unsigned digits
 numeric-digits : (s : Side) → s .row .kind ≡ 3 → classHolds 10 (s .row .kind) (s .row .digits) (s .bytes) ≡ all isDigit (s .bytes)
@@ -102,10 +98,23 @@ item-field lent file base len token end i h e = rw i (in-file (rowAt (lent .item
         ∙ rw at (ap (take (row .size)) (drop-drop (row .offset) base file))
 
 -- what a row says that is read as a word
-word-row : (row : Row) → fitsWord row ≡ true → (row .kind ≡ 3) × (row .size ≤ 8)
+pub word-row : (row : Row) → fitsWord row ≡ true → (row .kind ≡ 3) × (row .size ≤ 8)
 word-row row e =
     let p = both (eqb (row .kind) _) (leb (row .size) _) e in
     (eqb-true _ _ (p .0), leb-true _ _ (p .1))
+
+-- a relation of two fields of digits at one scale, by their words
+pub words-outcome : (word : ℕ) (negated : Bool) (s o : Side) → fitsWord (s .row) ≡ true → fitsWord (o .row) ≡ true → s .row .scale ≡ o .row .scale
+    → Bytes (s .bytes) → Bytes (o .bytes) → length (s .bytes) ≤ s .row .size → length (o .bytes) ≤ o .row .size
+    → digitsIn 8 (digitWord (s .bytes)) ≡ true → digitsIn 8 (digitWord (o .bytes)) ≡ true
+    → truth (turned negated (relationHolds word (order (digitWord (s .bytes)) (digitWord (o .bytes))))) ≡ relationOutcome word negated s o
+words-outcome word negated s o f g scale b1 b2 m1 m2 d1 d2 =
+    let k = word-row (s .row) f in
+    let l = word-row (o .row) g in
+    let t1 = sym (word-test b1 (omega (arith, m1, k .1))) ∙ d1 in
+    let t2 = sym (word-test b2 (omega (arith, m2, l .1))) ∙ d2 in
+    relation-goes word negated {s = s} {s' = s} {o = o} {o' = o} refl refl (digits-faultless s (o .row) (k .0) t1) (digits-faultless o (s .row) (l .0) t2)
+    (word-order b1 b2 t1 t2 ∙ sym (words-compare s o (k .0) (l .0) scale))
 
 module _ (lent : Lent) (content : List ℕ) (switches subject relation object : ℕ) where
   pub relation-by-words : {word : ℕ} {negated : Bool} → testOf relation ≡ Relation word negated
@@ -120,14 +129,8 @@ module _ (lent : Lent) (content : List ℕ) (switches subject relation object : 
   relation-by-words {word} {negated} e f g scale b1 b2 d1 d2 =
       let s = sideOf lent content subject in
       let o = sideOf lent content object in
-      let k = word-row (rowOf lent subject) f in
-      let l = word-row (rowOf lent object) g in
-      let t1 = sym (word-test b1 (omega (arith, operand-most lent content subject, k .1))) ∙ d1 in
-      let t2 = sym (word-test b2 (omega (arith, operand-most lent content object, l .1))) ∙ d2 in
       rw e
-      (sym
-      (relation-goes word negated {s = s} {s' = s} {o = o} {o' = o} refl refl (no-fault s (o .row) (k .0) t1) (no-fault o (s .row) (l .0) t2)
-      (word-order b1 b2 t1 t2 ∙ sym (words-compare s o (k .0) (l .0) scale)))
+      (sym (words-outcome word negated s o f g scale b1 b2 (operand-most lent content subject) (operand-most lent content object) d1 d2)
       ∙ ap truth (asked-answers word negated (digitWord (s .bytes)) (digitWord (o .bytes))))
 
   pub numeric-by-word : {negated : Bool} → testOf relation ≡ Class 10 negated → fitsWord (rowOf lent subject) ≡ true

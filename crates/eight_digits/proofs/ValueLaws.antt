@@ -1,7 +1,7 @@
 -- The number that a word's digits write, its bytes' right halves taken by twos, by fours and by eights.
 use mathlib.Core.Path.{_≡_, refl, sym, ap, ap₂, _∙_}
 use mathlib.Core.List.{List, map}
-use Prim.Native.Nat.{ℕ, zero, suc, _+_, _*_, _/_, _%_, _^_, _≤_, _<_}
+use Prim.Native.Nat.{ℕ, zero, suc, _+_, _-_, _*_, _/_, _%_, _^_, _≤_, _<_}
 use native.Mathlib.Omega.{arith}
 use native.Mathlib.Nat.{mod-lt, zero-add}
 use lib.Arith.{digits-div}
@@ -114,7 +114,13 @@ value-from j n (more {x} {xs} l h) =
     ∙ value-from (suc j) (n * 256 + digitOf x) h
     ∙ ap₂ (λ (a b : ℕ). numberFrom (valueIn j a * 10 + b) xs) d r
 
--- the word of eight digits writes the number that they write
-pub eight-digits : {xs : List ℕ} → Bytes xs → length xs ≡ 8 → valueIn 8 (digitWord xs) ≡ numberFrom 0 xs
+-- the word of up to eight digits writes the number that they write
+no-value : (k : ℕ) → valueIn k 0 ≡ 0
 unfolding valueIn
-eight-digits {xs} h e = rw e at (value-from 0 0 h)
+no-value zero = refl
+no-value (suc k) = rw (no-value k)
+
+pub word-value : {xs : List ℕ} → Bytes xs → length xs ≤ 8 → valueIn 8 (digitWord xs) ≡ numberFrom 0 xs
+word-value {xs} h l =
+    let most : length xs + (8 - length xs) ≡ 8 = omega arith in
+    rw (most, no-value (8 - length xs)) at (value-from (8 - length xs) 0 h)

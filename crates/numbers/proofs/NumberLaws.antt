@@ -23,7 +23,7 @@ use Rattle.compare.proofs.OrderLaws.{order-lt, order-eq, order-gt}
 use Rattle.byte_words.specs.Words.{digitWord, digitsIn, valueIn}
 use Rattle.byte_words.proofs.WordLaws.{Bytes, bytes-take, bytes-drop}
 use Rattle.eight_digits.proofs.DigitLaws.{word-test}
-use Rattle.eight_digits.proofs.ValueLaws.{eight-digits}
+use Rattle.eight_digits.proofs.ValueLaws.{word-value}
 
 pub order-same : (a b x y : ℕ) → (x < y → a < b) → (x ≡ y → a ≡ b) → (y < x → b < a) → order a b ≡ order x y
 order-same a b x y f e g = go (decLt x y) (decLt y x)
@@ -113,11 +113,22 @@ module _ (xs : List ℕ) (i : ℕ) (h : i + 8 ≤ length xs) where
     eight-valid e = e ∙ ap (digitsIn 8) word-here ∙ word-test small (omega (arith, eight-there))
 
     pub eight-number : {r : ℕ} → r ≡ valueIn 8 word → r ≡ numberFrom 0 (take 8 (drop i xs))
-    eight-number e = e ∙ ap (valueIn 8) word-here ∙ eight-digits small eight-there
+    eight-number e = e ∙ ap (valueIn 8) word-here ∙ word-value small (omega (arith, eight-there))
 
   -- and room for them
   pub eight-room : length xs ≤ 18 → numberFrom 0 (take (i + 8) xs) ≤ 2 * 10 ^ 18
   eight-room few = omega (arith, number-small xs (i + 8) h, ten-most (i + 8) (omega arith))
+
+-- the first digits of a field, fewer than eight, told by their word; after them there are eights
+pub head-length : (xs : List ℕ) → length (take (length xs % 8) xs) ≡ length xs % 8
+head-length xs = length-take-le (length xs % 8) xs (omega arith)
+
+module _ {xs : List ℕ} (b : Bytes xs) {word : ℕ} (w : word ≡ digitWord (take (length xs % 8) xs)) where
+  pub head-valid : {r : Bool} → r ≡ digitsIn 8 word → r ≡ all isDigit (take (length xs % 8) xs)
+  head-valid e = e ∙ ap (digitsIn 8) w ∙ word-test (bytes-take (length xs % 8) b) (omega (arith, head-length xs))
+
+  pub head-number : {r : ℕ} → r ≡ valueIn 8 word → r ≡ numberFrom 0 (take (length xs % 8) xs)
+  head-number e = e ∙ ap (valueIn 8) w ∙ word-value (bytes-take (length xs % 8) b) (omega (arith, head-length xs))
 
 -- the same of pairs of digits, and how large ten bytes can be
 packed-append : (n : ℕ) (xs : List ℕ) (b : ℕ) → packedFrom n (xs ++ b ∷ []) ≡ packedFrom n xs * 100 + leftHalf b * 10 + rightHalf b

@@ -1,13 +1,16 @@
 // What a numeric field holds, in one pass over its bytes.
 ghost use mathlib.Core.Path.{_≡_};
-ghost use mathlib.Core.Bool.{true};
+ghost use mathlib.Core.Bool.{true, cond};
 ghost use Prim.Native.Nat.{ℕ, _≤_};
-ghost use lib.ListN.{length, take};
-ghost use Rattle.content.specs.Content.{all, isDigit, numberFrom, digitBytes};
+ghost use lib.Dec.{eqb};
+ghost use lib.ListN.{length};
+ghost use Rattle.content.specs.Content.{all, isDigit, digitBytes, butFirst, butLast};
+ghost use Rattle.content.specs.Kinds.{kindUnsigned, kindSignLeading};
 ghost use Rattle.content.specs.Packed.{isPacked};
 ghost use Rattle.compare.specs.Compared.{numberOf, pairsOf};
 ghost use Rattle.compare.specs.Fields.{NumberField};
 use byte_words::words::field_word;
+use byte_words::words::short_word;
 use compare::Number;
 use content::Row;
 use content::rows::is_packed;
@@ -27,49 +30,41 @@ fn wide(x: u8) -> u64
     x as u64
 }
 
-fn is_digit(b: u8) -> bool
-    ensures { λ r. ⌜ r ≡ isDigit b ⌝ }
+// Whether there are digits alone, eight at once; those that are more than eights come first.
+pub fn only_digits(bytes: &[u8]) -> bool
+    ensures { λ r. ⌜ r ≡ all isDigit (now (bytes .entry)) ⌝ }
 {
-    (0x30 <= b) & (b <= 0x39)
+    let head = bytes.len() % 8;
+    let mut fine = all_digits(short_word(&bytes[..head]));
+    let mut i = head;
+    while i < bytes.len() {
+        fine = fine & all_digits(field_word(bytes, i + 8, 8));
+        i += 8;
+    }
+    fine
 }
 
-// What is left of a field of digits after those that were read eight at once.
-fn read_rest(bytes: &[u8], from: usize, valid: bool, number: u64) -> Number
-    requires { ⌜ (from ≤ length (now bytes)) × (length (now bytes) ≤ 18) ⌝ }
-    requires { ⌜ (valid ≡ all isDigit (take from (now bytes))) × (number ≡ numberFrom 0 (take from (now bytes))) ⌝ }
+// A field of digits only, as kind 3 is, in the same way. A digit is the right half of its byte, valid or not, so that each field's number fits.
+fn read_digits(bytes: &[u8]) -> Number
+    requires { ⌜ length (now bytes) ≤ 18 ⌝ }
     ensures { λ r. ⌜ r ≡ numberOf 3 0 (now (bytes .entry)) ⌝ }
 {
-    let mut fine = valid;
-    let mut n = number;
-    let mut i = from;
+    let head = bytes.len() % 8;
+    let first = short_word(&bytes[..head]);
+    let mut fine = all_digits(first);
+    let mut n = digits_value(first);
+    let mut i = head;
     while i < bytes.len() {
-        let b = bytes[i];
-        fine = fine & is_digit(b);
-        n = n * 10 + wide(b % 16);
-        i += 1;
+        let word = field_word(bytes, i + 8, 8);
+        fine = fine & all_digits(word);
+        n = n * 100000000 + digits_value(word);
+        i += 8;
     }
     Number {
         valid: fine,
         minus: false,
         digits: n,
     }
-}
-
-// A field of digits only, as kind 3 is. A digit is the right half of its byte, valid or not, so that each field's number fits.
-fn read_digits(bytes: &[u8]) -> Number
-    requires { ⌜ length (now bytes) ≤ 18 ⌝ }
-    ensures { λ r. ⌜ r ≡ numberOf 3 0 (now (bytes .entry)) ⌝ }
-{
-    let mut fine = true;
-    let mut n: u64 = 0;
-    let mut i: usize = 0;
-    while 8 <= bytes.len() - i {
-        let word = field_word(bytes, i + 8, 8);
-        fine = fine & all_digits(word);
-        n = n * 100000000 + digits_value(word);
-        i += 8;
-    }
-    read_rest(bytes, i, fine, n)
 }
 
 // Bytes of two digits each. A half is taken as it is, a digit or not, so that nine bytes' number fits.
@@ -109,18 +104,33 @@ fn read_packed(row: Row, bytes: &[u8]) -> Number
     }
 }
 
-// A field of kinds 3 to 6. How many digits it has, its bytes tell.
+// The bytes of a field of kinds 3 to 6 that hold a digit and no sign.
+fn plain_digits(kind: u32, bytes: &[u8]) -> &[u8]
+    requires { ⌜ 1 ≤ length (now bytes) ⌝ }
+    ensures { λ r. ⌜ now r ≡ cond (eqb kind kindUnsigned) (now (bytes .entry)) (cond (eqb kind kindSignLeading) (butFirst (now (bytes .entry))) (butLast (now (bytes .entry)))) ⌝ }
+{
+    if kind == Row::UNSIGNED {
+        return bytes;
+    }
+    if kind == Row::SIGN_LEADING {
+        return &bytes[1..];
+    }
+    let last = bytes.len() - 1;
+    &bytes[..last]
+}
+
+// A field of kinds 3 to 6. How many digits it has, its bytes tell. Its digits are read in one place, which the compiler then copies in.
 fn read_display(row: Row, bytes: &[u8]) -> Number
     requires { ⌜ (3 ≤ row .kind) × (row .kind ≤ 6) ⌝ }
     requires { ⌜ (1 ≤ length (now bytes)) × (length (digitBytes (row .kind) (now bytes)) ≤ 18) ⌝ }
     ensures { λ r. ⌜ ((digits : ℕ) → r ≡ numberOf (row .kind) digits (now (bytes .entry))) ⌝ }
 {
     let kind = row.kind;
+    let rest = read_digits(plain_digits(kind, bytes));
     if kind == Row::UNSIGNED {
-        return read_digits(bytes);
+        return rest;
     }
     if kind == Row::SIGN_LEADING {
-        let rest = read_digits(&bytes[1..]);
         return Number {
             valid: is_sign(bytes[0]) & rest.valid,
             minus: is_minus(row, bytes),
@@ -128,7 +138,6 @@ fn read_display(row: Row, bytes: &[u8]) -> Number
         };
     }
     let last = bytes.len() - 1;
-    let rest = read_digits(&bytes[..last]);
     let b = bytes[last];
     if kind == Row::SIGNED {
         return Number {

@@ -33,9 +33,12 @@ fn is_operand(token: u32) -> bool
 fn operand_exists(items: &[u32], literals: &[u32], token: u32) -> bool
     ensures { λ r. ⌜ r ≡ operandSound (lend (now (items .entry)) (now (literals .entry)) []) token ⌝ }
 {
+    if !is_operand(token) {
+        return false;
+    }
     let items = items.len() / Row::WIDTH;
     let literals = literals.len() / Row::WIDTH;
-    is_operand(token) & token_there(false, token, items, literals, 0)
+    token_there(false, token, items, literals, 0)
 }
 
 // A token that is a condition by itself: a switch, or a condition-name.

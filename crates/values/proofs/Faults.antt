@@ -4,7 +4,7 @@ use Prim.Native.Nat.{ℕ}
 use native.Mathlib.Omega.{arith}
 use mathlib.Core.Path.{_≡_, refl, sym, ap, ap₂, _∙_}
 use mathlib.Core.List.{List}
-use mathlib.Core.Bool.{Bool, true, false, not, cond, _&&_, false≢true, true≢false}
+use mathlib.Core.Bool.{Bool, true, false, not, cond, _&&_, and-false, false≢true, true≢false}
 use mathlib.Core.Logic.{⊎-elim}
 use borrow.Author.Tests.{ne-eqb}
 use Rattle.content.specs.WrongByte.{Wrong, Nowhere, At, firstWrong, nowhere, validContent}
@@ -58,6 +58,13 @@ fault-flag s o = go (s .item) (isGroup o)
     go true false = item-flag (s .row) (s .bytes)
     go false true = refl
     go false false = refl
+
+-- valid content has no fault
+pub valid-faultless : (s : Side) (o : Row) → validContent (s .row .kind) (s .row .digits) (s .bytes) ≡ true → not (nowhere (fault s o)) ≡ false
+valid-faultless s o v =
+    sym (fault-flag s o)
+    ∙ ap (λ (t : Bool). (s .item && not (isGroup o)) && not t) v
+    ∙ and-false (s .item && not (isGroup o))
 
 -- The stop of a side, as the code makes it: whatever would come else.
 abbrev pub StopAt : Row → List ℕ → Outcome → Type 0

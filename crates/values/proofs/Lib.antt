@@ -1,3 +1,4 @@
 pub mod Names
 pub mod Reading
 pub mod Faults
+pub mod Texts

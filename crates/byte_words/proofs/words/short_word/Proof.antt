@@ -1,76 +1,28 @@
--- Rests on the invariant that the word is that of the first i bytes, which leaves room for one more.
-use mathlib.Core.Path.{_≡_, refl, sym, ap, _∙_}
-use Prim.Native.Nat.{_-_, _≤_}
+-- Rests on the word of the first four bytes, or of none, and on what is left.
+use mathlib.Core.Path.{refl}
 use native.Mathlib.Omega.{arith}
-use denote.Ref.{now}
-use lib.ListN.{length, take}
-use lib.Seq.{take-all}
 use borrow.Author.Needs.{needs}
-use Rattle.byte_words.specs.Words.{wordFrom, digitWord}
-use Rattle.byte_words.proofs.WordLaws.{bytes-of, word-more, word-room}
+use Rattle.byte_words.specs.Words.{wordFrom}
 use Rattle.byte_words.proofs.words.short_word.Statement.{statement}
 use Rattle.byte_words.proofs.words.short_word.Tie as tie
 
-abbrev Inv-loop : tie.InvT-loop
-Inv-loop bytes word₀ i₀ word i = (i ≤ length bytes) × (word ≡ digitWord (take i bytes))
+first-four-requires : tie.Need-first-four-requires
+first-four-requires c κs = search needs
 
-abbrev μ-loop : tie.MeasureT-loop
-μ-loop bytes word₀ i₀ word i = length bytes - i
+longer-word-requires : tie.Need-longer-word-requires
+longer-word-requires c κs = search needs
 
-loop-holds : tie.Need-loop-holds Inv-loop μ-loop
+returns : tie.Need-returns
+returns c = search needs
+
+longer-word-requires-2 : tie.Need-longer-word-requires-2
 unfolding wordFrom
-loop-holds c = (omega arith, refl)
+longer-word-requires-2 c κs = (omega arith, omega arith, refl)
 
-mul-word : tie.Need-mul-word Inv-loop μ-loop
-mul-word c =
-    let l = c .before .loop in
-    let start = c .before .before .before in
-    let bytes = bytes-of (now (start .args .bytes)) (λ i. c .before .before .shared-slice-known .given i .fits) in
-    omega (arith, l .inv .1, word-room bytes (l .i) (c .loop-test .taken) (start .pre))
-
-shared-slice-read-digit-of : tie.Need-shared-slice-read-digit-of Inv-loop μ-loop
-shared-slice-read-digit-of c = omega arith
-
-digit-of-requires : tie.Need-digit-of-requires Inv-loop μ-loop
-digit-of-requires c κs = search needs
-
-add-word : tie.Need-add-word Inv-loop μ-loop
-add-word c =
-    let l = c .before .before .before .loop in
-    let start = c .before .before .before .before .before in
-    let bytes = bytes-of (now (start .args .bytes)) (λ i. c .before .before .before .before .shared-slice-known .given i .fits) in
-    omega (arith, l .inv .1, word-room bytes (l .i) (c .before .before .loop-test .taken) (start .pre), c .digit-of .ensures .1)
-
-add-i : tie.Need-add-i Inv-loop μ-loop
-add-i c = omega arith
-
-loop-less : tie.Need-loop-less Inv-loop μ-loop
-loop-less c = omega arith
-
-loop-again : tie.Need-loop-again Inv-loop μ-loop
-loop-again c =
-    let l = c .before .before .before .loop in
-    let bytes = now (c .before .before .before .before .before .args .bytes) in
-    (omega arith, rw (l .inv .1, c .digit-of .ensures .0) (sym (word-more bytes (l .i) (c .before .before .loop-test .taken))))
-
-returns : tie.Need-returns Inv-loop μ-loop
-returns c =
-    let l = c .before .loop in
-    let bytes = now (c .before .before .before .args .bytes) in
-    l .inv .1 ∙ ap digitWord (take-all (l .i) bytes (c .loop-test .left))
+returns-2 : tie.Need-returns-2
+returns-2 c = search needs
 
 pub short-word-spec : {M : Type 1} → statement M
 short-word-spec =
     tie.close
-    (tie.spec
-    Inv-loop
-    μ-loop
-    loop-holds
-    mul-word
-    shared-slice-read-digit-of
-    digit-of-requires
-    add-word
-    add-i
-    loop-less
-    loop-again
-    returns)
+    (tie.spec first-four-requires longer-word-requires returns longer-word-requires-2 returns-2)

@@ -1,32 +1,22 @@
 -- Each flag that the code tests is a part of the definition's conjunction; a sound row has at least one byte.
 use Prim.Native.Nat.{ℕ}
+use native.Mathlib.Omega.{arith}
 use mathlib.Core.Bool.{Bool, true, false, _||_}
 use mathlib.Core.Path.{_≡_, ap, _∙_}
-use mathlib.Core.Logic.{⊎-elim}
 use denote.Ref.{now}
 use lib.Dec.{eqb}
-use borrow.Author.Tests.{not-true, not-false, leb-true, eqb-true}
+use lib.ListN.{length}
+use borrow.Author.Tests.{not-true, not-false, leb-true}
 use borrow.Author.Needs.{needs}
-use Rattle.content.specs.Kinds.{isZoned}
-use Rattle.content.specs.Packed.{isPacked}
 use Rattle.content.specs.WrongByte.{validContent}
 use Rattle.tables.proofs.Lines.{passes, fails}
-use Rattle.tables.proofs.Tests.{either, or-right}
-use Rattle.numbers.proofs.FieldLaws.{number-field}
+use Rattle.tables.proofs.Bytes.{sound-part}
 use Rattle.checks.proofs.lent.literal_sound.Statement.{statement}
 use Rattle.checks.proofs.lent.literal_sound.Tie as tie
 
 -- the kinds that a literal may have
 abbrev literalKind : ℕ → Bool
 literalKind kind = eqb kind 2 || eqb kind 3 || eqb kind 5
-
--- a literal that is not of characters is a number
-number-kind : (kind : ℕ) → literalKind kind ≡ true → eqb kind 2 ≡ false → isZoned kind || isPacked kind ≡ true
-number-kind kind e n =
-    ⊎-elim
-    (λ u. rw (eqb-true kind 3 (or-right (eqb kind 2) (eqb kind 3) u n)))
-    (λ u. rw (eqb-true kind 5 u))
-    (either (eqb kind 2 || eqb kind 3) (eqb kind 5) e)
 
 row-sound-requires : tie.Need-row-sound-requires
 row-sound-requires c κs = search needs
@@ -57,7 +47,8 @@ literal-valid-requires c κs =
     let ends = passes (c .before .before .ends-within .ensures) (c .before .if3 .left) in
     let kind = not-false (literalKind (c .before .before .before .before .before .before .before .args .row .kind)) (c .before .before .before .if2 .left) in
     let args = c .before .before .before .before .before .before .before .args in
-    rw (c .row-part .ensures) (λ e. number-field (args .row) (now (args .bytes)) row ends (number-kind (args .row .kind) kind e))
+    let part = sound-part (args .row) (now (args .bytes)) row (leb-true _ _ ends) in
+    (kind, omega (arith, part .0, part .1, ap length (c .row-part .ensures)))
 
 returns-4 : tie.Need-returns-4
 returns-4 c =

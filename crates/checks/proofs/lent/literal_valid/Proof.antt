@@ -1,21 +1,59 @@
--- Characters hold any bytes; what a number holds tells whether it is valid.
+-- Characters hold any bytes; of the other kinds the first byte of one is a sign, and the rest are digits.
 use native.Mathlib.Omega.{arith}
-use mathlib.Core.Path.{refl, sym, ap, _∙_}
-use lib.Dec.{eqb}
-use borrow.Author.Tests.{ne-eqb}
-use Rattle.content.proofs.WrongByte.{valid-other}
-use Rattle.compare.specs.declared.Number.{Number}
+use mathlib.Core.Path.{_≡_, refl, sym, _∙_}
+use denote.Ref.{now}
+use borrow.Author.Needs.{needs}
+use borrow.Author.Tests.{ne-eqb, eqb-true}
+use Rattle.content.proofs.Bytes.{but-first}
+use Rattle.content.proofs.WrongByte.{valid-other, valid-digits, valid-leading}
 use Rattle.checks.proofs.lent.literal_valid.Statement.{statement}
 use Rattle.checks.proofs.lent.literal_valid.Tie as tie
 
 returns : tie.Need-returns
 returns c = rw (c .if1 .taken) (sym (valid-other 2 _ _ (λ e. omega (arith, e)) (λ e. omega (arith, e)) (λ e. omega (arith, e)) (λ e. omega (arith, e)) (λ e. omega (arith, e)) refl))
 
-read-number-requires : tie.Need-read-number-requires
-read-number-requires c κs = c .before .before .before .pre (ne-eqb _ 2 (c .if1 .left))
+only-digits-requires : tie.Need-only-digits-requires
+only-digits-requires c κs = search needs
 
 returns-2 : tie.Need-returns-2
-returns-2 c = ap (λ (n : Number). n .valid) (c .read-number .ensures)
+returns-2 c = rw (c .before .if2 .taken) (c .only-digits .ensures ∙ sym (valid-digits _ _))
+
+shared-slice-read-is-sign : tie.Need-shared-slice-read-is-sign
+shared-slice-read-is-sign c = search needs
+
+is-sign-requires : tie.Need-is-sign-requires
+is-sign-requires c κs = search needs
+
+sub-only-digits : tie.Need-sub-only-digits
+sub-only-digits c = search needs
+
+part-only-digits-start : tie.Need-part-only-digits-start
+part-only-digits-start c = search needs
+
+part-only-digits-end : tie.Need-part-only-digits-end
+part-only-digits-end c = search needs
+
+only-digits-requires-2 : tie.Need-only-digits-requires-2
+only-digits-requires-2 c κs = search needs
+
+returns-3 : tie.Need-returns-3
+returns-3 c =
+    let start = c .before .before .before .before .before .before .before in
+    let bytes = now (start .args .bytes) in
+    let five : start .args .row .kind ≡ 5 = eqb-true _ 5 (rw (ne-eqb _ 2 (c .before .before .before .before .before .if1 .left), ne-eqb _ 3 (c .before .before .before .before .if2 .left)) at (start .pre .0)) in
+    rw (c .before .before .is-sign .ensures, c .only-digits2 .ensures, but-first bytes, five) (sym (valid-leading _ bytes (start .pre .1)))
 
 pub literal-valid-spec : {M : Type 1} → statement M
-literal-valid-spec = tie.close (tie.spec returns read-number-requires returns-2)
+literal-valid-spec =
+    tie.close
+    (tie.spec
+    returns
+    only-digits-requires
+    returns-2
+    shared-slice-read-is-sign
+    is-sign-requires
+    sub-only-digits
+    part-only-digits-start
+    part-only-digits-end
+    only-digits-requires-2
+    returns-3)

@@ -1,15 +1,72 @@
--- Rests on what each callee says of a fit side: its value where both are numeric, its stop, its characters.
-use mathlib.Core.Path.{refl, sym, ap₂, _∙_}
+-- Rests on the laws of words and of texts, and on what the callees say of the other pairs.
+use mathlib.Core.Path.{_≡_, sym, ap, ap₂, _∙_}
 use mathlib.Core.Bool.{_&&_}
+use native.Mathlib.Omega.{arith}
 use denote.Ref.{now}
+use lib.ListN.{length}
 use borrow.Author.Needs.{needs}
-use Rattle.tables.specs.Rows.{isGroup}
+use borrow.Author.Tests.{eqb-true}
 use Rattle.tables.proofs.Tests.{both}
+use Rattle.byte_words.proofs.WordLaws.{bytes-of}
+use Rattle.digit_words.proofs.Outcomes.{word-row, words-outcome}
 use Rattle.values.specs.Comparison.{side}
-use Rattle.values.proofs.Reading.{numeral, fit-near, some-bytes}
-use Rattle.values.proofs.Faults.{invalid-there, subject-stops, object-stops, relation-goes}
+use Rattle.values.proofs.Reading.{numeral, some-bytes}
+use Rattle.values.proofs.Texts.{text-plain, texts-outcome}
 use Rattle.outcomes.proofs.sides.sides_outcome.Statement.{statement}
 use Rattle.outcomes.proofs.sides.sides_outcome.Tie as tie
+
+fits-word-requires : tie.Need-fits-word-requires
+fits-word-requires c κs = search needs
+
+fits-word-requires-2 : tie.Need-fits-word-requires-2
+fits-word-requires-2 c κs = search needs
+
+short-word-requires : tie.Need-short-word-requires
+short-word-requires c κs =
+    let start = c .before .before .before .before .before .before .before in
+    let one = c .before .before .before .before .fits-word in
+    let f = both (one .result) (c .before .before .before .fits-word2 .result) (both _ _ (c .if1 .taken) .0) .0 in
+    omega (arith, start .pre .0 .sized, word-row (start .args .row1) (sym (one .ensures) ∙ f) .1)
+
+short-word-requires-2 : tie.Need-short-word-requires-2
+short-word-requires-2 c κs =
+    let start = c .before .before .before .before .before .before .before .before in
+    let other = c .before .before .before .before .fits-word2 in
+    let f = both (c .before .before .before .before .before .fits-word .result) (other .result) (both _ _ (c .before .if1 .taken) .0) .1 in
+    omega (arith, start .pre .1 .sized, word-row (start .args .row2) (sym (other .ensures) ∙ f) .1)
+
+all-digits-requires : tie.Need-all-digits-requires
+all-digits-requires c κs = search needs
+
+all-digits-requires-2 : tie.Need-all-digits-requires-2
+all-digits-requires-2 c κs = search needs
+
+order-of-requires : tie.Need-order-of-requires
+order-of-requires c κs = search needs
+
+relation-holds-requires : tie.Need-relation-holds-requires
+relation-holds-requires c κs = search needs
+
+truth-value-requires : tie.Need-truth-value-requires
+truth-value-requires c κs = search needs
+
+returns : tie.Need-returns
+returns c =
+    let words = c .before .before .before .before .before .before in
+    let fits = words .before .before .before .before .before in
+    let start = fits .before .before .before .before in
+    let s = side (start .args .item1) (start .args .row1) (now (start .args .left)) in
+    let o = side (start .args .item2) (start .args .row2) (now (start .args .right)) in
+    let t = both _ _ (words .before .before .if1 .taken) in
+    let f = both _ _ (t .0) in
+    let d = both _ _ (c .before .before .before .if2 .taken) in
+    let a = words .before .short-word .ensures in
+    let b = words .short-word2 .ensures in
+    rw (c .before .relation-holds .ensures, c .before .before .order-of .ensures, a, b) at (c .truth-value .ensures)
+    ∙ words-outcome (start .args .word) (start .args .negated) s o (sym (fits .before .fits-word .ensures) ∙ f .0) (sym (fits .fits-word2 .ensures) ∙ f .1)
+    (eqb-true _ _ (t .1)) (bytes-of _ (λ i. fits .before .before .before .shared-slice-known .given i .fits)) (bytes-of _ (λ i. fits .before .before .shared-slice-known2 .given i .fits))
+    (omega (arith, start .pre .0 .sized)) (omega (arith, start .pre .1 .sized))
+    (sym (rw a at (c .before .before .before .before .before .all-digits .ensures)) ∙ d .0) (sym (rw b at (c .before .before .before .before .all-digits2 .ensures)) ∙ d .1)
 
 is-numeric-requires : tie.Need-is-numeric-requires
 is-numeric-requires c κs = search needs
@@ -19,85 +76,72 @@ is-numeric-requires-2 c κs = search needs
 
 value-outcome-requires : tie.Need-value-outcome-requires
 value-outcome-requires c κs =
-    let n = both _ _ (c .if1 .taken) in
-    let start = c .before .before .before .before .before in
+    let n = both _ _ (c .if3 .taken) in
+    let start = c .before .before .before .before .before .before .before .before .before .before in
     (numeral (start .pre .0) (sym (c .before .before .is-numeric .ensures) ∙ n .0), numeral (start .pre .1) (sym (c .before .is-numeric2 .ensures) ∙ n .1))
 
-returns : tie.Need-returns
-returns c = c .value-outcome .ensures
-
-is-faulty-requires : tie.Need-is-faulty-requires
-is-faulty-requires c κs = some-bytes (c .before .before .before .before .before .pre .0)
-
-stop-at-requires : tie.Need-stop-at-requires
-stop-at-requires c κs =
-    let start = c .before .before .before .before .before .before .before in
-    let s = side (start .args .item1) (start .args .row1) (now (start .args .left)) in
-    (fit-near (start .pre .0), invalid-there (isGroup (start .args .row2)) s (sym (c .before .is-faulty .ensures) ∙ c .if2 .taken))
-
 returns-2 : tie.Need-returns-2
-returns-2 c =
-    let start = c .before .before .before .before .before .before .before .before in
-    let s = side (start .args .item1) (start .args .row1) (now (start .args .left)) in
-    let o = side (start .args .item2) (start .args .row2) (now (start .args .right)) in
-    subject-stops (start .args .word) (start .args .negated) {s = s} {s' = s} {o = o} {o' = o} refl refl
-    (sym (c .before .before .is-faulty .ensures) ∙ c .before .if2 .taken) (c .stop-at .ensures)
+returns-2 c = search needs
 
-is-faulty-requires-2 : tie.Need-is-faulty-requires-2
-is-faulty-requires-2 c κs = some-bytes (c .before .before .before .before .before .before .before .pre .1)
+is-text-requires : tie.Need-is-text-requires
+is-text-requires c κs = search needs
 
-stop-at-requires-2 : tie.Need-stop-at-requires-2
-stop-at-requires-2 c κs =
-    let start = c .before .before .before .before .before .before .before .before .before in
-    let o = side (start .args .item2) (start .args .row2) (now (start .args .right)) in
-    (fit-near (start .pre .1), invalid-there (isGroup (start .args .row1)) o (sym (c .before .is-faulty2 .ensures) ∙ c .if3 .taken))
+is-text-requires-2 : tie.Need-is-text-requires-2
+is-text-requires-2 c κs = search needs
+
+compare-characters-requires : tie.Need-compare-characters-requires
+compare-characters-requires c κs =
+    let start = c .before .before .before .before .before .before .before .before .before .before .before .before .before in
+    (some-bytes (start .pre .0), some-bytes (start .pre .1))
+
+relation-holds-requires-2 : tie.Need-relation-holds-requires-2
+relation-holds-requires-2 c κs = search needs
+
+truth-value-requires-2 : tie.Need-truth-value-requires-2
+truth-value-requires-2 c κs = search needs
 
 returns-3 : tie.Need-returns-3
 returns-3 c =
-    let start = c .before .before .before .before .before .before .before .before .before .before in
+    let texts = c .before .before .before in
+    let start = texts .before .before .before .before .before .before .before .before .before .before .before .before .before in
     let s = side (start .args .item1) (start .args .row1) (now (start .args .left)) in
     let o = side (start .args .item2) (start .args .row2) (now (start .args .right)) in
-    object-stops (start .args .word) (start .args .negated) {s = s} {s' = s} {o = o} {o' = o} refl refl
-    (sym (c .before .before .before .before .is-faulty .ensures) ∙ c .before .before .before .if2 .left) (sym (c .before .before .is-faulty2 .ensures) ∙ c .before .if3 .taken) (c .stop-at2 .ensures)
+    let t = both _ _ (texts .if4 .taken) in
+    rw (c .before .relation-holds2 .ensures, c .before .before .compare-characters .ensures) at (c .truth-value2 .ensures)
+    ∙ texts-outcome (start .args .word) (start .args .negated) s o
+    (text-plain (start .args .row1) (sym (texts .before .before .is-text .ensures) ∙ t .0)) (text-plain (start .args .row2) (sym (texts .before .is-text2 .ensures) ∙ t .1))
 
-compare-sides-requires : tie.Need-compare-sides-requires
-compare-sides-requires c κs =
-    let c4 = c .before .before .before .before in
-    let c9 = c4 .before .before .before .before .before in
-    (c9 .pre, sym (ap₂ _&&_ (c4 .before .before .is-numeric .ensures) (c4 .before .is-numeric2 .ensures)) ∙ c4 .if1 .left)
-
-relation-holds-requires : tie.Need-relation-holds-requires
-relation-holds-requires c κs = search needs
-
-truth-value-requires : tie.Need-truth-value-requires
-truth-value-requires c κs = search needs
+checked-outcome-requires : tie.Need-checked-outcome-requires
+checked-outcome-requires c κs =
+    let numbers = c .before .before .before in
+    (c .before .before .before .before .before .before .before .before .before .before .before .before .before .pre, sym (ap₂ _&&_ (numbers .before .before .is-numeric .ensures) (numbers .before .is-numeric2 .ensures)) ∙ numbers .if3 .left)
 
 returns-4 : tie.Need-returns-4
-returns-4 c =
-    let c4 = c .before .before .before .before in
-    let c12 = c4 .before .before .before .before .before .before .before .before in
-    let start = c12 in
-    let s = side (start .args .item1) (start .args .row1) (now (start .args .left)) in
-    let o = side (start .args .item2) (start .args .row2) (now (start .args .right)) in
-    rw (c .before .relation-holds .ensures) at (c .truth-value .ensures) ∙ relation-goes (start .args .word) (start .args .negated) {s = s} {s' = s}
-    {o = o} {o' = o} refl refl (sym (c4 .before .before .is-faulty .ensures) ∙ c4 .before .if2 .left) (sym (c4 .is-faulty2 .ensures) ∙ c .before .before .before .if3 .left)
-    (c .before .before .compare-sides .ensures)
+returns-4 c = search needs
 
 pub sides-outcome-spec : {M : Type 1} → statement M
 sides-outcome-spec =
     tie.close
     (tie.spec
+    fits-word-requires
+    fits-word-requires-2
+    short-word-requires
+    short-word-requires-2
+    all-digits-requires
+    all-digits-requires-2
+    order-of-requires
+    relation-holds-requires
+    truth-value-requires
+    returns
     is-numeric-requires
     is-numeric-requires-2
     value-outcome-requires
-    returns
-    is-faulty-requires
-    stop-at-requires
     returns-2
-    is-faulty-requires-2
-    stop-at-requires-2
+    is-text-requires
+    is-text-requires-2
+    compare-characters-requires
+    relation-holds-requires-2
+    truth-value-requires-2
     returns-3
-    compare-sides-requires
-    relation-holds-requires
-    truth-value-requires
+    checked-outcome-requires
     returns-4)
