@@ -13,7 +13,6 @@ use places::fill;
 use tables::Outcome;
 use tables::tokens::NAME;
 use tables::tokens::SPAN;
-use text_columns::rows::judge_texts;
 use truth::conditions::truth_of;
 
 // The truth of a row where it stops: it is not known here.
@@ -117,19 +116,6 @@ pub(crate) fn judge_row<'a>(
         return;
     }
     if judge_columns(
-        items,
-        literals,
-        bytes,
-        names,
-        records,
-        block,
-        switches,
-        condition,
-        truths,
-    ) {
-        return;
-    }
-    if judge_texts(
         items,
         literals,
         bytes,

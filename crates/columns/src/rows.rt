@@ -1,5 +1,5 @@
-// Which rows are judged by words: a relation of two unsigned fields of up to 8 digits at one scale, of which one may be a literal, and NUMERIC
-// of such a field.
+// Which rows are judged by words: a relation of two unsigned fields of up to 8 digits at one scale, of which one may be a literal, NUMERIC
+// of such a field, and a relation of short texts.
 ghost use mathlib.Core.Path.{_≡_};
 ghost use mathlib.Core.Bool.{true, false};
 ghost use Prim.Native.Nat.{_+_, _-_, _≤_};
@@ -25,6 +25,7 @@ use grammar::PlanRow;
 use operands::named::operand_bytes;
 use operands::named::row_of;
 use operands::tokens::is_item;
+use text_columns::rows::judge_texts;
 use typing::Test;
 use typing::sides::test_of;
 
@@ -44,7 +45,7 @@ fn relate_literal<'a>(
     requires { ⌜ Laid (now records) (block .from) (block .size) (block .n) × (8 ≤ block .from) × (length (now truths) ≡ 64) ⌝ }
     requires { ⌜ FieldOf (block .size) row × (block .from + block .size ≤ length (now records)) ⌝ }
     requires { ⌜ Within (lend (now items) (now literals) (now bytes)) (take (block .from + block .size - block .from) (drop (block .from) (now records))) token × (length (operandBytes (lend (now items) (now literals) (now bytes)) (take (block .from + block .size - block .from) (drop (block .from) (now records))) token) ≤ 8) ⌝ }
-    ensures { λ r. ⌜ (r ≡ true → Related (now (records .entry)) (block .from) (block .size) (block .n) row asked exchanged (digitWord (operandBytes (lend (now (items .entry)) (now (literals .entry)) (now (bytes .entry))) (take (block .from + block .size - block .from) (drop (block .from) (now (records .entry)))) token)) (now (truths .exit))) ⌝ }
+    ensures { λ r. ⌜ (r ≡ true → Related (now (records .entry)) (block .from) (block .size) (block .n) row asked exchanged (digitWord (operandBytes (lend (now (items .entry)) (now (literals .entry)) (now (bytes .entry))) (take (block .from + block .size - block .from) (drop (block .from) (now (records .entry)))) token)) (now (truths .entry)) (now (truths .exit))) ⌝ }
     ensures { λ r. ⌜ (r ≡ false → now (truths .exit) ≡ now (truths .entry)) ⌝ }
 {
     let from = block.from;
@@ -59,7 +60,7 @@ fn relate_literal<'a>(
     true
 }
 
-// A relation, where both sides are read as words and have one scale.
+// A relation, where both sides are read as words and have one scale, or are short texts.
 fn judge_relation<'a>(
     items: &[u32],
     literals: &[u32],
@@ -75,7 +76,7 @@ fn judge_relation<'a>(
 ) -> bool
     requires { ⌜ Judgeable (lendNames (now items) (now literals) (now bytes) (now names)) (now records) (block .from) (block .size) (block .n) condition × (8 ≤ block .from) × (length (now truths) ≡ 64) ⌝ }
     requires { ⌜ testOf (condition .relation) ≡ Relation word negated ⌝ }
-    ensures { λ r. ⌜ (r ≡ true → JudgesAll (lendNames (now (items .entry)) (now (literals .entry)) (now (bytes .entry)) (now (names .entry))) (now (records .entry)) (block .from) (block .size) (block .n) switches condition (now (truths .exit))) ⌝ }
+    ensures { λ r. ⌜ (r ≡ true → JudgesAll (lendNames (now (items .entry)) (now (literals .entry)) (now (bytes .entry)) (now (names .entry))) (now (records .entry)) (block .from) (block .size) (block .n) switches condition (now (truths .entry)) (now (truths .exit))) ⌝ }
     ensures { λ r. ⌜ (r ≡ false → now (truths .exit) ≡ now (truths .entry)) ⌝ }
 {
     let subject = condition.subject;
@@ -83,7 +84,19 @@ fn judge_relation<'a>(
     let row1 = row_of(subject, items, literals);
     let row2 = row_of(object, items, literals);
     if !(fits_word(row1) & fits_word(row2) & (row1.scale == row2.scale)) {
-        return false;
+        return judge_texts(
+            items,
+            literals,
+            bytes,
+            names,
+            records,
+            block,
+            switches,
+            condition,
+            word,
+            negated,
+            truths,
+        );
     }
     let asked = asked_of(word, negated);
     if is_item(subject) {
@@ -136,7 +149,7 @@ fn judge_numeric<'a>(
 ) -> bool
     requires { ⌜ Judgeable (lendNames (now items) (now literals) (now bytes) (now names)) (now records) (block .from) (block .size) (block .n) condition × (8 ≤ block .from) × (length (now truths) ≡ 64) ⌝ }
     requires { ⌜ testOf (condition .relation) ≡ Class 10 negated ⌝ }
-    ensures { λ r. ⌜ (r ≡ true → JudgesAll (lendNames (now (items .entry)) (now (literals .entry)) (now (bytes .entry)) (now (names .entry))) (now (records .entry)) (block .from) (block .size) (block .n) switches condition (now (truths .exit))) ⌝ }
+    ensures { λ r. ⌜ (r ≡ true → JudgesAll (lendNames (now (items .entry)) (now (literals .entry)) (now (bytes .entry)) (now (names .entry))) (now (records .entry)) (block .from) (block .size) (block .n) switches condition (now (truths .entry)) (now (truths .exit))) ⌝ }
     ensures { λ r. ⌜ (r ≡ false → now (truths .exit) ≡ now (truths .entry)) ⌝ }
 {
     let subject = condition.subject;
@@ -161,7 +174,7 @@ pub fn judge_columns<'a>(
     truths: &mut [u8],
 ) -> bool
     requires { ⌜ Judgeable (lendNames (now items) (now literals) (now bytes) (now names)) (now records) (block .from) (block .size) (block .n) condition × (length (now truths) ≡ 64) ⌝ }
-    ensures { λ r. ⌜ (r ≡ true → JudgesAll (lendNames (now (items .entry)) (now (literals .entry)) (now (bytes .entry)) (now (names .entry))) (now (records .entry)) (block .from) (block .size) (block .n) switches condition (now (truths .exit))) ⌝ }
+    ensures { λ r. ⌜ (r ≡ true → JudgesAll (lendNames (now (items .entry)) (now (literals .entry)) (now (bytes .entry)) (now (names .entry))) (now (records .entry)) (block .from) (block .size) (block .n) switches condition (now (truths .entry)) (now (truths .exit))) ⌝ }
     ensures { λ r. ⌜ (r ≡ false → now (truths .exit) ≡ now (truths .entry)) ⌝ }
 {
     if block.from < 8 {

@@ -48,7 +48,7 @@ returns-2 c = (
       let e = c5 .before .before .short-word .ensures ∙ ap digitWord (c5 .before .before .before .operand-bytes .ensures) in
       record {
         digits = rw e at (sym (c5 .before .all-digits .ensures) ∙ not-false _ (c5 .if1 .left));
-        told = λ k l. rw (c .before .before .before .before .order-bits .ensures, e) at (c .before .before .compare-field .ensures k l);
+        numbers = rw (c .before .before .before .before .order-bits .ensures, e) at (c .before .before .compare-field .ensures);
       },
   λ e. absurd (false≢true (sym e)),
 )
