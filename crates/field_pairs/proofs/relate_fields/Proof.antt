@@ -38,7 +38,8 @@ returns c =
     let first = b .before .before .extent-of in
     let second = b .before .extent-of2 in
     rw (first .ensures .0, first .ensures .1, second .ensures .0, second .ensures .1) at
-    (asked-told (a .asked) eqb (now (a .records)) (a .block .from) (a .block .size) (first .result) (second .result) (λ x y. rw (c .before .before .before .before .if1 .taken))
+    (asked-told (a .asked) eqb (now (a .records)) (a .block .from) (a .block .size) (first .result) (second .result)
+    (λ x y. rw (c .before .before .before .before .if1 .taken))
     (rw (b .bits-of .ensures) at (c .before .before .same-fields .ensures)))
 
 less-fields-requires : tie.Need-less-fields-requires
@@ -54,7 +55,8 @@ returns-2 c =
     let first = b .before .before .extent-of in
     let second = b .before .extent-of2 in
     rw (first .ensures .0, first .ensures .1, second .ensures .0, second .ensures .1) at
-    (asked-told (a .asked) (λ x y. ltb y x) (now (a .records)) (a .block .from) (a .block .size) (first .result) (second .result) (λ x y. rw (c .before .before .before .before .before .if1 .left, c .before .before .before .before .if2 .taken))
+    (asked-told (a .asked) (λ x y. ltb y x) (now (a .records)) (a .block .from) (a .block .size) (first .result) (second .result)
+    (λ x y. rw (c .before .before .before .before .before .if1 .left, c .before .before .before .before .if2 .taken))
     (exchanged ltb (now (a .records)) (a .block .from) (a .block .size) (first .result) (second .result) _
     (rw (b .bits-of .ensures) at (c .before .before .less-fields .ensures))))
 
@@ -71,7 +73,8 @@ returns-3 c =
     let first = b .before .before .extent-of in
     let second = b .before .extent-of2 in
     rw (first .ensures .0, first .ensures .1, second .ensures .0, second .ensures .1) at
-    (asked-told (a .asked) ltb (now (a .records)) (a .block .from) (a .block .size) (first .result) (second .result) (λ x y. rw (c .before .before .before .before .before .if1 .left, c .before .before .before .before .if2 .left))
+    (asked-told (a .asked) ltb (now (a .records)) (a .block .from) (a .block .size) (first .result) (second .result)
+    (λ x y. rw (c .before .before .before .before .before .if1 .left, c .before .before .before .before .if2 .left))
     (rw (b .bits-of .ensures) at (c .before .before .less-fields2 .ensures)))
 
 pub relate-fields-spec : {M : Type 1} → statement M

@@ -60,7 +60,8 @@ test-field-requires : tie.Need-test-field-requires
 test-field-requires c κs =
     let e = c .before .before in
     let s = entry e in
-    ((s .pre .0 .0 .laid, s .pre .0 .1, s .pre .0 .2), rw (e .before .before .before .row-of .ensures) (field-of (s .pre .0 .0) (subject s) (item e) (word-size (rowOf (lent s) (s .args .condition .subject)) (fits e))))
+    let m = word-size (rowOf (lent s) (s .args .condition .subject)) (fits e) in
+    ((s .pre .0 .0 .laid, s .pre .0 .1, s .pre .0 .2), rw (e .before .before .before .row-of .ensures) (field-of (s .pre .0 .0) (subject s) (item e) m))
 
 same-length : tie.Need-same-length
 same-length c = search needs

@@ -106,7 +106,8 @@ returns-2 c = (
       items-judged (s .pre .0 .0) (s .pre .1) digitWord (digitsIn 8) (s .args .switches)
       (λ k _. by-words (lent s) (now (s .args .records)) (s .args .block .from) (s .args .block .size) (s .args .switches) (s .args .condition) (in-file e .0) (in-file e .1) k
       (s .pre .1) (worded e)) i j
-      (rw (rows .before .row-of .ensures, rows .row-of2 .ensures, c .before .before .before .before .before .before .before .before .asked-of .ensures) at (c .before .before .relate-fields .ensures)),
+      (rw (rows .before .row-of .ensures, rows .row-of2 .ensures, c .before .before .before .before .before .before .before .before .asked-of .ensures) at
+      (c .before .before .relate-fields .ensures)),
   λ e. absurd (false≢true (sym e)),
 )
 

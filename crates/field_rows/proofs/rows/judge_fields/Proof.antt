@@ -12,7 +12,8 @@ use Rattle.field_rows.proofs.rows.judge_fields.Statement.{statement}
 use Rattle.field_rows.proofs.rows.judge_fields.Tie as tie
 
 -- the row is a class test
-class-test : (c : tie.After-test2) → testOf (c .before .before .before .before .before .before .before .before .before .before .args .condition .relation) ≡ Class (c .test2 .given .0 .0) (c .test2 .given .0 .1 .0)
+class-test : (c : tie.After-test2)
+    → testOf (c .before .before .before .before .before .before .before .before .before .before .args .condition .relation) ≡ Class (c .test2 .given .0 .0) (c .test2 .given .0 .1 .0)
 class-test c = sym (c .before .before .test-of .ensures) ∙ c .test2 .given .1
 
 test-of-requires : tie.Need-test-of-requires

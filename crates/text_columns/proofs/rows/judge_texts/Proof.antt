@@ -107,7 +107,7 @@ returns-2 c =
           let i = sym (c8 .is-item .ensures) ∙ c5 .before .before .if2 .taken in
           let j = sym (c5 .before .is-item2 .ensures) ∙ c5 .if3 .taken in
           items-judged (s .pre .0 .0) (s .pre .1) (textWord (longer (lent s) (s .args .condition))) (λ _. true) (s .args .switches)
-      (λ k l _ _. by-texts (s .pre .0 .0) (s .args .switches) (in-file e .0) (in-file e .1) (s .pre .1) (texts e) k l) i j (rw (
+          (λ k l _ _. by-texts (s .pre .0 .0) (s .args .switches) (in-file e .0) (in-file e .1) (s .pre .1) (texts e) k l) i j (rw (
             e .before .before .before .before .before .before .row-of .ensures,
             e .before .before .before .before .before .row-of2 .ensures,
             order .order-bits .ensures,
