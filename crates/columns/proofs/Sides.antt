@@ -4,10 +4,10 @@ use mathlib.Core.Bool.{Bool, true, false, cond}
 use mathlib.Core.List.{List}
 use Prim.Native.Nat.{ℕ, _+_, _<_, _≤_}
 use lib.Dec.{eqb, leb}
-use borrow.Author.Tests.{leb-true}
+use borrow.Author.Tests.{leb-true, eq-eqb}
 use Rattle.content.specs.declared.Row.{Row}
 use Rattle.tables.specs.Tokens.{isItem}
-use Rattle.tables.specs.Operands.{Lent, rowOf}
+use Rattle.tables.specs.Operands.{Lent, rowOf, operandBytes}
 use Rattle.tables.proofs.Tests.{both}
 use Rattle.typing.specs.declared.Test.the-variants.{Relation, Class}
 use Rattle.typing.specs.Tests.{testOf}
@@ -22,6 +22,7 @@ use Rattle.block_truths.specs.Columns.{recordAt, outcomeAt, bit, fieldAt, Right
 use Rattle.block_truths.proofs.Firsts.{small}
 use Rattle.block_truths.proofs.Rights.{bit-right, chosen}
 use Rattle.block_truths.proofs.Sides.{sideWord, item-word}
+use Rattle.columns.specs.Judged.{digitsOf, relationByWords}
 
 -- a row that is read as a word has at most 8 bytes
 pub word-size : (row : Row) → fitsWord row ≡ true → row .size ≤ 8
@@ -35,6 +36,15 @@ pub record Worded (lent : Lent) (r : PlanRow) : Type 0 where
 
 pub sizes : {lent : Lent} {r : PlanRow} → Worded lent r → (rowOf lent (r .subject) .size ≤ 8) × (rowOf lent (r .object) .size ≤ 8)
 sizes {lent} {r} w = (word-size (rowOf lent (r .subject)) (w .subject), word-size (rowOf lent (r .object)) (w .object))
+
+-- which relations of them are judged
+pub by-sides : {lent : Lent} {r : PlanRow} → Worded lent r → relationByWords lent r
+    ≡ cond (isItem (r .subject)) (cond (isItem (r .object)) true (digitsOf lent (r .object))) (cond (isItem (r .object)) (digitsOf lent (r .subject)) false)
+by-sides {lent} {r} w = rw (w .subject, w .object, eq-eqb (rowOf lent (r .subject) .scale) (rowOf lent (r .object) .scale) (w .scale))
+
+-- a literal's digits are the same on any record
+pub literal-digits : (lent : Lent) (other : List ℕ) (token : ℕ) → isItem token ≡ false → digitsIn 8 (digitWord (operandBytes lent other token)) ≡ digitsOf lent token
+literal-digits lent other token i = rw i
 
 module _ (lent : Lent) (records : List ℕ) (from size switches : ℕ) (r : PlanRow) (b : Bytes records) (m : Bytes (lent .bytes)) (k : ℕ) where
   -- what a relation comes to on record k

@@ -7,8 +7,9 @@ ghost use lib.ListN.{length, take, drop};
 ghost use Rattle.tables.specs.Operands.{lend, lendNames, operandBytes, Within};
 ghost use Rattle.typing.specs.declared.Test.the-variants.{Relation, Class};
 ghost use Rattle.typing.specs.Tests.{testOf};
-ghost use Rattle.byte_words.specs.Words.{digitWord};
+ghost use Rattle.byte_words.specs.Words.{digitWord, digitsIn};
 ghost use Rattle.block_truths.specs.Columns.{Laid, FieldOf, Related, JudgesAll, Judgeable};
+ghost use Rattle.columns.specs.Judged.{relationByWords, numericByWord, byWords};
 use block_truths::Block;
 use block_truths::truths::bits_of;
 use block_truths::truths::order_bits;
@@ -47,6 +48,7 @@ fn relate_literal<'a>(
     requires { ⌜ Within (lend (now items) (now literals) (now bytes)) (take (block .from + block .size - block .from) (drop (block .from) (now records))) token × (length (operandBytes (lend (now items) (now literals) (now bytes)) (take (block .from + block .size - block .from) (drop (block .from) (now records))) token) ≤ 8) ⌝ }
     ensures { λ r. ⌜ (r ≡ true → Related (now (records .entry)) (block .from) (block .size) (block .n) row asked exchanged (digitWord (operandBytes (lend (now (items .entry)) (now (literals .entry)) (now (bytes .entry))) (take (block .from + block .size - block .from) (drop (block .from) (now (records .entry)))) token)) (now (truths .entry)) (now (truths .exit))) ⌝ }
     ensures { λ r. ⌜ (r ≡ false → now (truths .exit) ≡ now (truths .entry)) ⌝ }
+    ensures { λ r. ⌜ r ≡ digitsIn 8 (digitWord (operandBytes (lend (now (items .entry)) (now (literals .entry)) (now (bytes .entry))) (take (block .from + block .size - block .from) (drop (block .from) (now (records .entry)))) token)) ⌝ }
 {
     let from = block.from;
     let size = block.size;
@@ -78,6 +80,7 @@ fn judge_relation<'a>(
     requires { ⌜ testOf (condition .relation) ≡ Relation word negated ⌝ }
     ensures { λ r. ⌜ (r ≡ true → JudgesAll (lendNames (now (items .entry)) (now (literals .entry)) (now (bytes .entry)) (now (names .entry))) (now (records .entry)) (block .from) (block .size) (block .n) switches condition (now (truths .entry)) (now (truths .exit))) ⌝ }
     ensures { λ r. ⌜ (r ≡ false → now (truths .exit) ≡ now (truths .entry)) ⌝ }
+    ensures { λ r. ⌜ r ≡ relationByWords (lendNames (now (items .entry)) (now (literals .entry)) (now (bytes .entry)) (now (names .entry))) condition ⌝ }
 {
     let subject = condition.subject;
     let object = condition.object;
@@ -151,6 +154,7 @@ fn judge_numeric<'a>(
     requires { ⌜ testOf (condition .relation) ≡ Class 10 negated ⌝ }
     ensures { λ r. ⌜ (r ≡ true → JudgesAll (lendNames (now (items .entry)) (now (literals .entry)) (now (bytes .entry)) (now (names .entry))) (now (records .entry)) (block .from) (block .size) (block .n) switches condition (now (truths .entry)) (now (truths .exit))) ⌝ }
     ensures { λ r. ⌜ (r ≡ false → now (truths .exit) ≡ now (truths .entry)) ⌝ }
+    ensures { λ r. ⌜ r ≡ numericByWord (lendNames (now (items .entry)) (now (literals .entry)) (now (bytes .entry)) (now (names .entry))) condition ⌝ }
 {
     let subject = condition.subject;
     let row = row_of(subject, items, literals);
@@ -176,6 +180,7 @@ pub fn judge_columns<'a>(
     requires { ⌜ Judgeable (lendNames (now items) (now literals) (now bytes) (now names)) (now records) (block .from) (block .size) (block .n) condition × (length (now truths) ≡ 64) ⌝ }
     ensures { λ r. ⌜ (r ≡ true → JudgesAll (lendNames (now (items .entry)) (now (literals .entry)) (now (bytes .entry)) (now (names .entry))) (now (records .entry)) (block .from) (block .size) (block .n) switches condition (now (truths .entry)) (now (truths .exit))) ⌝ }
     ensures { λ r. ⌜ (r ≡ false → now (truths .exit) ≡ now (truths .entry)) ⌝ }
+    ensures { λ r. ⌜ r ≡ byWords (lendNames (now (items .entry)) (now (literals .entry)) (now (bytes .entry)) (now (names .entry))) (block .from) condition ⌝ }
 {
     if block.from < 8 {
         return false;

@@ -59,8 +59,8 @@ fn less_fields(
     let mut j: usize = 0;
     while j < n {
         let pair = pair_at(records, base, first, second);
-        let known = choose(pair.a < pair.b, bits.holds, bits.fails);
-        truths[j] = choose(pair.valid, known, UNJUDGED);
+        let less = choose(pair.a < pair.b, bits.holds, bits.fails);
+        truths[j] = choose(pair.valid, less, UNJUDGED);
         base += size;
         j += 1;
     }
@@ -85,8 +85,8 @@ fn same_fields(
     let mut j: usize = 0;
     while j < n {
         let pair = pair_at(records, base, first, second);
-        let known = choose(pair.a == pair.b, bits.holds, bits.fails);
-        truths[j] = choose(pair.valid, known, UNJUDGED);
+        let same = choose(pair.a == pair.b, bits.holds, bits.fails);
+        truths[j] = choose(pair.valid, same, UNJUDGED);
         base += size;
         j += 1;
     }

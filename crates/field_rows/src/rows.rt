@@ -6,6 +6,7 @@ ghost use Rattle.tables.specs.Operands.{lendNames};
 ghost use Rattle.typing.specs.declared.Test.the-variants.{Relation};
 ghost use Rattle.typing.specs.Tests.{testOf};
 ghost use Rattle.block_truths.specs.Columns.{JudgesAt, Judgeable};
+ghost use Rattle.field_rows.specs.Judged.{byFields};
 use crate::each::classify_each;
 use crate::each::relate_each;
 use block_truths::Block;
@@ -83,6 +84,7 @@ pub fn judge_fields<'a>(
     requires { ⌜ Judgeable (lendNames (now items) (now literals) (now bytes) (now names)) (now records) (block .from) (block .size) (block .n) condition × (length (now at) ≡ 64) × (length (now truths) ≡ 64) ⌝ }
     ensures { λ r. ⌜ (r ≡ true → JudgesAt (lendNames (now (items .entry)) (now (literals .entry)) (now (bytes .entry)) (now (names .entry))) (now (records .entry)) (block .from) (block .size) (block .n) switches condition (now (at .entry)) place (now (truths .entry)) (now (truths .exit))) ⌝ }
     ensures { λ r. ⌜ (r ≡ false → now (truths .exit) ≡ now (truths .entry)) ⌝ }
+    ensures { λ r. ⌜ r ≡ byFields (testOf (condition .relation)) ⌝ }
 {
     let test = test_of(condition.relation);
     match test {

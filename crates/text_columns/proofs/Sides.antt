@@ -25,7 +25,7 @@ use Rattle.text_words.proofs.Outcomes.{texts-by-words}
 use Rattle.block_truths.specs.Columns.{recordAt, outcomeAt, Judgeable}
 use Rattle.block_truths.proofs.Firsts.{small}
 use Rattle.block_truths.proofs.Sides.{sideWord, field-of}
-use Rattle.text_columns.specs.TextColumns.{TextOf, Literal}
+use Rattle.text_columns.specs.TextColumns.{byTexts, TextOf, Literal}
 
 -- a row that is read as a text has at most 8 bytes
 text-size : (row : Row) → fitsText row ≡ true → row .size ≤ 8
@@ -35,6 +35,9 @@ text-size row f = leb-true _ _ (both (isGroup row || eqb (row .kind) _) (leb (ro
 pub record Texts (lent : Lent) (r : PlanRow) : Type 0 where
   pub subject : fitsText (rowOf lent (r .subject)) ≡ true
   pub object : fitsText (rowOf lent (r .object)) ≡ true
+
+pub by-both : {lent : Lent} {r : PlanRow} → Texts lent r → byTexts lent r ≡ (isItem (r .subject) || isItem (r .object))
+by-both w = rw (w .subject, w .object)
 
 -- how many bytes they are filled to
 abbrev pub longer : Lent → PlanRow → ℕ

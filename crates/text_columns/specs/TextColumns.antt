@@ -1,9 +1,13 @@
 -- The texts and groups of up to 8 bytes in the records of a block.
+use mathlib.Core.Bool.{Bool, _&&_, _||_}
 use mathlib.Core.List.{List}
 use Prim.Native.Nat.{ℕ, _+_, _-_, _*_, _≤_}
 use lib.ListN.{length, take, drop}
 use Rattle.content.specs.declared.Row.{Row}
-use Rattle.text_words.specs.Texts.{textWord}
+use Rattle.tables.specs.Tokens.{isItem}
+use Rattle.tables.specs.Operands.{Lent, rowOf}
+use Rattle.grammar.specs.declared.PlanRow.{PlanRow}
+use Rattle.text_words.specs.Texts.{fitsText, textWord}
 use Rattle.block_truths.specs.Columns.{Field}
 
 -- a text of at least one byte, which ends in the record and is filled to at most 8 bytes
@@ -33,3 +37,7 @@ pub record Literal (bytes : List ℕ) (filled : ℕ) : Type 0 where
   pub some : 1 ≤ length bytes
   pub most : length bytes ≤ filled
   pub short : filled ≤ 8
+
+-- which relations are judged by the words of texts: both sides are texts or groups of up to 8 bytes, and one at least is an item
+abbrev pub byTexts : Lent → PlanRow → Bool
+byTexts lent r = (fitsText (rowOf lent (r .subject)) && fitsText (rowOf lent (r .object))) && (isItem (r .subject) || isItem (r .object))

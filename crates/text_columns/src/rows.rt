@@ -8,7 +8,7 @@ ghost use Rattle.typing.specs.declared.Test.the-variants.{Relation};
 ghost use Rattle.typing.specs.Tests.{testOf};
 ghost use Rattle.block_truths.specs.Columns.{relatedTo, Numbered, JudgesAll, Laid, Judgeable};
 ghost use Rattle.text_words.specs.Texts.{textWord};
-ghost use Rattle.text_columns.specs.TextColumns.{textOf, TextOf, Literal};
+ghost use Rattle.text_columns.specs.TextColumns.{textOf, byTexts, TextOf, Literal};
 use crate::words::compare_text;
 use crate::words::compare_texts;
 use block_truths::Block;
@@ -84,6 +84,7 @@ pub fn judge_texts<'a>(
     requires { ⌜ testOf (condition .relation) ≡ Relation word negated ⌝ }
     ensures { λ r. ⌜ (r ≡ true → JudgesAll (lendNames (now (items .entry)) (now (literals .entry)) (now (bytes .entry)) (now (names .entry))) (now (records .entry)) (block .from) (block .size) (block .n) switches condition (now (truths .entry)) (now (truths .exit))) ⌝ }
     ensures { λ r. ⌜ (r ≡ false → now (truths .exit) ≡ now (truths .entry)) ⌝ }
+    ensures { λ r. ⌜ r ≡ byTexts (lendNames (now (items .entry)) (now (literals .entry)) (now (bytes .entry)) (now (names .entry))) condition ⌝ }
 {
     let subject = condition.subject;
     let object = condition.object;

@@ -1,12 +1,12 @@
 -- One field.
-use mathlib.Core.Path.{_≡_, sym, _∙_, refl}
-use mathlib.Core.Bool.{true, false≢true}
+use mathlib.Core.Path.{_≡_, sym, ap₂, _∙_, refl}
+use mathlib.Core.Bool.{true, _&&_, false≢true}
 use mathlib.Core.List.{List}
 use Prim.Native.Nat.{ℕ, _+_, _-_}
 use lib.ListN.{take, drop}
 use denote.Ref.{now}
 use borrow.Author.Needs.{needs}
-use borrow.Author.Tests.{not-false}
+use borrow.Author.Tests.{not-false, not-true}
 use Rattle.tables.specs.Operands.{Lent, lendNames, rowOf}
 use Rattle.tables.specs.Tokens.{isItem}
 use Rattle.tables.proofs.Tests.{both}
@@ -51,7 +51,9 @@ is-item-requires : tie.Need-is-item-requires
 is-item-requires c κs = search needs
 
 returns : tie.Need-returns
-returns c = (λ e. absurd (false≢true e), λ _. refl)
+returns c =
+    let unfit = ap₂ _&&_ (sym (c .before .before .fits-word .ensures)) (sym (c .before .is-item .ensures)) ∙ not-true _ (c .if1 .taken) in
+    (λ e. absurd (false≢true e), (λ _. refl, sym (rw (c .before .before .before .row-of .ensures) at unfit)))
 
 bits-of-requires : tie.Need-bits-of-requires
 bits-of-requires c κs = search needs
@@ -78,7 +80,7 @@ returns-2 c = (
       (bytes-of (now (s .args .records)) (λ i. row .before .before .shared-slice-known5 .given i .fits))
       (bytes-of (now (s .args .bytes)) (λ i. row .before .before .before .before .shared-slice-known3 .given i .fits)) k (s .pre .1) (fits e) (item e)
       (item-inside (s .pre .0 .0) (subject s) (item e)) h),
-  λ e. absurd (false≢true (sym e)),
+  (λ e. absurd (false≢true (sym e)), let e = c .before .before .before .before .before in sym (rw (fits e, item e))),
 )
 
 pub judge-numeric-spec : {M : Type 1} → statement M

@@ -55,7 +55,9 @@ same-length : tie.Need-same-length
 same-length c = search needs
 
 returns : tie.Need-returns
-returns c = (λ t. c .before .before .judge-relation .ensures, λ e. absurd (false≢true (sym e)))
+returns c =
+    let e = sym (c .before .before .before .before .before .before .before .test-of .ensures) ∙ c .before .before .before .before .before .test .given .1 in
+    (λ t. c .before .before .judge-relation .ensures, (λ e. absurd (false≢true (sym e)), rw e))
 
 same-length-2 : tie.Need-same-length-2
 same-length-2 c = search needs
@@ -66,17 +68,17 @@ returns-2 c =
     let t = class-test (c .before .before .before .before .before .before) in (
       λ _. retold-at (c .before .before .classify-each .ensures)
           (λ k l v. right-for (class-is t (c .before .before .before .before .row-of .ensures) (start .pre .0 .readable k l) (start .args .switches))),
-      λ e. absurd (false≢true (sym e)),
+      (λ e. absurd (false≢true (sym e)), rw t),
     )
 
 returns-3 : tie.Need-returns-3
-returns-3 c = (λ e. absurd (false≢true e), λ _. refl)
+returns-3 c = (λ e. absurd (false≢true e), (λ _. refl, rw (sym (c .before .before .test-of .ensures) ∙ c .enum-told .given .1)))
 
 returns-4 : tie.Need-returns-4
-returns-4 c = (λ e. absurd (false≢true e), λ _. refl)
+returns-4 c = (λ e. absurd (false≢true e), (λ _. refl, rw (sym (c .before .before .before .test-of .ensures) ∙ c .before .test3 .given .1)))
 
 returns-5 : tie.Need-returns-5
-returns-5 c = (λ e. absurd (false≢true e), λ _. refl)
+returns-5 c = (λ e. absurd (false≢true e), (λ _. refl, rw (sym (c .before .before .test-of .ensures) ∙ c .enum-told2 .given .1)))
 
 pub judge-fields-spec : {M : Type 1} → statement M
 judge-fields-spec =

@@ -1,12 +1,12 @@
 -- By the kinds of the two sides.
-use mathlib.Core.Path.{_≡_, sym, _∙_, refl}
-use mathlib.Core.Bool.{true, false≢true}
+use mathlib.Core.Path.{_≡_, sym, ap₂, _∙_, refl}
+use mathlib.Core.Bool.{true, _&&_, false≢true}
 use mathlib.Core.List.{List}
 use Prim.Native.Nat.{ℕ, _+_, _-_}
 use native.Mathlib.Omega.{arith}
 use lib.ListN.{take, drop}
 use denote.Ref.{now}
-use borrow.Author.Tests.{not-false}
+use borrow.Author.Tests.{not-false, not-true}
 use Rattle.tables.specs.Operands.{Lent, lendNames}
 use Rattle.tables.proofs.Tests.{both}
 use Rattle.values.specs.Truth.{Sided}
@@ -14,7 +14,7 @@ use Rattle.byte_words.proofs.WordLaws.{Bytes, bytes-of}
 use Rattle.text_words.specs.Texts.{textWord}
 use Rattle.block_truths.proofs.Firsts.{first-within, within-unnamed}
 use Rattle.block_truths.proofs.Sides.{first-sides, items-judged, object-judged, subject-judged}
-use Rattle.text_columns.proofs.Sides.{Texts, longer, short, text-of, literal-of, by-texts}
+use Rattle.text_columns.proofs.Sides.{Texts, longer, short, text-of, literal-of, by-both, by-texts}
 use borrow.Author.Needs.{needs}
 use Rattle.text_columns.proofs.rows.judge_texts.Statement.{statement}
 use Rattle.text_columns.proofs.rows.judge_texts.Tie as tie
@@ -63,7 +63,10 @@ fits-text-requires-2 : tie.Need-fits-text-requires-2
 fits-text-requires-2 c κs = search needs
 
 returns : tie.Need-returns
-returns c = (λ e. absurd (false≢true e), λ _. refl)
+returns c =
+    let unfit = ap₂ _&&_ (sym (c .before .before .fits-text .ensures)) (sym (c .before .fits-text2 .ensures)) ∙ not-true _ (c .if1 .taken) in
+    let rows = c .before .before .before in
+    (λ e. absurd (false≢true e), (λ _. refl, rw (rw (rows .before .row-of .ensures, rows .row-of2 .ensures) at unfit)))
 
 asked-of-requires : tie.Need-asked-of-requires
 asked-of-requires c κs = search needs
@@ -100,12 +103,12 @@ returns-2 : tie.Need-returns-2
 returns-2 c =
     let order = c .before .before .before .before in
     let c5 = order .before in
-    let c8 = c5 .before .before .before in (
+    let c8 = c5 .before .before .before in
+    let e = c8 .before in
+    let s = entry e in
+    let i = sym (c8 .is-item .ensures) ∙ c5 .before .before .if2 .taken in
+    let j = sym (c5 .before .is-item2 .ensures) ∙ c5 .if3 .taken in (
       λ _.
-          let e = c8 .before in
-          let s = entry e in
-          let i = sym (c8 .is-item .ensures) ∙ c5 .before .before .if2 .taken in
-          let j = sym (c5 .before .is-item2 .ensures) ∙ c5 .if3 .taken in
           items-judged (s .pre .0 .0) (s .pre .1) (textWord (longer (lent s) (s .args .condition))) (λ _. true) (s .args .switches)
           (λ k l _ _. by-texts (s .pre .0 .0) (s .args .switches) (in-file e .0) (in-file e .1) (s .pre .1) (texts e) k l) i j (rw (
             e .before .before .before .before .before .before .row-of .ensures,
@@ -114,7 +117,7 @@ returns-2 c =
             e .before .asked-of .ensures,
             filled e,
           ) at (c .before .before .compare-texts .ensures)),
-      λ e. absurd (false≢true (sym e)),
+      (λ e. absurd (false≢true (sym e)), sym (by-both (texts e) ∙ rw i)),
     )
 
 relate-literal-requires : tie.Need-relate-literal-requires
@@ -135,17 +138,17 @@ same-length-2 : tie.Need-same-length-2
 same-length-2 c = search needs
 
 returns-3 : tie.Need-returns-3
-returns-3 c = (
-  λ _.
-      let e = c .before .before .before .before .before .before .before .before in
-      let s = entry e in
-      let i = sym (c .before .before .before .before .before .before .before .is-item .ensures) ∙ c .before .before .before .before .before .before .if2 .taken in
-      let j = sym (c .before .before .before .before .before .is-item2 .ensures) ∙ c .before .before .before .before .if3 .left in
-      object-judged (s .pre .0 .0) (s .pre .1) (textWord (longer (lent s) (s .args .condition))) (λ _. true) (s .args .switches)
-      (λ k l _ _. by-texts (s .pre .0 .0) (s .args .switches) (in-file e .0) (in-file e .1) (s .pre .1) (texts e) k l) (first s) i j refl
-      (rw (e .before .before .before .before .before .before .row-of .ensures, e .before .asked-of .ensures, filled e) at (c .before .before .relate-literal .ensures)),
-  λ e. absurd (false≢true (sym e)),
-)
+returns-3 c =
+    let e = c .before .before .before .before .before .before .before .before in
+    let s = entry e in
+    let i = sym (c .before .before .before .before .before .before .before .is-item .ensures) ∙ c .before .before .before .before .before .before .if2 .taken in
+    let j = sym (c .before .before .before .before .before .is-item2 .ensures) ∙ c .before .before .before .before .if3 .left in (
+      λ _.
+          object-judged (s .pre .0 .0) (s .pre .1) (textWord (longer (lent s) (s .args .condition))) (λ _. true) (s .args .switches)
+          (λ k l _ _. by-texts (s .pre .0 .0) (s .args .switches) (in-file e .0) (in-file e .1) (s .pre .1) (texts e) k l) (first s) i j refl
+          (rw (e .before .before .before .before .before .before .row-of .ensures, e .before .asked-of .ensures, filled e) at (c .before .before .relate-literal .ensures)),
+      (λ e. absurd (false≢true (sym e)), sym (by-both (texts e) ∙ rw i)),
+    )
 
 is-item-requires-3 : tie.Need-is-item-requires-3
 is-item-requires-3 c κs = search needs
@@ -168,20 +171,24 @@ same-length-3 : tie.Need-same-length-3
 same-length-3 c = search needs
 
 returns-4 : tie.Need-returns-4
-returns-4 c = (
-  λ _.
-      let e = c .before .before .before .before .before .before .before .before in
-      let s = entry e in
-      let i = sym (c .before .before .before .before .before .before .before .is-item .ensures) ∙ c .before .before .before .before .before .before .if2 .left in
-      let j = sym (c .before .before .before .before .before .is-item3 .ensures) ∙ c .before .before .before .before .if4 .taken in
-      subject-judged (s .pre .0 .0) (s .pre .1) (textWord (longer (lent s) (s .args .condition))) (λ _. true) (s .args .switches)
-      (λ k l _ _. by-texts (s .pre .0 .0) (s .args .switches) (in-file e .0) (in-file e .1) (s .pre .1) (texts e) k l) (first s) i j refl
-      (rw (e .before .before .before .before .before .row-of2 .ensures, e .before .asked-of .ensures, filled e) at (c .before .before .relate-literal2 .ensures)),
-  λ e. absurd (false≢true (sym e)),
-)
+returns-4 c =
+    let e = c .before .before .before .before .before .before .before .before in
+    let s = entry e in
+    let i = sym (c .before .before .before .before .before .before .before .is-item .ensures) ∙ c .before .before .before .before .before .before .if2 .left in
+    let j = sym (c .before .before .before .before .before .is-item3 .ensures) ∙ c .before .before .before .before .if4 .taken in (
+      λ _.
+          subject-judged (s .pre .0 .0) (s .pre .1) (textWord (longer (lent s) (s .args .condition))) (λ _. true) (s .args .switches)
+          (λ k l _ _. by-texts (s .pre .0 .0) (s .args .switches) (in-file e .0) (in-file e .1) (s .pre .1) (texts e) k l) (first s) i j refl
+          (rw (e .before .before .before .before .before .row-of2 .ensures, e .before .asked-of .ensures, filled e) at (c .before .before .relate-literal2 .ensures)),
+      (λ e. absurd (false≢true (sym e)), sym (by-both (texts e) ∙ rw (i, j))),
+    )
 
 returns-5 : tie.Need-returns-5
-returns-5 c = (λ e. absurd (false≢true e), λ _. refl)
+returns-5 c =
+    let e = c .before .before .before .before in
+    let i = sym (c .before .before .before .is-item .ensures) ∙ c .before .before .if2 .left in
+    let j = sym (c .before .is-item3 .ensures) ∙ c .if4 .left in
+    (λ e. absurd (false≢true e), (λ _. refl, sym (by-both (texts e) ∙ rw (i, j))))
 
 pub judge-texts-spec : {M : Type 1} → statement M
 judge-texts-spec =
