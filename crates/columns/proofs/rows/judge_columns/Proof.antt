@@ -10,10 +10,10 @@ use Rattle.columns.proofs.rows.judge_columns.Tie as tie
 
 -- the block starts after the file's first bytes
 far : (c : tie.Else1) → ltb (c .before .before .before .before .before .before .before .before .args .block .from) 8 ≡ false
-far c = le-ltb (c .before .before .before .before .before .before .before .before .args .block .from) 8 (c .if1 .left)
+far c = le-ltb (c .before .before .before .before .before .before .before .before .args .block .from) 8 (omega (arith, c .if1 .left))
 
 returns : tie.Need-returns
-returns c = (λ e. absurd (false≢true e), (λ _. refl, rw (lt-ltb (c .before .before .before .before .before .before .before .before .args .block .from) 8 (c .if1 .taken))))
+returns c = (λ e. absurd (false≢true e), (λ _. refl, rw (lt-ltb (c .before .before .before .before .before .before .before .before .args .block .from) 8 (omega (arith, c .if1 .taken)))))
 
 test-of-requires : tie.Need-test-of-requires
 test-of-requires c κs = search needs
