@@ -1,2 +1,5 @@
+pub mod Bases
 pub mod Firsts
+pub mod Passing
 pub mod Rights
+pub mod Sides

@@ -34,7 +34,7 @@ three-ways asked a b = by (ltb a b) (eqb a b) refl refl
     by false false l m = rw (l, m, lt-ltb b a (omega (arith, ltb-false a b l, eqb-false a b m)))
 
 -- one test of two words, where it is the one that is asked
-chosen : (turn b : Bool) → cond b (bit (turned turn true)) (bit (turned turn false)) ≡ bit (turned turn b)
+pub chosen : (turn b : Bool) → cond b (bit (turned turn true)) (bit (turned turn false)) ≡ bit (turned turn b)
 chosen turn true = refl
 chosen turn false = refl
 

@@ -1,6 +1,6 @@
 -- A block of at most 64 records of one size, which start at a byte of a file: one row of a plan judged for each of them.
 use mathlib.Core.Path.{_≡_}
-use mathlib.Core.Bool.{Bool, true, false, not, cond}
+use mathlib.Core.Bool.{Bool, true, false, not, cond, _&&_}
 use mathlib.Core.List.{List}
 use Prim.Native.Nat.{ℕ, _+_, _-_, _*_, _<_, _≤_}
 use lib.ListN.{length, getD, take, drop}
@@ -13,6 +13,7 @@ use Rattle.values.specs.Truth.{turned, outcome, Readable}
 use Rattle.grammar.specs.declared.PlanRow.{PlanRow}
 use Rattle.digit_words.specs.declared.Asked.{Asked}
 use Rattle.byte_words.specs.Words.{digitWord, digitsIn}
+use Rattle.block_truths.specs.declared.Extent.{Extent}
 use Rattle.block_truths.specs.declared.Bits.{Bits}
 use Rattle.block_truths.specs.declared.OrderBits.{OrderBits}
 
@@ -29,9 +30,28 @@ pub record Right (out : Outcome) (truth : ℕ) : Type 0 where
 abbrev pub outcomeAt : Lent → List ℕ → ℕ → ℕ → ℕ → PlanRow → ℕ → Outcome
 outcomeAt lent records from size switches r j = outcome lent (recordAt records from size j) switches (r .subject) (r .relation) (r .object)
 
+-- What is left in the numbers of a block: of the first n records each has the number that it is to have, and the rest of the numbers are as they were.
+pub record Told (n : ℕ) (P : ℕ → ℕ → Type 0) (before after : List ℕ) : Type 0 where
+  pub told : (k : ℕ) → k < n → P k (getD after k 0)
+  pub rest : drop n after ≡ drop n before
+
+-- record k has this number
+abbrev pub Numbered : ℕ → (ℕ → ℕ) → List ℕ → List ℕ → Type 0
+Numbered n number before after = Told n (λ k v. v ≡ number k) before after
+
+-- a record that stands at a place has the number that it is to have, and any other has the number that it had
+pub record Standing (at : List ℕ) (place : ℕ) (P : ℕ → ℕ → Type 0) (before : List ℕ) (k v : ℕ) : Type 0 where
+  pub here : getD at k 0 ≡ place → P k v
+  pub elsewhere : (getD at k 0 ≡ place → ⊥) → v ≡ getD before k 0
+
 -- the truths of row r are right for each of the first n records
-abbrev pub JudgesAll : Lent → List ℕ → ℕ → ℕ → ℕ → ℕ → PlanRow → List ℕ → Type 0
-JudgesAll lent records from size n switches r truths = (j : ℕ) → j < n → Right (outcomeAt lent records from size switches r j) (getD truths j 0)
+abbrev pub JudgesAll : Lent → List ℕ → ℕ → ℕ → ℕ → ℕ → PlanRow → List ℕ → List ℕ → Type 0
+JudgesAll lent records from size n switches r before truths = Told n (λ k v. Right (outcomeAt lent records from size switches r k) v) before truths
+
+-- for each of them that stands at a place
+abbrev pub JudgesAt : Lent → List ℕ → ℕ → ℕ → ℕ → ℕ → PlanRow → List ℕ → ℕ → List ℕ → List ℕ → Type 0
+JudgesAt lent records from size n switches r at place before truths =
+    Told n (Standing at place (λ k v. Right (outcomeAt lent records from size switches r k) v) before) before truths
 
 -- What is needed of a block: some records, at most 64, and each lies in the file.
 pub record Laid (records : List ℕ) (from size n : ℕ) : Type 0 where
@@ -54,9 +74,20 @@ pub record Field (size end width : ℕ) : Type 0 where
 abbrev pub FieldOf : ℕ → Row → Type 0
 FieldOf size row = Field size (row .offset + row .size) (row .size)
 
--- the word of that field in record k
+-- in a record that starts at this byte it ends in the file, with 8 bytes of the file before its end
+pub record There (bytes base end width : ℕ) : Type 0 where
+  pub some : 1 ≤ width
+  pub most : width ≤ 8
+  pub after : 8 ≤ base + end
+  pub inside : base + end ≤ bytes
+
+-- its word there
+abbrev pub wordIn : List ℕ → ℕ → ℕ → ℕ → ℕ
+wordIn records base end width = digitWord (take width (drop (base + end - width) records))
+
+-- and in record k
 abbrev pub wordAt : List ℕ → ℕ → ℕ → ℕ → ℕ → ℕ → ℕ
-wordAt records from size end width k = digitWord (take width (drop (from + k * size + end - width) records))
+wordAt records from size end width k = wordIn records (from + k * size) end width
 
 -- the truth of a comparison of words, of three truths: for less, for the same, and for more; or 2 where the words are not valid
 abbrev pub compared : Bool → ℕ → ℕ → ℕ → ℕ → ℕ → ℕ
@@ -65,6 +96,13 @@ compared valid less same more a b = cond valid (cond (ltb a b) less (cond (eqb a
 -- the truth of a test of two words, of two truths; or 2 where the words are not valid
 abbrev pub tested : Bool → Bool → ℕ → ℕ → ℕ
 tested valid test holds fails = cond valid (cond test holds fails) 2
+
+-- the truth of a test of two fields in record k
+abbrev pub testedAt : (ℕ → ℕ → Bool) → List ℕ → ℕ → ℕ → Extent → Extent → Bits → ℕ → ℕ
+testedAt test records from size first second bits k =
+    let a = wordAt records from size (first .end) (first .width) k in
+    let b = wordAt records from size (second .end) (second .width) k in
+    tested (digitsIn 8 a && digitsIn 8 b) (test a b) (bits .holds) (bits .fails)
 
 abbrev pub bit : Bool → ℕ
 bit b = cond b 1 0
@@ -100,7 +138,6 @@ relatedTo asked exchanged valid a b =
     compared valid (coded asked (not exchanged) false exchanged) (coded asked false true false) (coded asked exchanged false (not exchanged)) a b
 
 -- a word of digits, and the truths of a relation of it and an item of each of the first n records
-pub record Related (records : List ℕ) (from size n : ℕ) (row : Row) (asked : Asked) (exchanged : Bool) (word : ℕ) (truths : List ℕ) : Type 0 where
+pub record Related (records : List ℕ) (from size n : ℕ) (row : Row) (asked : Asked) (exchanged : Bool) (word : ℕ) (before truths : List ℕ) : Type 0 where
   pub digits : digitsIn 8 word ≡ true
-  pub told : (k : ℕ) → k < n →
-      getD truths k 0 ≡ relatedTo asked exchanged (digitsIn 8 (fieldAt records from size row k)) (fieldAt records from size row k) word
+  pub numbers : Numbered n (λ k. relatedTo asked exchanged (digitsIn 8 (fieldAt records from size row k)) (fieldAt records from size row k) word) before truths

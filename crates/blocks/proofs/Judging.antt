@@ -2,17 +2,16 @@
 use mathlib.Core.Path.{_≡_, refl, ap, _∙_}
 use mathlib.Core.Bool.{false}
 use mathlib.Core.List.{List}
-use Prim.Native.Nat.{ℕ, _+_, _-_, _*_, _<_, _≤_}
+use Prim.Native.Nat.{ℕ, _<_, _≤_}
 use native.Mathlib.Omega.{arith}
-use lib.ListN.{length, getD, set, take, drop}
+use lib.ListN.{getD}
 use Rattle.tables.specs.declared.Outcome.{Outcome}
 use Rattle.tables.specs.declared.Outcome.the-variants.{True as Holds, False as Fails, Stopped}
 use Rattle.tables.specs.Operands.{Lent}
 use Rattle.tables.specs.Tokens.{isName}
 use Rattle.values.specs.Truth.{outcome}
 use Rattle.grammar.specs.declared.PlanRow.{PlanRow}
-use Rattle.block_truths.specs.Columns.{recordAt, outcomeAt, Right}
-use Rattle.places.proofs.Storing.{Stored, stores, skips}
+use Rattle.block_truths.specs.Columns.{recordAt, Right}
 use Rattle.blocks.specs.Blocks.{truthNumber, Judges}
 
 -- the number of what a simple condition comes to is right
@@ -26,22 +25,6 @@ pub any-record : (lent : Lent) (one other : List ℕ) (switches subject relation
     → outcome lent one switches subject relation object ≡ outcome lent other switches subject relation object
 unfolding outcome
 any-record lent one other switches subject relation object e f = rw (e, f)
-
-module _ (lent : Lent) (records : List ℕ) (from size switches : ℕ) (r : PlanRow) (at : List ℕ) (row : ℕ) where
-  -- what is to stand for record k
-  abbrev pub Told : ℕ → ℕ → Type 0
-  Told k truth = getD at k 0 ≡ row → Right (outcomeAt lent records from size switches r k) truth
-
-  module _ (before truths : List ℕ) (j base : ℕ) (S : Stored Told before truths j) where
-    pub judged : base ≡ from + j * size → j < length before → (truth : ℕ)
-        → truth ≡ truthNumber (outcome lent (take (base + size - base) (drop base records)) switches (r .subject) (r .relation) (r .object))
-        → {after : List ℕ} → after ≡ set truths j truth → Stored Told before after (j + 1)
-    judged e l truth f g =
-        let width : base + size - base ≡ size = omega arith in
-        rw g (stores Told before S l (λ _. right _ (rw (width, e) at f)))
-
-    pub passed-by : (getD at j 0 ≡ row → ⊥) → {after : List ℕ} → after ≡ truths → Stored Told before after (j + 1)
-    passed-by n g = rw g (skips Told before S (λ e. absurd (n e)))
 
 -- a switch row, judged on any record at all
 pub once : (lent : Lent) (records : List ℕ) (from size n switches : ℕ) (r : PlanRow) (at : List ℕ) (row : ℕ) (truths one : List ℕ) {truth : ℕ} → n ≤ 64

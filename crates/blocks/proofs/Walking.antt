@@ -6,7 +6,7 @@ use Prim.Native.Nat.{ℕ, _+_, _<_, _≤_}
 use native.Mathlib.Omega.{arith}
 use lib.ListN.{getD}
 use lib.Dec.{eqb, ltb}
-use borrow.Author.Tests.{eqb-true, ltb-true, ltb-false, eqb-false, lt-ltb, le-ltb, ne-eqb}
+use borrow.Author.Tests.{eqb-true, ltb-true, eqb-false, lt-ltb, le-ltb, ne-eqb}
 use Rattle.tables.specs.Operands.{Lent}
 use Rattle.values.specs.Truth.{outcome}
 use Rattle.grammar.specs.Judging.{Outcomes}
@@ -16,11 +16,11 @@ use Rattle.rules.specs.Calls.{told}
 use Rattle.runner.proofs.Running.{readable, Going, start, goes-true, goes-false, ends-true, ends-false}
 use Rattle.places.specs.Places.{startPlace, nextPlace, nextCount, UpTo, Lowest}
 use Rattle.block_truths.specs.Columns.{recordAt, Judgeable}
-use Rattle.blocks.specs.Blocks.{placeOf, Placed, Judges, Walkable, Settled}
+use Rattle.blocks.specs.Blocks.{placeOf, Placed, Judges, Walkable, Settled, Walked}
 use Rattle.blocks.proofs.Standing.{Kind, at-true, at-false, at-row, kind, target-row, target-false, target-true, later-place, leaves-row, little-more}
 
 -- the run of a record has come to the target that stands at this place
-pub record Walked (out : Outcomes) (plan : List ℕ) (place count : ℕ) : Type 0 where
+pub record Reached (out : Outcomes) (plan : List ℕ) (place count : ℕ) : Type 0 where
   pub target : ℕ
   pub stands : place ≡ placeOf target
   pub going : Going out plan target count
@@ -34,8 +34,9 @@ module _ (lent : Lent) (plan records : List ℕ) (from size n switches : ℕ) wh
   pub record Walking (at counts : List ℕ) (row : ℕ) : Type 0 where
     pub low : Lowest at row 64
     pub counted : UpTo row counts
-    pub idle : (j : ℕ) → n ≤ j → j < 64 → getD at j 0 ≡ 130
-    pub walked : (j : ℕ) → j < n → (getD at j 0 ≡ 130 → ⊥) → Walked (out j) plan (getD at j 0) (getD counts j 0)
+    pub few : UpTo (planRows plan) counts
+    pub idle : (j : ℕ) → n ≤ j → j < 64 → (getD at j 0 ≡ 130) × (getD counts j 0 ≡ 0)
+    pub walked : (j : ℕ) → j < n → (getD at j 0 ≡ 130 → ⊥) → Reached (out j) plan (getD at j 0) (getD counts j 0)
 
   module _ (W : Walkable lent plan records from size n) where
     pub few-rows : planRows plan ≤ 128
@@ -57,7 +58,8 @@ module _ (lent : Lent) (plan records : List ℕ) (from size n switches : ℕ) wh
         record {
           low = low;
           counted = λ j l. omega (arith, z j l);
-          idle = λ j l b. a j b ∙ rw (le-ltb j n l);
+          few = λ j l. omega (arith, z j l);
+          idle = λ j l b. (a j b ∙ rw (le-ltb j n l), z j b);
           walked = λ j l _.
               let b : j < 64 = omega (arith, W .laid .few) in
               let first : getD at j 0 ≡ placeOf 0 = a j b ∙ rw (lt-ltb j n l) in
@@ -77,7 +79,7 @@ module _ (lent : Lent) (plan records : List ℕ) (from size n switches : ℕ) wh
         getD at′ j 0 ≡ nextPlace row (H row) (F row) (getD at j 0) (getD truths j 0))
         (numbers : (j : ℕ) → j < 64 → getD counts′ j 0 ≡ nextCount row (getD at j 0) (getD counts j 0)) (low : Lowest at′ row′ 64) where
       -- the least place rises
-      pub rises : row < row′
+      rises : row < row′
       rises =
           omega (
             arith,
@@ -88,7 +90,7 @@ module _ (lent : Lent) (plan records : List ℕ) (from size n switches : ℕ) wh
 
       -- one record goes on
       steps : (j : ℕ) → j < n → (nextPlace row (H row) (F row) (getD at j 0) (getD truths j 0) ≡ 130 → ⊥)
-          → Walked (out j) plan (nextPlace row (H row) (F row) (getD at j 0) (getD truths j 0)) (nextCount row (getD at j 0) (getD counts j 0))
+          → Reached (out j) plan (nextPlace row (H row) (F row) (getD at j 0) (getD truths j 0)) (nextCount row (getD at j 0) (getD counts j 0))
       steps j b = by (eqb (getD at j 0) row) (ltb (getD truths j 0) 2) (eqb (getD truths j 0) 1) refl refl refl
         where
           here : getD at j 0 ≡ row → Going (out j) plan row (getD counts j 0)
@@ -98,7 +100,7 @@ module _ (lent : Lent) (plan records : List ℕ) (from size n switches : ℕ) wh
               subst (λ (k : ℕ). Going (out j) plan k (getD counts j 0)) t (w .going)
 
           by : (a c d : Bool) → eqb (getD at j 0) row ≡ a → ltb (getD truths j 0) 2 ≡ c → eqb (getD truths j 0) 1 ≡ d → (cond a (cond c (cond d (H row) (F row)) 130) (getD at j 0) ≡ 130 → ⊥)
-              → Walked (out j) plan (cond a (cond c (cond d (H row) (F row)) 130) (getD at j 0)) (cond a (getD counts j 0 + 1) (getD counts j 0))
+              → Reached (out j) plan (cond a (cond c (cond d (H row) (F row)) 130) (getD at j 0)) (cond a (getD counts j 0 + 1) (getD counts j 0))
           by true true true e f g _ =
               let r = right j b (eqb-true (getD at j 0) row e) .holds (eqb-true (getD truths j 0) 1 g) in
               record {
@@ -118,31 +120,37 @@ module _ (lent : Lent) (plan records : List ℕ) (from size n switches : ℕ) wh
           by true false d e f g z = absurd (z refl)
           by false c d e f g z = S .walked j b z
 
-      pub walks-on : Walking at′ counts′ row′
+      walks-on : Walking at′ counts′ row′
       walks-on =
           record {
             low = low;
             counted = λ j b. omega (arith, numbers j b, little-more row (getD at j 0) (getD counts j 0), S .counted j b, rises);
+            few = λ j b. omega (arith, numbers j b, little-more row (getD at j 0) (getD counts j 0), S .counted j b, l);
             idle = λ j b a.
-                places j a ∙ rw (S .idle j b a, ne-eqb 130 row (λ e. omega (arith, e, l, few-rows)));
+                let off = ne-eqb 130 row (λ e. omega (arith, e, l, few-rows)) in
+                let i = S .idle j b a in
+                (places j a ∙ rw (i .0, off), numbers j a ∙ rw (i .0, off, i .1));
             walked = λ j b z.
                 let a : j < 64 = omega (arith, W .laid .few) in
                 rw (places j a, numbers j a) (steps j b (λ e. z (places j a ∙ e)));
           }
 
+      pub onward : (row < row′) × Walking at′ counts′ row′
+      onward = (rises, walks-on)
+
     -- no record stands at a row any more
     module _ {at counts : List ℕ} {row : ℕ} (S : Walking at counts row) (past : planRows plan ≤ row) where
-      settled : (j : ℕ) → j < n → 128 ≤ getD at j 0
+      settled : (j : ℕ) → j < n → (128 ≤ getD at j 0) × (getD at j 0 ≤ 130)
       settled j b = by (eqb (getD at j 0) 130) refl
         where
-          by : (a : Bool) → eqb (getD at j 0) 130 ≡ a → 128 ≤ getD at j 0
+          by : (a : Bool) → eqb (getD at j 0) 130 ≡ a → (128 ≤ getD at j 0) × (getD at j 0 ≤ 130)
           by true e = omega (arith, eqb-true (getD at j 0) 130 e)
           by false e = go (kind (going-placed (w .going)))
             where
-              w : Walked (out j) plan (getD at j 0) (getD counts j 0)
+              w : Reached (out j) plan (getD at j 0) (getD counts j 0)
               w = S .walked j b (eqb-false (getD at j 0) 130 e)
 
-              go : Kind (w .target) → 128 ≤ getD at j 0
+              go : Kind (w .target) → (128 ≤ getD at j 0) × (getD at j 0 ≤ 130)
               go (at-true t f) = omega (arith, w .stands, f)
               go (at-false t f) = omega (arith, w .stands, f)
               go (at-row t f) =
@@ -152,7 +160,8 @@ module _ (lent : Lent) (plan records : List ℕ) (from size n switches : ℕ) wh
       settled-at j b =
           let content = recordAt records from size j in
           record {
-            done = settled j b;
+            done = settled j b .0;
+            most = settled j b .1;
             fails = λ e.
                 let w = S .walked j b (λ z. omega (arith, e, z)) in
                 sym (ends-false lent plan content (W .runnable j b) (out j) (w .target) (getD counts j 0) (w .going)
@@ -163,11 +172,5 @@ module _ (lent : Lent) (plan records : List ℕ) (from size n switches : ℕ) wh
                 (target-true (going-placed (w .going)) (w .stands) e));
           }
 
-      pub ends : (j : ℕ) → j < 64 → Settled (told (running (out j) plan)) (getD at j 0) (getD counts j 0)
-      ends j b = by (ltb j n) refl
-        where
-          by : (a : Bool) → ltb j n ≡ a → Settled (told (running (out j) plan)) (getD at j 0) (getD counts j 0)
-          by true e = settled-at j (ltb-true j n e)
-          by false e =
-              let z = S .idle j (ltb-false j n e) b in
-              record { done = omega (arith, z); fails = λ f. absurd (omega (arith, z, f)); holds = λ f. absurd (omega (arith, z, f)) }
+      pub ends : Walked lent plan records from size n switches at counts
+      ends = record { settled = settled-at; others = S .idle; few = S .few }

@@ -3,7 +3,7 @@ ghost use mathlib.Core.Path.{_≡_};
 ghost use lib.ListN.{length};
 ghost use Rattle.tables.specs.Operands.{lendNames};
 ghost use Rattle.values.specs.Truth.{outcome, Readable};
-ghost use Rattle.block_truths.specs.Columns.{Judgeable};
+ghost use Rattle.block_truths.specs.Columns.{JudgesAt, Judgeable};
 ghost use Rattle.blocks.specs.Blocks.{truthNumber, Judges};
 use block_truths::Block;
 use columns::rows::judge_columns;
@@ -13,7 +13,6 @@ use places::fill;
 use tables::Outcome;
 use tables::tokens::NAME;
 use tables::tokens::SPAN;
-use text_columns::rows::judge_texts;
 use truth::conditions::truth_of;
 
 // The truth of a row where it stops: it is not known here.
@@ -71,7 +70,7 @@ fn judge_each<'a>(
 )
     requires { ⌜ Judgeable (lendNames (now items) (now literals) (now bytes) (now names)) (now records) (block .from) (block .size) (block .n) condition ⌝ }
     requires { ⌜ (length (now at) ≡ 64) × (length (now truths) ≡ 64) ⌝ }
-    ensures { λ _. ⌜ Judges (lendNames (now (items .entry)) (now (literals .entry)) (now (bytes .entry)) (now (names .entry))) (now (records .entry)) (block .from) (block .size) (block .n) switches condition (now (at .entry)) row (now (truths .exit)) ⌝ }
+    ensures { λ _. ⌜ JudgesAt (lendNames (now (items .entry)) (now (literals .entry)) (now (bytes .entry)) (now (names .entry))) (now (records .entry)) (block .from) (block .size) (block .n) switches condition (now (at .entry)) row (now (truths .entry)) (now (truths .exit)) ⌝ }
 {
     let size = block.size;
     let n = block.n;
@@ -117,19 +116,6 @@ pub(crate) fn judge_row<'a>(
         return;
     }
     if judge_columns(
-        items,
-        literals,
-        bytes,
-        names,
-        records,
-        block,
-        switches,
-        condition,
-        truths,
-    ) {
-        return;
-    }
-    if judge_texts(
         items,
         literals,
         bytes,

@@ -1,13 +1,8 @@
 // A block of records goes through a plan: the least row at which one stands is judged for all that stand there.
 ghost use mathlib.Core.Path.{_≡_};
-ghost use Prim.Native.Nat.{ℕ, _<_, _≤_};
-ghost use lib.ListN.{length, getD};
+ghost use lib.ListN.{length};
 ghost use Rattle.tables.specs.Operands.{lendNames};
-ghost use Rattle.values.specs.Truth.{outcome};
-ghost use Rattle.grammar.specs.Plan.{running};
-ghost use Rattle.rules.specs.Calls.{told};
-ghost use Rattle.block_truths.specs.Columns.{recordAt};
-ghost use Rattle.blocks.specs.Blocks.{placeOf, Placed, Walkable, Settled};
+ghost use Rattle.blocks.specs.Blocks.{placeOf, Placed, Walkable, Walked};
 use crate::rows::judge_row;
 use block_truths::Block;
 use places::AT_FALSE;
@@ -51,15 +46,15 @@ pub fn walk_block<'a>(
     switches: u8,
     at: &mut [u8],
     counts: &mut [u8],
-    truths: &mut [u8],
 )
     requires { ⌜ Walkable (lendNames (now items) (now literals) (now bytes) (now names)) (now plan) (now records) (block .from) (block .size) (block .n) ⌝ }
-    requires { ⌜ (length (now at) ≡ 64) × (length (now counts) ≡ 64) × (length (now truths) ≡ 64) ⌝ }
-    ensures { λ _. ⌜ ((j : ℕ) → j < 64 → Settled (told (running (outcome (lendNames (now (items .entry)) (now (literals .entry)) (now (bytes .entry)) (now (names .entry))) (recordAt (now (records .entry)) (block .from) (block .size) j) switches) (now (plan .entry)))) (getD (now (at .exit)) j 0) (getD (now (counts .exit)) j 0)) ⌝ }
+    requires { ⌜ (length (now at) ≡ 64) × (length (now counts) ≡ 64) ⌝ }
+    ensures { λ _. ⌜ Walked (lendNames (now (items .entry)) (now (literals .entry)) (now (bytes .entry)) (now (names .entry))) (now (plan .entry)) (now (records .entry)) (block .from) (block .size) (block .n) switches (now (at .exit)) (now (counts .exit)) ⌝ }
 {
     let rows = (plan.len() / 5) as u8;
     start(at, block.n);
     fill(counts, 0);
+    let mut truths = [0u8; 64];
     let mut row = least(at);
     while row < rows {
         let condition = plan_row(plan, wide(row));
@@ -74,11 +69,11 @@ pub fn walk_block<'a>(
             condition,
             at,
             row,
-            truths,
+            &mut truths,
         );
         let holds = place_of(condition.holds);
         let fails = place_of(condition.fails);
-        advance(at, counts, truths, row, holds, fails);
+        advance(at, counts, &truths, row, holds, fails);
         row = least(at);
     }
 }

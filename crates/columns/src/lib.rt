@@ -1,3 +1,3 @@
-// Which rows of a plan are judged over a block of records by the words of digit fields.
+// Which rows of a plan are judged over a block of records by words, of digit fields or of short texts.
 
-pub mod rows; // relations at one scale, and NUMERIC
+pub mod rows; // relations, and NUMERIC

@@ -1,5 +1,5 @@
-// Which rows are judged by words: a relation of two unsigned fields of up to 8 digits at one scale, of which one may be a literal, and NUMERIC
-// of such a field.
+// Which rows are judged by words: a relation of two unsigned fields of up to 8 digits at one scale, of which one may be a literal, NUMERIC
+// of such a field, and a relation of short texts.
 ghost use mathlib.Core.Path.{_≡_};
 ghost use mathlib.Core.Bool.{true, false};
 ghost use Prim.Native.Nat.{_+_, _-_, _≤_};
@@ -7,8 +7,9 @@ ghost use lib.ListN.{length, take, drop};
 ghost use Rattle.tables.specs.Operands.{lend, lendNames, operandBytes, Within};
 ghost use Rattle.typing.specs.declared.Test.the-variants.{Relation, Class};
 ghost use Rattle.typing.specs.Tests.{testOf};
-ghost use Rattle.byte_words.specs.Words.{digitWord};
+ghost use Rattle.byte_words.specs.Words.{digitWord, digitsIn};
 ghost use Rattle.block_truths.specs.Columns.{Laid, FieldOf, Related, JudgesAll, Judgeable};
+ghost use Rattle.columns.specs.Judged.{relationByWords, numericByWord, byWords};
 use block_truths::Block;
 use block_truths::truths::bits_of;
 use block_truths::truths::order_bits;
@@ -25,6 +26,7 @@ use grammar::PlanRow;
 use operands::named::operand_bytes;
 use operands::named::row_of;
 use operands::tokens::is_item;
+use text_columns::rows::judge_texts;
 use typing::Test;
 use typing::sides::test_of;
 
@@ -44,8 +46,9 @@ fn relate_literal<'a>(
     requires { ⌜ Laid (now records) (block .from) (block .size) (block .n) × (8 ≤ block .from) × (length (now truths) ≡ 64) ⌝ }
     requires { ⌜ FieldOf (block .size) row × (block .from + block .size ≤ length (now records)) ⌝ }
     requires { ⌜ Within (lend (now items) (now literals) (now bytes)) (take (block .from + block .size - block .from) (drop (block .from) (now records))) token × (length (operandBytes (lend (now items) (now literals) (now bytes)) (take (block .from + block .size - block .from) (drop (block .from) (now records))) token) ≤ 8) ⌝ }
-    ensures { λ r. ⌜ (r ≡ true → Related (now (records .entry)) (block .from) (block .size) (block .n) row asked exchanged (digitWord (operandBytes (lend (now (items .entry)) (now (literals .entry)) (now (bytes .entry))) (take (block .from + block .size - block .from) (drop (block .from) (now (records .entry)))) token)) (now (truths .exit))) ⌝ }
+    ensures { λ r. ⌜ (r ≡ true → Related (now (records .entry)) (block .from) (block .size) (block .n) row asked exchanged (digitWord (operandBytes (lend (now (items .entry)) (now (literals .entry)) (now (bytes .entry))) (take (block .from + block .size - block .from) (drop (block .from) (now (records .entry)))) token)) (now (truths .entry)) (now (truths .exit))) ⌝ }
     ensures { λ r. ⌜ (r ≡ false → now (truths .exit) ≡ now (truths .entry)) ⌝ }
+    ensures { λ r. ⌜ r ≡ digitsIn 8 (digitWord (operandBytes (lend (now (items .entry)) (now (literals .entry)) (now (bytes .entry))) (take (block .from + block .size - block .from) (drop (block .from) (now (records .entry)))) token)) ⌝ }
 {
     let from = block.from;
     let size = block.size;
@@ -59,7 +62,7 @@ fn relate_literal<'a>(
     true
 }
 
-// A relation, where both sides are read as words and have one scale.
+// A relation, where both sides are read as words and have one scale, or are short texts.
 fn judge_relation<'a>(
     items: &[u32],
     literals: &[u32],
@@ -75,15 +78,28 @@ fn judge_relation<'a>(
 ) -> bool
     requires { ⌜ Judgeable (lendNames (now items) (now literals) (now bytes) (now names)) (now records) (block .from) (block .size) (block .n) condition × (8 ≤ block .from) × (length (now truths) ≡ 64) ⌝ }
     requires { ⌜ testOf (condition .relation) ≡ Relation word negated ⌝ }
-    ensures { λ r. ⌜ (r ≡ true → JudgesAll (lendNames (now (items .entry)) (now (literals .entry)) (now (bytes .entry)) (now (names .entry))) (now (records .entry)) (block .from) (block .size) (block .n) switches condition (now (truths .exit))) ⌝ }
+    ensures { λ r. ⌜ (r ≡ true → JudgesAll (lendNames (now (items .entry)) (now (literals .entry)) (now (bytes .entry)) (now (names .entry))) (now (records .entry)) (block .from) (block .size) (block .n) switches condition (now (truths .entry)) (now (truths .exit))) ⌝ }
     ensures { λ r. ⌜ (r ≡ false → now (truths .exit) ≡ now (truths .entry)) ⌝ }
+    ensures { λ r. ⌜ r ≡ relationByWords (lendNames (now (items .entry)) (now (literals .entry)) (now (bytes .entry)) (now (names .entry))) condition ⌝ }
 {
     let subject = condition.subject;
     let object = condition.object;
     let row1 = row_of(subject, items, literals);
     let row2 = row_of(object, items, literals);
     if !(fits_word(row1) & fits_word(row2) & (row1.scale == row2.scale)) {
-        return false;
+        return judge_texts(
+            items,
+            literals,
+            bytes,
+            names,
+            records,
+            block,
+            switches,
+            condition,
+            word,
+            negated,
+            truths,
+        );
     }
     let asked = asked_of(word, negated);
     if is_item(subject) {
@@ -136,8 +152,9 @@ fn judge_numeric<'a>(
 ) -> bool
     requires { ⌜ Judgeable (lendNames (now items) (now literals) (now bytes) (now names)) (now records) (block .from) (block .size) (block .n) condition × (8 ≤ block .from) × (length (now truths) ≡ 64) ⌝ }
     requires { ⌜ testOf (condition .relation) ≡ Class 10 negated ⌝ }
-    ensures { λ r. ⌜ (r ≡ true → JudgesAll (lendNames (now (items .entry)) (now (literals .entry)) (now (bytes .entry)) (now (names .entry))) (now (records .entry)) (block .from) (block .size) (block .n) switches condition (now (truths .exit))) ⌝ }
+    ensures { λ r. ⌜ (r ≡ true → JudgesAll (lendNames (now (items .entry)) (now (literals .entry)) (now (bytes .entry)) (now (names .entry))) (now (records .entry)) (block .from) (block .size) (block .n) switches condition (now (truths .entry)) (now (truths .exit))) ⌝ }
     ensures { λ r. ⌜ (r ≡ false → now (truths .exit) ≡ now (truths .entry)) ⌝ }
+    ensures { λ r. ⌜ r ≡ numericByWord (lendNames (now (items .entry)) (now (literals .entry)) (now (bytes .entry)) (now (names .entry))) condition ⌝ }
 {
     let subject = condition.subject;
     let row = row_of(subject, items, literals);
@@ -161,8 +178,9 @@ pub fn judge_columns<'a>(
     truths: &mut [u8],
 ) -> bool
     requires { ⌜ Judgeable (lendNames (now items) (now literals) (now bytes) (now names)) (now records) (block .from) (block .size) (block .n) condition × (length (now truths) ≡ 64) ⌝ }
-    ensures { λ r. ⌜ (r ≡ true → JudgesAll (lendNames (now (items .entry)) (now (literals .entry)) (now (bytes .entry)) (now (names .entry))) (now (records .entry)) (block .from) (block .size) (block .n) switches condition (now (truths .exit))) ⌝ }
+    ensures { λ r. ⌜ (r ≡ true → JudgesAll (lendNames (now (items .entry)) (now (literals .entry)) (now (bytes .entry)) (now (names .entry))) (now (records .entry)) (block .from) (block .size) (block .n) switches condition (now (truths .entry)) (now (truths .exit))) ⌝ }
     ensures { λ r. ⌜ (r ≡ false → now (truths .exit) ≡ now (truths .entry)) ⌝ }
+    ensures { λ r. ⌜ r ≡ byWords (lendNames (now (items .entry)) (now (literals .entry)) (now (bytes .entry)) (now (names .entry))) (block .from) condition ⌝ }
 {
     if block.from < 8 {
         return false;

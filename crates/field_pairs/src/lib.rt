@@ -1,75 +1,92 @@
 // Two digit fields of each record of a block, compared as words: one test of the two, by what a relation asks.
 ghost use mathlib.Core.Path.{_≡_};
 ghost use mathlib.Core.Bool.{_&&_};
-ghost use Prim.Native.Nat.{ℕ, _<_, _≤_};
+ghost use Prim.Native.Nat.{_≤_};
 ghost use lib.Dec.{eqb, ltb};
-ghost use lib.ListN.{length, getD};
+ghost use lib.ListN.{length};
 ghost use Rattle.byte_words.specs.Words.{digitsIn};
-ghost use Rattle.block_truths.specs.Columns.{fieldAt, related, tested, Laid, FieldOf};
+ghost use Rattle.block_truths.specs.Columns.{wordIn, fieldAt, related, testedAt, Numbered, Laid, Field, FieldOf, There};
 use block_truths::Bits;
 use block_truths::Block;
+use block_truths::Extent;
 use block_truths::truths::bits_of;
-use byte_words::words::field_word;
 use content::Row;
 use digit_words::Asked;
 use eight_digits::digits::all_digits;
 use field_words::words::extent_of;
+use field_words::words::word_at;
 use places::choose;
 
 // The truth of a row that is not judged here.
 const UNJUDGED: u8 = 2;
 
-// Whether the first of two fields of each record is less.
-fn less_fields(records: &[u8], block: Block, row1: Row, row2: Row, bits: Bits, truths: &mut [u8])
-    requires { ⌜ Laid (now records) (block .from) (block .size) (block .n) × (8 ≤ block .from) × (length (now truths) ≡ 64) ⌝ }
-    requires { ⌜ FieldOf (block .size) row1 × FieldOf (block .size) row2 ⌝ }
-    ensures { λ _. ⌜ ((k : ℕ) → k < block .n → getD (now (truths .exit)) k 0 ≡ tested (digitsIn 8 (fieldAt (now (records .entry)) (block .from) (block .size) row1 k) && digitsIn 8 (fieldAt (now (records .entry)) (block .from) (block .size) row2 k)) (ltb (fieldAt (now (records .entry)) (block .from) (block .size) row1 k) (fieldAt (now (records .entry)) (block .from) (block .size) row2 k)) (bits .holds) (bits .fails)) ⌝ }
+// The words of two fields of a record, and whether both are digits.
+struct Pair {
+    a: u64,
+    b: u64,
+    valid: bool,
+}
+
+fn pair_at(records: &[u8], base: usize, first: Extent, second: Extent) -> Pair
+    requires { ⌜ There (length (now records)) base (first .end) (first .width) × There (length (now records)) base (second .end) (second .width) ⌝ }
+    ensures { λ r. ⌜ (r .a ≡ wordIn (now (records .entry)) base (first .end) (first .width)) × (r .b ≡ wordIn (now (records .entry)) base (second .end) (second .width)) × (r .valid ≡ digitsIn 8 (r .a) && digitsIn 8 (r .b)) ⌝ }
 {
-    let first = extent_of(row1);
-    let second = extent_of(row2);
-    let end1 = first.end;
-    let width1 = first.width;
-    let end2 = second.end;
-    let width2 = second.width;
+    let a = word_at(records, base, first);
+    let b = word_at(records, base, second);
+    Pair {
+        a,
+        b,
+        valid: all_digits(a) & all_digits(b),
+    }
+}
+
+// Whether the first of two fields of each record is less.
+fn less_fields(
+    records: &[u8],
+    block: Block,
+    first: Extent,
+    second: Extent,
+    bits: Bits,
+    truths: &mut [u8],
+)
+    requires { ⌜ Laid (now records) (block .from) (block .size) (block .n) × (8 ≤ block .from) × (length (now truths) ≡ 64) ⌝ }
+    requires { ⌜ Field (block .size) (first .end) (first .width) × Field (block .size) (second .end) (second .width) ⌝ }
+    ensures { λ _. ⌜ Numbered (block .n) (testedAt ltb (now (records .entry)) (block .from) (block .size) first second bits) (now (truths .entry)) (now (truths .exit)) ⌝ }
+{
     let size = block.size;
     let n = block.n;
-    let holds = bits.holds;
-    let fails = bits.fails;
     let mut base = block.from;
     let mut j: usize = 0;
     while j < n {
-        let a = field_word(records, base + end1, width1);
-        let b = field_word(records, base + end2, width2);
-        let valid = all_digits(a) & all_digits(b);
-        truths[j] = choose(valid, choose(a < b, holds, fails), UNJUDGED);
+        let pair = pair_at(records, base, first, second);
+        let less = choose(pair.a < pair.b, bits.holds, bits.fails);
+        truths[j] = choose(pair.valid, less, UNJUDGED);
         base += size;
         j += 1;
     }
 }
 
 // Whether they are the same. A loop of its own: with the test chosen in one loop, each record takes some instructions more.
-fn same_fields(records: &[u8], block: Block, row1: Row, row2: Row, bits: Bits, truths: &mut [u8])
+fn same_fields(
+    records: &[u8],
+    block: Block,
+    first: Extent,
+    second: Extent,
+    bits: Bits,
+    truths: &mut [u8],
+)
     requires { ⌜ Laid (now records) (block .from) (block .size) (block .n) × (8 ≤ block .from) × (length (now truths) ≡ 64) ⌝ }
-    requires { ⌜ FieldOf (block .size) row1 × FieldOf (block .size) row2 ⌝ }
-    ensures { λ _. ⌜ ((k : ℕ) → k < block .n → getD (now (truths .exit)) k 0 ≡ tested (digitsIn 8 (fieldAt (now (records .entry)) (block .from) (block .size) row1 k) && digitsIn 8 (fieldAt (now (records .entry)) (block .from) (block .size) row2 k)) (eqb (fieldAt (now (records .entry)) (block .from) (block .size) row1 k) (fieldAt (now (records .entry)) (block .from) (block .size) row2 k)) (bits .holds) (bits .fails)) ⌝ }
+    requires { ⌜ Field (block .size) (first .end) (first .width) × Field (block .size) (second .end) (second .width) ⌝ }
+    ensures { λ _. ⌜ Numbered (block .n) (testedAt eqb (now (records .entry)) (block .from) (block .size) first second bits) (now (truths .entry)) (now (truths .exit)) ⌝ }
 {
-    let first = extent_of(row1);
-    let second = extent_of(row2);
-    let end1 = first.end;
-    let width1 = first.width;
-    let end2 = second.end;
-    let width2 = second.width;
     let size = block.size;
     let n = block.n;
-    let holds = bits.holds;
-    let fails = bits.fails;
     let mut base = block.from;
     let mut j: usize = 0;
     while j < n {
-        let x = field_word(records, base + end1, width1);
-        let y = field_word(records, base + end2, width2);
-        let both = all_digits(x) & all_digits(y);
-        truths[j] = choose(both, choose(x == y, holds, fails), UNJUDGED);
+        let pair = pair_at(records, base, first, second);
+        let same = choose(pair.a == pair.b, bits.holds, bits.fails);
+        truths[j] = choose(pair.valid, same, UNJUDGED);
         base += size;
         j += 1;
     }
@@ -86,16 +103,18 @@ pub fn relate_fields(
 )
     requires { ⌜ Laid (now records) (block .from) (block .size) (block .n) × (8 ≤ block .from) × (length (now truths) ≡ 64) ⌝ }
     requires { ⌜ FieldOf (block .size) row1 × FieldOf (block .size) row2 ⌝ }
-    ensures { λ _. ⌜ ((k : ℕ) → k < block .n → getD (now (truths .exit)) k 0 ≡ related asked (digitsIn 8 (fieldAt (now (records .entry)) (block .from) (block .size) row1 k) && digitsIn 8 (fieldAt (now (records .entry)) (block .from) (block .size) row2 k)) (fieldAt (now (records .entry)) (block .from) (block .size) row1 k) (fieldAt (now (records .entry)) (block .from) (block .size) row2 k)) ⌝ }
+    ensures { λ _. ⌜ Numbered (block .n) (λ k. related asked (digitsIn 8 (fieldAt (now (records .entry)) (block .from) (block .size) row1 k) && digitsIn 8 (fieldAt (now (records .entry)) (block .from) (block .size) row2 k)) (fieldAt (now (records .entry)) (block .from) (block .size) row1 k) (fieldAt (now (records .entry)) (block .from) (block .size) row2 k)) (now (truths .entry)) (now (truths .exit)) ⌝ }
 {
+    let first = extent_of(row1);
+    let second = extent_of(row2);
     let bits = bits_of(asked.turned);
     if asked.equal {
-        same_fields(records, block, row1, row2, bits, truths);
+        same_fields(records, block, first, second, bits, truths);
         return;
     }
     if asked.second {
-        less_fields(records, block, row2, row1, bits, truths);
+        less_fields(records, block, second, first, bits, truths);
         return;
     }
-    less_fields(records, block, row1, row2, bits, truths);
+    less_fields(records, block, first, second, bits, truths);
 }

@@ -2,11 +2,11 @@
 ghost use mathlib.Core.Path.{_≡_};
 ghost use mathlib.Core.Bool.{Bool, true, cond, _&&_};
 ghost use Prim.Native.Nat.{ℕ, _+_, _<_, _≤_};
-ghost use lib.ListN.{length, getD};
+ghost use lib.ListN.{length};
 ghost use Rattle.tables.specs.Rows.{part, isNumeric};
 ghost use Rattle.values.specs.Comparison.{side};
 ghost use Rattle.values.specs.Truth.{relationOutcome, classOutcome, Fit, Numeral};
-ghost use Rattle.block_truths.specs.Columns.{recordAt, Right, Laid};
+ghost use Rattle.block_truths.specs.Columns.{recordAt, Right, Told, Standing, Laid};
 use block_truths::Block;
 use compare::classes::class_holds;
 use compare::orders::relation_holds;
@@ -99,7 +99,7 @@ pub(crate) fn relate_each<'a>(
 )
     requires { ⌜ Laid (now records) (block .from) (block .size) (block .n) × (length (now at) ≡ 64) × (length (now truths) ≡ 64) × (numeric ≡ isNumeric row1 && isNumeric row2) ⌝ }
     requires { ⌜ ((k : ℕ) → k < block .n → Fit (side item1 row1 (cond item1 (part row1 (recordAt (now records) (block .from) (block .size) k)) (now left))) × Fit (side item2 row2 (cond item2 (part row2 (recordAt (now records) (block .from) (block .size) k)) (now right)))) ⌝ }
-    ensures { λ _. ⌜ ((k : ℕ) → k < block .n → getD (now (at .entry)) k 0 ≡ place → Right (relationOutcome word negated (side item1 row1 (cond item1 (part row1 (recordAt (now (records .entry)) (block .from) (block .size) k)) (now (left .entry)))) (side item2 row2 (cond item2 (part row2 (recordAt (now (records .entry)) (block .from) (block .size) k)) (now (right .entry))))) (getD (now (truths .exit)) k 0)) ⌝ }
+    ensures { λ _. ⌜ Told (block .n) (Standing (now (at .entry)) place (λ k v. Right (relationOutcome word negated (side item1 row1 (cond item1 (part row1 (recordAt (now (records .entry)) (block .from) (block .size) k)) (now (left .entry)))) (side item2 row2 (cond item2 (part row2 (recordAt (now (records .entry)) (block .from) (block .size) k)) (now (right .entry))))) v) (now (truths .entry))) (now (truths .entry)) (now (truths .exit)) ⌝ }
 {
     let size = block.size;
     let n = block.n;
@@ -139,7 +139,7 @@ pub(crate) fn classify_each(
 )
     requires { ⌜ Laid (now records) (block .from) (block .size) (block .n) × (length (now at) ≡ 64) × (length (now truths) ≡ 64) ⌝ }
     requires { ⌜ ((k : ℕ) → k < block .n → Fit (side true row (part row (recordAt (now records) (block .from) (block .size) k)))) ⌝ }
-    ensures { λ _. ⌜ ((k : ℕ) → k < block .n → getD (now (at .entry)) k 0 ≡ place → Right (classOutcome word negated (side true row (part row (recordAt (now (records .entry)) (block .from) (block .size) k)))) (getD (now (truths .exit)) k 0)) ⌝ }
+    ensures { λ _. ⌜ Told (block .n) (Standing (now (at .entry)) place (λ k v. Right (classOutcome word negated (side true row (part row (recordAt (now (records .entry)) (block .from) (block .size) k)))) v) (now (truths .entry))) (now (truths .entry)) (now (truths .exit)) ⌝ }
 {
     let size = block.size;
     let n = block.n;

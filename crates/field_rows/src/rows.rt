@@ -1,12 +1,12 @@
 // Which rows are judged record by record with their sides looked up once: relations, and class tests of items.
 ghost use mathlib.Core.Path.{_≡_};
 ghost use mathlib.Core.Bool.{true, false};
-ghost use Prim.Native.Nat.{ℕ, _<_};
-ghost use lib.ListN.{length, getD};
+ghost use lib.ListN.{length};
 ghost use Rattle.tables.specs.Operands.{lendNames};
-ghost use Rattle.typing.specs.declared.Test.the-variants.{Relation, Class};
+ghost use Rattle.typing.specs.declared.Test.the-variants.{Relation};
 ghost use Rattle.typing.specs.Tests.{testOf};
-ghost use Rattle.block_truths.specs.Columns.{outcomeAt, Right, Judgeable};
+ghost use Rattle.block_truths.specs.Columns.{JudgesAt, Judgeable};
+ghost use Rattle.field_rows.specs.Judged.{byFields};
 use crate::each::classify_each;
 use crate::each::relate_each;
 use block_truths::Block;
@@ -35,7 +35,7 @@ fn judge_relation<'a>(
 )
     requires { ⌜ Judgeable (lendNames (now items) (now literals) (now bytes) (now names)) (now records) (block .from) (block .size) (block .n) condition × (length (now at) ≡ 64) × (length (now truths) ≡ 64) ⌝ }
     requires { ⌜ testOf (condition .relation) ≡ Relation word negated ⌝ }
-    ensures { λ _. ⌜ ((k : ℕ) → k < block .n → getD (now (at .entry)) k 0 ≡ place → Right (outcomeAt (lendNames (now (items .entry)) (now (literals .entry)) (now (bytes .entry)) (now (names .entry))) (now (records .entry)) (block .from) (block .size) switches condition k) (getD (now (truths .exit)) k 0)) ⌝ }
+    ensures { λ _. ⌜ JudgesAt (lendNames (now (items .entry)) (now (literals .entry)) (now (bytes .entry)) (now (names .entry))) (now (records .entry)) (block .from) (block .size) (block .n) switches condition (now (at .entry)) place (now (truths .entry)) (now (truths .exit)) ⌝ }
 {
     let subject = condition.subject;
     let object = condition.object;
@@ -67,29 +67,6 @@ fn judge_relation<'a>(
     );
 }
 
-fn judge_class<'a>(
-    items: &[u32],
-    literals: &[u32],
-    bytes: &'a [u8],
-    names: &[u32],
-    records: &'a [u8],
-    block: Block,
-    switches: u8,
-    condition: PlanRow,
-    word: u32,
-    negated: bool,
-    at: &[u8],
-    place: u8,
-    truths: &mut [u8],
-)
-    requires { ⌜ Judgeable (lendNames (now items) (now literals) (now bytes) (now names)) (now records) (block .from) (block .size) (block .n) condition × (length (now at) ≡ 64) × (length (now truths) ≡ 64) ⌝ }
-    requires { ⌜ testOf (condition .relation) ≡ Class word negated ⌝ }
-    ensures { λ _. ⌜ ((k : ℕ) → k < block .n → getD (now (at .entry)) k 0 ≡ place → Right (outcomeAt (lendNames (now (items .entry)) (now (literals .entry)) (now (bytes .entry)) (now (names .entry))) (now (records .entry)) (block .from) (block .size) switches condition k) (getD (now (truths .exit)) k 0)) ⌝ }
-{
-    let row = row_of(condition.subject, items, literals);
-    classify_each(records, block, row, word, negated, at, place, truths);
-}
-
 // Whether a row is judged here; if so, its truths for each record that stands at it.
 pub fn judge_fields<'a>(
     items: &[u32],
@@ -105,8 +82,9 @@ pub fn judge_fields<'a>(
     truths: &mut [u8],
 ) -> bool
     requires { ⌜ Judgeable (lendNames (now items) (now literals) (now bytes) (now names)) (now records) (block .from) (block .size) (block .n) condition × (length (now at) ≡ 64) × (length (now truths) ≡ 64) ⌝ }
-    ensures { λ r. ⌜ (r ≡ true → (k : ℕ) → k < block .n → getD (now (at .entry)) k 0 ≡ place → Right (outcomeAt (lendNames (now (items .entry)) (now (literals .entry)) (now (bytes .entry)) (now (names .entry))) (now (records .entry)) (block .from) (block .size) switches condition k) (getD (now (truths .exit)) k 0)) ⌝ }
+    ensures { λ r. ⌜ (r ≡ true → JudgesAt (lendNames (now (items .entry)) (now (literals .entry)) (now (bytes .entry)) (now (names .entry))) (now (records .entry)) (block .from) (block .size) (block .n) switches condition (now (at .entry)) place (now (truths .entry)) (now (truths .exit))) ⌝ }
     ensures { λ r. ⌜ (r ≡ false → now (truths .exit) ≡ now (truths .entry)) ⌝ }
+    ensures { λ r. ⌜ r ≡ byFields (testOf (condition .relation)) ⌝ }
 {
     let test = test_of(condition.relation);
     match test {
@@ -129,21 +107,8 @@ pub fn judge_fields<'a>(
             true
         }
         Test::Class { word, negated } => {
-            judge_class(
-                items,
-                literals,
-                bytes,
-                names,
-                records,
-                block,
-                switches,
-                condition,
-                word,
-                negated,
-                at,
-                place,
-                truths,
-            );
+            let row = row_of(condition.subject, items, literals);
+            classify_each(records, block, row, word, negated, at, place, truths);
             true
         }
         Test::Alone => false,

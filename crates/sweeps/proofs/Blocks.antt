@@ -5,14 +5,14 @@ use Prim.Native.Nat.{ℕ, _+_, _-_, _*_, _<_, _≤_}
 use native.Mathlib.Omega.{arith}
 use native.Mathlib.Nat.{suc-mul, mul-le-mul-right}
 use native.Mathlib.Numerals.{add-one}
-use lib.ListN.{length, getD, take, drop}
+use lib.ListN.{length, getD, take, drop, replicate, getD-replicate}
 use lib.Seq.{sets, drop-drop}
 use Rattle.tables.specs.declared.Judged.{Judged}
 use Rattle.tables.specs.Operands.{Lent}
 use Rattle.block_truths.specs.Columns.{recordAt}
-use Rattle.blocks.specs.Blocks.{Walkable, Settled}
+use Rattle.blocks.specs.Blocks.{Walkable, Walked}
 use Rattle.sweeps.specs.Sweep.{laid, answerOf, answersOf, Sweepable}
-use Rattle.sweeps.specs.Parts.{Part, Walked}
+use Rattle.sweeps.specs.Parts.{Part}
 use Rattle.sweeps.proofs.Laying.{one-record, told-more}
 use Rattle.sweeps.proofs.Lines.{run-record, plan-sound}
 
@@ -43,11 +43,12 @@ answered run file before answers after size from out j base to e f g h =
     (h ∙ ap₂ (sets answers) f (sym (one-record run size (drop (j * size) (drop from file)) ∙ ap (λ (l : List ℕ). answerOf (run (take size l))) there)))
 
 -- where no walk was made, nothing is known of any record
-pub unwalked : (lent : Lent) (plan records : List ℕ) (from size switches : ℕ) (at counts : List ℕ) → length at ≡ 64 → length counts ≡ 64
-    → ((j : ℕ) → j < 64 → getD at j 0 ≡ 130) → Walked lent plan records from size switches at counts
-unwalked lent plan records from size switches at counts a b e =
+pub unwalked : (lent : Lent) (plan records : List ℕ) (from size n switches : ℕ) → n ≤ 64
+    → Walked lent plan records from size n switches (replicate 64 130) (replicate 64 0)
+unwalked lent plan records from size n switches few =
     record {
-      places = a;
-      numbers = b;
-      settled = λ j l. let z = e j l in record { done = omega (arith, z); fails = λ f. absurd (omega (arith, z, f)); holds = λ f. absurd (omega (arith, z, f)) };
+      settled = λ j l. let z = getD-replicate {A = ℕ} 64 j 130 0 (omega arith) in
+          record { done = omega (arith, z); most = omega (arith, z); fails = λ f. absurd (omega (arith, z, f)); holds = λ f. absurd (omega (arith, z, f)) };
+      others = λ j _ l. (getD-replicate {A = ℕ} 64 j 130 0 l, getD-replicate {A = ℕ} 64 j 0 0 l);
+      few = λ j l. omega (arith, getD-replicate {A = ℕ} 64 j 0 0 l);
     }

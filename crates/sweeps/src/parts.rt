@@ -8,9 +8,9 @@ ghost use Rattle.values.specs.Truth.{outcome};
 ghost use Rattle.grammar.specs.Plan.{running};
 ghost use Rattle.rules.specs.Calls.{told, runGives};
 ghost use Rattle.runner.specs.Runs.{Runnable};
-ghost use Rattle.blocks.specs.Blocks.{Walkable, Settled};
+ghost use Rattle.blocks.specs.Blocks.{Settled, Walked};
 ghost use Rattle.sweeps.specs.Sweep.{laid, answersOf, Sweepable};
-ghost use Rattle.sweeps.specs.Parts.{Part, Walked};
+ghost use Rattle.sweeps.specs.Parts.{Part};
 use crate::answers::put_answer;
 use block_truths::Block;
 use blocks::walk::walk_block;
@@ -18,7 +18,6 @@ use places::AT_FALSE;
 use places::AT_TRUE;
 use places::BLOCK;
 use places::UNKNOWN;
-use places::fill;
 use runner::run_rows;
 use tables::Judged;
 use tables::Verdict;
@@ -117,7 +116,7 @@ fn answer_part<'a>(
 )
     requires { ⌜ Sweepable (lendNames (now items) (now literals) (now bytes) (now names)) (now plan) (now records) (block .size) (length (now answers)) ⌝ }
     requires { ⌜ Part (now records) (block .size) (block .from) (block .n) out (length (now answers)) ⌝ }
-    requires { ⌜ Walked (lendNames (now items) (now literals) (now bytes) (now names)) (now plan) (now records) (block .from) (block .size) switches (now at) (now counts) ⌝ }
+    requires { ⌜ (length (now at) ≡ 64) × (length (now counts) ≡ 64) × Walked (lendNames (now items) (now literals) (now bytes) (now names)) (now plan) (now records) (block .from) (block .size) (block .n) switches (now at) (now counts) ⌝ }
     ensures { λ _. ⌜ now (answers .exit) ≡ sets (now (answers .entry)) out (answersOf (λ content. runGives (lendNames (now (items .entry)) (now (literals .entry)) (now (bytes .entry)) (now (names .entry))) (now (plan .entry)) content switches) (laid (block .n) (block .size) (drop (block .from) (now (records .entry))))) ⌝ }
 {
     let size = block.size;
@@ -145,43 +144,7 @@ fn answer_part<'a>(
     }
 }
 
-// Where a walk leaves the records; a few are not walked.
-fn walk_part<'a>(
-    items: &[u32],
-    literals: &[u32],
-    bytes: &'a [u8],
-    names: &[u32],
-    plan: &[u32],
-    records: &'a [u8],
-    block: Block,
-    switches: u8,
-    at: &mut [u8],
-    counts: &mut [u8],
-    truths: &mut [u8],
-)
-    requires { ⌜ Walkable (lendNames (now items) (now literals) (now bytes) (now names)) (now plan) (now records) (block .from) (block .size) (block .n) ⌝ }
-    requires { ⌜ (length (now at) ≡ 64) × (length (now counts) ≡ 64) × (length (now truths) ≡ 64) ⌝ }
-    ensures { λ _. ⌜ Walked (lendNames (now (items .entry)) (now (literals .entry)) (now (bytes .entry)) (now (names .entry))) (now (plan .entry)) (now (records .entry)) (block .from) (block .size) switches (now (at .exit)) (now (counts .exit)) ⌝ }
-{
-    if block.n < FEW {
-        fill(at, UNKNOWN);
-        return;
-    }
-    walk_block(
-        items,
-        literals,
-        bytes,
-        names,
-        plan,
-        records,
-        block,
-        switches,
-        at,
-        counts,
-        truths,
-    );
-}
-
+// A few records are not walked.
 pub fn sweep_part<'a>(
     items: &[u32],
     literals: &[u32],
@@ -200,20 +163,20 @@ pub fn sweep_part<'a>(
 {
     let mut at = [UNKNOWN; 64];
     let mut counts = [0u8; 64];
-    let mut truths = [0u8; 64];
-    walk_part(
-        items,
-        literals,
-        bytes,
-        names,
-        plan,
-        records,
-        block,
-        switches,
-        &mut at,
-        &mut counts,
-        &mut truths,
-    );
+    if block.n >= FEW {
+        walk_block(
+            items,
+            literals,
+            bytes,
+            names,
+            plan,
+            records,
+            block,
+            switches,
+            &mut at,
+            &mut counts,
+        );
+    }
     answer_part(
         items,
         literals,

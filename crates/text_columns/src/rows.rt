@@ -1,14 +1,14 @@
-// Which rows are judged by the words of texts: a relation of two texts or groups of up to 8 bytes, of which one may be a literal.
+// Which relations are judged by the words of texts: those of two texts or groups of up to 8 bytes, of which one may be a literal.
 ghost use mathlib.Core.Path.{_≡_};
 ghost use mathlib.Core.Bool.{true, false};
-ghost use Prim.Native.Nat.{ℕ, _+_, _-_, _<_, _≤_, max};
-ghost use lib.ListN.{length, getD, take, drop};
+ghost use Prim.Native.Nat.{_+_, _-_, _≤_, max};
+ghost use lib.ListN.{length, take, drop};
 ghost use Rattle.tables.specs.Operands.{lend, lendNames, operandBytes, Within};
 ghost use Rattle.typing.specs.declared.Test.the-variants.{Relation};
 ghost use Rattle.typing.specs.Tests.{testOf};
-ghost use Rattle.block_truths.specs.Columns.{relatedTo, Laid, JudgesAll, Judgeable};
+ghost use Rattle.block_truths.specs.Columns.{relatedTo, Numbered, JudgesAll, Laid, Judgeable};
 ghost use Rattle.text_words.specs.Texts.{textWord};
-ghost use Rattle.text_columns.specs.TextColumns.{textOf, TextOf, Literal};
+ghost use Rattle.text_columns.specs.TextColumns.{textOf, byTexts, TextOf, Literal};
 use crate::words::compare_text;
 use crate::words::compare_texts;
 use block_truths::Block;
@@ -22,8 +22,6 @@ use operands::named::row_of;
 use operands::tokens::is_item;
 use text_words::texts::fits_text;
 use text_words::texts::short_filled;
-use typing::Test;
-use typing::sides::test_of;
 
 fn wide(x: u32) -> usize
     ensures { λ r. ⌜ r ≡ x ⌝ }
@@ -58,7 +56,7 @@ fn relate_literal<'a>(
     requires { ⌜ Laid (now records) (block .from) (block .size) (block .n) × (8 ≤ block .from) × (length (now truths) ≡ 64) ⌝ }
     requires { ⌜ TextOf (block .size) row filled × (block .from + block .size ≤ length (now records)) ⌝ }
     requires { ⌜ Within (lend (now items) (now literals) (now bytes)) (take (block .from + block .size - block .from) (drop (block .from) (now records))) token × Literal (operandBytes (lend (now items) (now literals) (now bytes)) (take (block .from + block .size - block .from) (drop (block .from) (now records))) token) filled ⌝ }
-    ensures { λ _. ⌜ ((k : ℕ) → k < block .n → getD (now (truths .exit)) k 0 ≡ relatedTo asked exchanged true (textOf (now (records .entry)) (block .from) (block .size) row filled k) (textWord filled (operandBytes (lend (now (items .entry)) (now (literals .entry)) (now (bytes .entry))) (take (block .from + block .size - block .from) (drop (block .from) (now (records .entry)))) token))) ⌝ }
+    ensures { λ _. ⌜ Numbered (block .n) (λ k. relatedTo asked exchanged true (textOf (now (records .entry)) (block .from) (block .size) row filled k) (textWord filled (operandBytes (lend (now (items .entry)) (now (literals .entry)) (now (bytes .entry))) (take (block .from + block .size - block .from) (drop (block .from) (now (records .entry)))) token))) (now (truths .entry)) (now (truths .exit)) ⌝ }
 {
     let from = block.from;
     let size = block.size;
@@ -68,8 +66,8 @@ fn relate_literal<'a>(
     compare_text(records, block, row, filled, word, order, truths);
 }
 
-// A relation, where both sides are texts or groups of up to 8 bytes.
-fn judge_relation<'a>(
+// Whether a relation is judged here; if so, its truths for each record.
+pub fn judge_texts<'a>(
     items: &[u32],
     literals: &[u32],
     bytes: &'a [u8],
@@ -84,8 +82,9 @@ fn judge_relation<'a>(
 ) -> bool
     requires { ⌜ Judgeable (lendNames (now items) (now literals) (now bytes) (now names)) (now records) (block .from) (block .size) (block .n) condition × (8 ≤ block .from) × (length (now truths) ≡ 64) ⌝ }
     requires { ⌜ testOf (condition .relation) ≡ Relation word negated ⌝ }
-    ensures { λ r. ⌜ (r ≡ true → JudgesAll (lendNames (now (items .entry)) (now (literals .entry)) (now (bytes .entry)) (now (names .entry))) (now (records .entry)) (block .from) (block .size) (block .n) switches condition (now (truths .exit))) ⌝ }
+    ensures { λ r. ⌜ (r ≡ true → JudgesAll (lendNames (now (items .entry)) (now (literals .entry)) (now (bytes .entry)) (now (names .entry))) (now (records .entry)) (block .from) (block .size) (block .n) switches condition (now (truths .entry)) (now (truths .exit))) ⌝ }
     ensures { λ r. ⌜ (r ≡ false → now (truths .exit) ≡ now (truths .entry)) ⌝ }
+    ensures { λ r. ⌜ r ≡ byTexts (lendNames (now (items .entry)) (now (literals .entry)) (now (bytes .entry)) (now (names .entry))) condition ⌝ }
 {
     let subject = condition.subject;
     let object = condition.object;
@@ -134,45 +133,4 @@ fn judge_relation<'a>(
         return true;
     }
     false
-}
-
-// Whether a row is judged here; if so, its truths for each record. In the file's first bytes a text is not read with what stands before it.
-pub fn judge_texts<'a>(
-    items: &[u32],
-    literals: &[u32],
-    bytes: &'a [u8],
-    names: &[u32],
-    records: &'a [u8],
-    block: Block,
-    switches: u8,
-    condition: PlanRow,
-    truths: &mut [u8],
-) -> bool
-    requires { ⌜ Judgeable (lendNames (now items) (now literals) (now bytes) (now names)) (now records) (block .from) (block .size) (block .n) condition × (length (now truths) ≡ 64) ⌝ }
-    ensures { λ r. ⌜ (r ≡ true → JudgesAll (lendNames (now (items .entry)) (now (literals .entry)) (now (bytes .entry)) (now (names .entry))) (now (records .entry)) (block .from) (block .size) (block .n) switches condition (now (truths .exit))) ⌝ }
-    ensures { λ r. ⌜ (r ≡ false → now (truths .exit) ≡ now (truths .entry)) ⌝ }
-{
-    if block.from < 8 {
-        return false;
-    }
-    let test = test_of(condition.relation);
-    match test {
-        Test::Relation { word, negated } => judge_relation(
-            items,
-            literals,
-            bytes,
-            names,
-            records,
-            block,
-            switches,
-            condition,
-            word,
-            negated,
-            truths,
-        ),
-        Test::Alone => false,
-        Test::Class { word, negated } => false,
-        Test::Sign { word, negated } => false,
-        Test::Unknown => false,
-    }
 }

@@ -52,53 +52,32 @@ same-length-2 : tie.Need-same-length-2
 same-length-2 c = search needs
 
 returns-2 : tie.Need-returns-2
-returns-2 c = λ j l _. c .before .before .before .judge-columns .ensures .0 (c .if2 .taken) j l
+returns-2 c = λ j l _. c .before .before .before .judge-columns .ensures .0 (c .if2 .taken) .told j l
 
-judge-texts-requires : tie.Need-judge-texts-requires
-judge-texts-requires c κs =
+judge-fields-requires : tie.Need-judge-fields-requires
+judge-fields-requires c κs =
     let start = c .before .before .before .before .before .before .before .before .before .before .before .before .before .before in
-    (start .pre .0, c .before .before .before .before .judge-columns .kept .1 .1 .1 .1 .1 .1 .1 .1 .0 ∙ start .pre .1 .1)
+    (start .pre .0, start .pre .1 .0, c .before .before .before .before .judge-columns .kept .1 .1 .1 .1 .1 .1 .1 .1 .0 ∙ start .pre .1 .1)
 
 same-length-3 : tie.Need-same-length-3
 same-length-3 c = search needs
 
 returns-3 : tie.Need-returns-3
-returns-3 c = λ j l _. c .before .before .before .judge-texts .ensures .0 (c .if3 .taken) j l
-
-judge-fields-requires : tie.Need-judge-fields-requires
-judge-fields-requires c κs =
-    let c4 = c .before .before .before .before in
-    let c9 = c4 .before .before .before .before .before in
-    let c19 = c9 .before .before .before .before .before .before .before .before .before .before in
-    let start = c19 in (
-      start .pre .0,
-      start .pre .1 .0,
-      c4 .judge-texts .kept .1 .1 .1 .1 .1 .1 .1 .1 .0 ∙ c9 .judge-columns .kept .1 .1 .1 .1 .1 .1 .1 .1 .0
-          ∙ start .pre .1 .1,
-    )
-
-same-length-4 : tie.Need-same-length-4
-same-length-4 c = search needs
-
-returns-4 : tie.Need-returns-4
-returns-4 c = c .before .before .before .judge-fields .ensures .0 (c .if4 .taken)
+returns-3 c = λ j l e. c .before .before .before .judge-fields .ensures .0 (c .if3 .taken) .told j l .here e
 
 judge-each-requires : tie.Need-judge-each-requires
 judge-each-requires c κs =
     let c4 = c .before .before .before .before in
     let c9 = c4 .before .before .before .before .before in
-    let c14 = c9 .before .before .before .before .before in
-    let c24 = c14 .before .before .before .before .before .before .before .before .before .before in
-    let start = c24 in
-    let kept = c4 .judge-fields .kept .1 .1 .1 .1 .1 .1 .1 .1 .1 .1 .0 ∙ c9 .judge-texts .kept .1 .1 .1 .1 .1 .1 .1 .1 .0 ∙ c14 .judge-columns .kept .1 .1 .1 .1 .1 .1 .1 .1 .0
-    in
+    let start = c9 .before .before .before .before .before .before .before .before .before .before in
+    let kept = c4 .judge-fields .kept .1 .1 .1 .1 .1 .1 .1 .1 .1 .1 .0 ∙ c9 .judge-columns .kept .1 .1 .1 .1 .1 .1 .1 .1 .0 in
     (start .pre .0, (start .pre .1 .0, kept ∙ start .pre .1 .1))
 
-same-length-5 : tie.Need-same-length-5
-same-length-5 c = search needs
+same-length-4 : tie.Need-same-length-4
+same-length-4 c = search needs
 
-returns-5 : tie.Need-returns-5
-returns-5 c = search needs
+returns-4 : tie.Need-returns-4
+returns-4 c = λ j l e. c .before .before .judge-each .ensures .told j l .here e
 
 pub judge-row-spec : {M : Type 1} → statement M
 judge-row-spec =
@@ -115,12 +94,9 @@ judge-row-spec =
     judge-columns-requires
     same-length-2
     returns-2
-    judge-texts-requires
+    judge-fields-requires
     same-length-3
     returns-3
-    judge-fields-requires
-    same-length-4
-    returns-4
     judge-each-requires
-    same-length-5
-    returns-5)
+    same-length-4
+    returns-4)

@@ -2,12 +2,18 @@
 use mathlib.Core.Path.{_≡_, sym, ap, _∙_, refl}
 use mathlib.Core.Bool.{true, false, false≢true}
 use native.Mathlib.Omega.{arith}
+use lib.Dec.{ltb}
 use borrow.Author.Needs.{needs}
+use borrow.Author.Tests.{lt-ltb, le-ltb, eq-eqb, ne-eqb}
 use Rattle.columns.proofs.rows.judge_columns.Statement.{statement}
 use Rattle.columns.proofs.rows.judge_columns.Tie as tie
 
+-- the block starts after the file's first bytes
+far : (c : tie.Else1) → ltb (c .before .before .before .before .before .before .before .before .args .block .from) 8 ≡ false
+far c = le-ltb (c .before .before .before .before .before .before .before .before .args .block .from) 8 (omega (arith, c .if1 .left))
+
 returns : tie.Need-returns
-returns c = (λ e. absurd (false≢true e), λ _. refl)
+returns c = (λ e. absurd (false≢true e), (λ _. refl, rw (lt-ltb (c .before .before .before .before .before .before .before .before .args .block .from) 8 (omega (arith, c .if1 .taken)))))
 
 test-of-requires : tie.Need-test-of-requires
 test-of-requires c κs = search needs
@@ -17,14 +23,19 @@ enum-known-test c = search needs
 
 judge-relation-requires : tie.Need-judge-relation-requires
 judge-relation-requires c κs =
-    let start = c .before .before .before .before .before .before .before .before .before .before .before .before .before in
-    ((start .pre .0, omega (arith, c .before .before .before .before .before .if1 .left), start .pre .1), sym (c .before .before .before .before .test-of .ensures) ∙ c .before .before .test .given .1)
+    let start = c .before .before .before .before .before .before .before .before .before .before .before .before .before in (
+      (start .pre .0, omega (arith, c .before .before .before .before .before .if1 .left), start .pre .1),
+      sym (c .before .before .before .before .test-of .ensures) ∙ c .before .before .test .given .1,
+    )
 
 enum-known-test-2 : tie.Need-enum-known-test-2
 enum-known-test-2 c = search needs
 
 returns-2 : tie.Need-returns-2
-returns-2 c = (λ e. absurd (false≢true e), λ _. refl)
+returns-2 c =
+    let f = far (c .before .before .before .before .before) in
+    let e = sym (c .before .before .before .before .test-of .ensures) ∙ c .before .before .test2 .given .1 in
+    (λ e. absurd (false≢true e), (λ _. refl, rw (f, e, ne-eqb (c .before .before .test2 .given .0 .0) 10 (c .if2 .taken))))
 
 judge-numeric-requires : tie.Need-judge-numeric-requires
 judge-numeric-requires c κs =
@@ -47,22 +58,35 @@ same-length : tie.Need-same-length
 same-length c = search needs
 
 returns-3 : tie.Need-returns-3
-returns-3 c = search needs
+returns-3 c =
+    let E = c .before .before .judge-relation .ensures in
+    let f = far (c .before .before .before .before .before .before .before .before) in
+    (E .0, (E .1 .0, E .1 .1 ∙ rw (f, sym (c .before .before .before .before .before .before .before .test-of .ensures) ∙ c .before .before .before .before .before .test .given .1)))
 
 same-length-2 : tie.Need-same-length-2
 same-length-2 c = search needs
 
 returns-4 : tie.Need-returns-4
-returns-4 c = search needs
+returns-4 c =
+    let E = c .before .before .judge-numeric .ensures in
+    let f = far (c .before .before .before .before .before .before .before .before .before) in
+    let e = sym (c .before .before .before .before .before .before .before .before .test-of .ensures) ∙ c .before .before .before .before .before .before .test2 .given .1 in
+    (E .0, (E .1 .0, E .1 .1 ∙ rw (f, e, eq-eqb (c .before .before .before .before .before .before .test2 .given .0 .0) 10 (c .before .before .before .before .if2 .left))))
 
 returns-5 : tie.Need-returns-5
-returns-5 c = (λ e. absurd (false≢true e), λ _. refl)
+returns-5 c =
+    let f = far (c .before .before .before) in
+    (λ e. absurd (false≢true e), (λ _. refl, rw (f, sym (c .before .before .test-of .ensures) ∙ c .enum-told .given .1)))
 
 returns-6 : tie.Need-returns-6
-returns-6 c = (λ e. absurd (false≢true e), λ _. refl)
+returns-6 c =
+    let f = far (c .before .before .before .before) in
+    (λ e. absurd (false≢true e), (λ _. refl, rw (f, sym (c .before .before .before .test-of .ensures) ∙ c .before .test3 .given .1)))
 
 returns-7 : tie.Need-returns-7
-returns-7 c = (λ e. absurd (false≢true e), λ _. refl)
+returns-7 c =
+    let f = far (c .before .before .before) in
+    (λ e. absurd (false≢true e), (λ _. refl, rw (f, sym (c .before .before .test-of .ensures) ∙ c .enum-told2 .given .1)))
 
 pub judge-columns-spec : {M : Type 1} → statement M
 judge-columns-spec =

@@ -1,12 +1,12 @@
 -- One field.
-use mathlib.Core.Path.{_≡_, sym, _∙_, refl}
-use mathlib.Core.Bool.{true, false≢true}
+use mathlib.Core.Path.{_≡_, sym, ap₂, _∙_, refl}
+use mathlib.Core.Bool.{true, _&&_, false≢true}
 use mathlib.Core.List.{List}
 use Prim.Native.Nat.{ℕ, _+_, _-_}
 use lib.ListN.{take, drop}
 use denote.Ref.{now}
 use borrow.Author.Needs.{needs}
-use borrow.Author.Tests.{not-false}
+use borrow.Author.Tests.{not-false, not-true}
 use Rattle.tables.specs.Operands.{Lent, lendNames, rowOf}
 use Rattle.tables.specs.Tokens.{isItem}
 use Rattle.tables.proofs.Tests.{both}
@@ -14,8 +14,10 @@ use Rattle.values.specs.Truth.{Sided}
 use Rattle.values.proofs.Reading.{read-class}
 use Rattle.digit_words.specs.Words.{fitsWord}
 use Rattle.byte_words.proofs.WordLaws.{bytes-of}
-use Rattle.block_truths.proofs.Firsts.{first-readable}
-use Rattle.columns.proofs.Sides.{field-of, numeric-right}
+use Rattle.block_truths.proofs.Firsts.{first-readable, item-inside}
+use Rattle.block_truths.proofs.Passing.{retold}
+use Rattle.block_truths.proofs.Sides.{field-of}
+use Rattle.columns.proofs.Sides.{word-size, numeric-right}
 use Rattle.columns.proofs.rows.judge_numeric.Statement.{statement}
 use Rattle.columns.proofs.rows.judge_numeric.Tie as tie
 
@@ -49,7 +51,9 @@ is-item-requires : tie.Need-is-item-requires
 is-item-requires c κs = search needs
 
 returns : tie.Need-returns
-returns c = (λ e. absurd (false≢true e), λ _. refl)
+returns c =
+    let unfit = ap₂ _&&_ (sym (c .before .before .fits-word .ensures)) (sym (c .before .is-item .ensures)) ∙ not-true _ (c .if1 .taken) in
+    (λ e. absurd (false≢true e), (λ _. refl, sym (rw (c .before .before .before .row-of .ensures) at unfit)))
 
 bits-of-requires : tie.Need-bits-of-requires
 bits-of-requires c κs = search needs
@@ -58,24 +62,25 @@ test-field-requires : tie.Need-test-field-requires
 test-field-requires c κs =
     let e = c .before .before in
     let s = entry e in
-    ((s .pre .0 .0 .laid, s .pre .0 .1, s .pre .0 .2), rw (e .before .before .before .row-of .ensures) (field-of (s .pre .0 .0) (subject s) (item e) (fits e)))
+    let m = word-size (rowOf (lent s) (s .args .condition .subject)) (fits e) in
+    ((s .pre .0 .0 .laid, s .pre .0 .1, s .pre .0 .2), rw (e .before .before .before .row-of .ensures) (field-of (s .pre .0 .0) (subject s) (item e) m))
 
 same-length : tie.Need-same-length
 same-length c = search needs
 
 returns-2 : tie.Need-returns-2
 returns-2 c = (
-  λ _ k l.
+  λ _.
       let bits = c .before .before .before .before in
       let e = bits .before in
       let s = entry e in
       let row = e .before .before .before in
-      numeric-right (lent s) (now (s .args .records)) (s .args .block .from) (s .args .block .size) (s .args .switches) (s .args .condition)
+      retold (rw (bits .bits-of .ensures, row .row-of .ensures) at (c .before .before .test-field .ensures))
+      (λ k _ v h. numeric-right (lent s) (now (s .args .records)) (s .args .block .from) (s .args .block .size) (s .args .switches) (s .args .condition)
       (bytes-of (now (s .args .records)) (λ i. row .before .before .shared-slice-known5 .given i .fits))
       (bytes-of (now (s .args .bytes)) (λ i. row .before .before .before .before .shared-slice-known3 .given i .fits)) k (s .pre .1) (fits e) (item e)
-      (field-of (s .pre .0 .0) (subject s) (item e) (fits e) .inside)
-      (rw (bits .bits-of .ensures, row .row-of .ensures) at (c .before .before .test-field .ensures k l)),
-  λ e. absurd (false≢true (sym e)),
+      (item-inside (s .pre .0 .0) (subject s) (item e)) h),
+  (λ e. absurd (false≢true (sym e)), let e = c .before .before .before .before .before in sym (rw (fits e, item e))),
 )
 
 pub judge-numeric-spec : {M : Type 1} → statement M

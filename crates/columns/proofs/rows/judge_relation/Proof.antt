@@ -1,20 +1,22 @@
 -- By the kinds of the two sides.
-use mathlib.Core.Path.{_≡_, sym, _∙_, refl}
-use mathlib.Core.Bool.{true, false, false≢true}
+use mathlib.Core.Path.{_≡_, sym, ap₂, _∙_, refl}
+use mathlib.Core.Bool.{true, false, _&&_, false≢true}
 use mathlib.Core.List.{List}
 use Prim.Native.Nat.{ℕ, _+_, _-_, _≤_}
 use native.Mathlib.Omega.{arith}
+use lib.Dec.{eqb}
 use lib.ListN.{take, drop}
 use denote.Ref.{now}
 use borrow.Author.Needs.{needs}
-use borrow.Author.Tests.{not-false, eqb-true}
-use Rattle.tables.specs.Operands.{Lent, lendNames, rowOf}
+use borrow.Author.Tests.{not-false, not-true, eqb-true}
+use Rattle.tables.specs.Operands.{Lent, lendNames}
 use Rattle.tables.proofs.Tests.{both}
 use Rattle.values.specs.Truth.{Sided}
-use Rattle.values.proofs.Reading.{read-relation}
 use Rattle.byte_words.proofs.WordLaws.{Bytes, bytes-of}
-use Rattle.block_truths.proofs.Firsts.{first-readable, first-within, within-unnamed}
-use Rattle.columns.proofs.Sides.{Worded, field-of, word-size, items-right, object-right, subject-right}
+use Rattle.byte_words.specs.Words.{digitWord, digitsIn}
+use Rattle.block_truths.proofs.Firsts.{first-within, within-unnamed}
+use Rattle.block_truths.proofs.Sides.{field-of, first-sides, items-judged, object-judged, subject-judged}
+use Rattle.columns.proofs.Sides.{Worded, sizes, by-sides, literal-digits, by-words}
 use Rattle.columns.proofs.rows.judge_relation.Statement.{statement}
 use Rattle.columns.proofs.rows.judge_relation.Tie as tie
 
@@ -25,9 +27,8 @@ lent s = lendNames (now (s .args .items)) (now (s .args .literals)) (now (s .arg
 abbrev first : tie.Start → List ℕ
 first s = take (s .args .block .from + s .args .block .size - s .args .block .from) (drop (s .args .block .from) (now (s .args .records)))
 
--- the two sides of the first record
 sides : (s : tie.Start) → Sided (lent s) (first s) (s .args .condition .subject) × Sided (lent s) (first s) (s .args .condition .object)
-sides s = read-relation (first-readable (s .pre .0 .0)) (s .pre .1)
+sides s = first-sides (s .pre .0 .0) (s .pre .1)
 
 -- where both are read as words
 abbrev entry : tie.Else1 → tie.Start
@@ -63,8 +64,22 @@ fits-word-requires c κs = search needs
 fits-word-requires-2 : tie.Need-fits-word-requires-2
 fits-word-requires-2 c κs = search needs
 
+judge-texts-requires : tie.Need-judge-texts-requires
+judge-texts-requires c κs = search needs
+
+same-length : tie.Need-same-length
+same-length c = search needs
+
 returns : tie.Need-returns
-returns c = (λ e. absurd (false≢true e), λ _. refl)
+returns c =
+    let E = c .before .before .judge-texts .ensures in
+    let rows = c .before .before .before .before .before .before .before .before .before in
+    let one = rows .before .row-of .result .scale in
+    let other = rows .row-of2 .result .scale in
+    let fit = c .before .before .before .before .before .before .before in
+    let fits = ap₂ (λ x y. (x && y) && eqb one other) (sym (fit .before .fits-word .ensures)) (sym (fit .fits-word2 .ensures)) in
+    let unfit = fits ∙ not-true _ (c .before .before .before .before .if1 .taken) in
+    (E .0, (E .1 .0, E .1 .1 ∙ rw (rw (rows .before .row-of .ensures, rows .row-of2 .ensures) at unfit)))
 
 asked-of-requires : tie.Need-asked-of-requires
 asked-of-requires c κs = search needs
@@ -80,66 +95,65 @@ relate-fields-requires c κs =
     let e = c .before .before .before .before .before .before in
     let s = entry e in
     let J = s .pre .0 .0 in
-    let w = worded e in
+    let m = sizes (worded e) in
     let rows = e .before .before .before .before .before in
     let i = sym (c .before .before .before .before .is-item .ensures) ∙ c .before .before .before .if2 .taken in
     let j = sym (c .before .before .is-item2 .ensures) ∙ c .before .if3 .taken in
-    ((J .laid, s .pre .0 .1, s .pre .0 .2), rw (rows .before .row-of .ensures, rows .row-of2 .ensures) (field-of J (sides s .0) i (w .subject), field-of J (sides s .1) j (w .object)))
+    ((J .laid, s .pre .0 .1, s .pre .0 .2), rw (rows .before .row-of .ensures, rows .row-of2 .ensures) (field-of J (sides s .0) i (m .0), field-of J (sides s .1) j (m .1)))
 
-same-length : tie.Need-same-length
-same-length c = search needs
+same-length-2 : tie.Need-same-length-2
+same-length-2 c = search needs
 
 returns-2 : tie.Need-returns-2
-returns-2 c = (
-  λ _ k l.
-      let e = c .before .before .before .before .before .before .before .before .before in
-      let s = entry e in
-      let J = s .pre .0 .0 in
-      let w = worded e in
-      let rows = e .before .before .before .before .before in
-      let i = sym (c .before .before .before .before .before .before .before .is-item .ensures) ∙ c .before .before .before .before .before .before .if2 .taken in
-      let j = sym (c .before .before .before .before .before .is-item2 .ensures) ∙ c .before .before .before .before .if3 .taken in
-      items-right (lent s) (now (s .args .records)) (s .args .block .from) (s .args .block .size) (s .args .switches) (s .args .condition) (in-file e .0) (in-file e .1) k
-      (s .pre .1) (w .subject) (w .object) (w .scale) i j (field-of J (sides s .0) i (w .subject) .inside) (field-of J (sides s .1) j (w .object) .inside)
-      (rw (rows .before .row-of .ensures, rows .row-of2 .ensures, c .before .before .before .before .before .before .before .before .asked-of .ensures) at
-      (c .before .before .relate-fields .ensures k l)),
-  λ e. absurd (false≢true (sym e)),
-)
+returns-2 c =
+    let e = c .before .before .before .before .before .before .before .before .before in
+    let s = entry e in
+    let rows = e .before .before .before .before .before in
+    let i = sym (c .before .before .before .before .before .before .before .is-item .ensures) ∙ c .before .before .before .before .before .before .if2 .taken in
+    let j = sym (c .before .before .before .before .before .is-item2 .ensures) ∙ c .before .before .before .before .if3 .taken in (
+      λ _.
+          items-judged (s .pre .0 .0) (s .pre .1) digitWord (digitsIn 8) (s .args .switches)
+          (λ k _. by-words (lent s) (now (s .args .records)) (s .args .block .from) (s .args .block .size) (s .args .switches) (s .args .condition) (in-file e .0) (in-file e .1) k
+          (s .pre .1) (worded e)) i j
+          (rw (rows .before .row-of .ensures, rows .row-of2 .ensures, c .before .before .before .before .before .before .before .before .asked-of .ensures) at
+          (c .before .before .relate-fields .ensures)),
+      (λ e. absurd (false≢true (sym e)), sym (by-sides (worded e) ∙ rw (i, j))),
+    )
 
 relate-literal-requires : tie.Need-relate-literal-requires
 relate-literal-requires c κs =
     let e = c .before .before .before .before .before .before in
     let s = entry e in
     let J = s .pre .0 .0 in
-    let w = worded e in
+    let m = sizes (worded e) in
     let rows = e .before .before .before .before .before in
     let i = sym (c .before .before .before .before .is-item .ensures) ∙ c .before .before .before .if2 .taken in (
       (J .laid, s .pre .0 .1, s .pre .0 .2),
       (
-        (rw (rows .before .row-of .ensures) (field-of J (sides s .0) i (w .subject)), first-within J),
-        (within-unnamed (sides s .1), omega (arith, sides s .1 .fit .sized, word-size (rowOf (lent s) (s .args .condition .object)) (w .object))),
+        (rw (rows .before .row-of .ensures) (field-of J (sides s .0) i (m .0)), first-within J),
+        (within-unnamed (sides s .1), omega (arith, sides s .1 .fit .sized, m .1)),
       ),
     )
 
-same-length-2 : tie.Need-same-length-2
-same-length-2 c = search needs
+same-length-3 : tie.Need-same-length-3
+same-length-3 c = search needs
 
 returns-3 : tie.Need-returns-3
-returns-3 c = (
-  λ h k l.
-      let e = c .before .before .before .before .before .before .before .before .before in
-      let s = entry e in
-      let J = s .pre .0 .0 in
-      let w = worded e in
-      let rows = e .before .before .before .before .before in
-      let i = sym (c .before .before .before .before .before .before .before .is-item .ensures) ∙ c .before .before .before .before .before .before .if2 .taken in
-      let j = sym (c .before .before .before .before .before .is-item2 .ensures) ∙ c .before .before .before .before .if3 .left in
-      let R = c .before .before .relate-literal .ensures .0 h in
-      object-right (lent s) (now (s .args .records)) (s .args .block .from) (s .args .block .size) (s .args .switches) (s .args .condition) (in-file e .0) (in-file e .1) k
-      (s .pre .1) (w .subject) (w .object) (w .scale) (first s) i j (field-of J (sides s .0) i (w .subject) .inside) (R .digits)
-      (rw (rows .before .row-of .ensures, c .before .before .before .before .before .before .before .before .asked-of .ensures) at (R .told k l)),
-  c .before .before .relate-literal .ensures .1,
-)
+returns-3 c =
+    let E = c .before .before .relate-literal .ensures in
+    let e = c .before .before .before .before .before .before .before .before .before in
+    let s = entry e in
+    let rows = e .before .before .before .before .before in
+    let i = sym (c .before .before .before .before .before .before .before .is-item .ensures) ∙ c .before .before .before .before .before .before .if2 .taken in
+    let j = sym (c .before .before .before .before .before .is-item2 .ensures) ∙ c .before .before .before .before .if3 .left in (
+      λ h.
+          let R = E .0 h in
+          object-judged (s .pre .0 .0) (s .pre .1) digitWord (digitsIn 8) (s .args .switches)
+          (λ k _. by-words (lent s) (now (s .args .records)) (s .args .block .from) (s .args .block .size) (s .args .switches) (s .args .condition) (in-file e .0) (in-file e .1) k
+          (s .pre .1) (worded e)) (first s) i j (R .digits)
+          (rw (rows .before .row-of .ensures, c .before .before .before .before .before .before .before .before .asked-of .ensures) at (R .numbers)),
+      (E .1 .0, E .1 .1 ∙ literal-digits (lent s) (first s) (s .args .condition .object) j ∙ sym (by-sides (worded e) ∙ rw (i, j))),
+    )
 
 is-item-requires-3 : tie.Need-is-item-requires-3
 is-item-requires-3 c κs = search needs
@@ -149,38 +163,42 @@ relate-literal-requires-2 c κs =
     let e = c .before .before .before .before .before .before in
     let s = entry e in
     let J = s .pre .0 .0 in
-    let w = worded e in
+    let m = sizes (worded e) in
     let rows = e .before .before .before .before .before in
     let j = sym (c .before .before .is-item3 .ensures) ∙ c .before .if4 .taken in (
       (J .laid, s .pre .0 .1, s .pre .0 .2),
       (
-        (rw (rows .row-of2 .ensures) (field-of J (sides s .1) j (w .object)), first-within J),
-        (within-unnamed (sides s .0), omega (arith, sides s .0 .fit .sized, word-size (rowOf (lent s) (s .args .condition .subject)) (w .subject))),
+        (rw (rows .row-of2 .ensures) (field-of J (sides s .1) j (m .1)), first-within J),
+        (within-unnamed (sides s .0), omega (arith, sides s .0 .fit .sized, m .0)),
       ),
     )
 
-same-length-3 : tie.Need-same-length-3
-same-length-3 c = search needs
+same-length-4 : tie.Need-same-length-4
+same-length-4 c = search needs
 
 returns-4 : tie.Need-returns-4
-returns-4 c = (
-  λ h k l.
-      let e = c .before .before .before .before .before .before .before .before .before in
-      let s = entry e in
-      let J = s .pre .0 .0 in
-      let w = worded e in
-      let rows = e .before .before .before .before .before in
-      let i = sym (c .before .before .before .before .before .before .before .is-item .ensures) ∙ c .before .before .before .before .before .before .if2 .left in
-      let j = sym (c .before .before .before .before .before .is-item3 .ensures) ∙ c .before .before .before .before .if4 .taken in
-      let R = c .before .before .relate-literal2 .ensures .0 h in
-      subject-right (lent s) (now (s .args .records)) (s .args .block .from) (s .args .block .size) (s .args .switches) (s .args .condition) (in-file e .0) (in-file e .1) k
-      (s .pre .1) (w .subject) (w .object) (w .scale) (first s) i j (field-of J (sides s .1) j (w .object) .inside) (R .digits)
-      (rw (rows .row-of2 .ensures, c .before .before .before .before .before .before .before .before .asked-of .ensures) at (R .told k l)),
-  c .before .before .relate-literal2 .ensures .1,
-)
+returns-4 c =
+    let E = c .before .before .relate-literal2 .ensures in
+    let e = c .before .before .before .before .before .before .before .before .before in
+    let s = entry e in
+    let rows = e .before .before .before .before .before in
+    let i = sym (c .before .before .before .before .before .before .before .is-item .ensures) ∙ c .before .before .before .before .before .before .if2 .left in
+    let j = sym (c .before .before .before .before .before .is-item3 .ensures) ∙ c .before .before .before .before .if4 .taken in (
+      λ h.
+          let R = E .0 h in
+          subject-judged (s .pre .0 .0) (s .pre .1) digitWord (digitsIn 8) (s .args .switches)
+          (λ k _. by-words (lent s) (now (s .args .records)) (s .args .block .from) (s .args .block .size) (s .args .switches) (s .args .condition) (in-file e .0) (in-file e .1) k
+          (s .pre .1) (worded e)) (first s) i j (R .digits)
+          (rw (rows .row-of2 .ensures, c .before .before .before .before .before .before .before .before .asked-of .ensures) at (R .numbers)),
+      (E .1 .0, E .1 .1 ∙ literal-digits (lent s) (first s) (s .args .condition .subject) i ∙ sym (by-sides (worded e) ∙ rw (i, j))),
+    )
 
 returns-5 : tie.Need-returns-5
-returns-5 c = (λ e. absurd (false≢true e), λ _. refl)
+returns-5 c =
+    let e = c .before .before .before .before .before in
+    let i = sym (c .before .before .before .is-item .ensures) ∙ c .before .before .if2 .left in
+    let j = sym (c .before .is-item3 .ensures) ∙ c .if4 .left in
+    (λ f. absurd (false≢true f), (λ _. refl, sym (by-sides (worded e) ∙ rw (i, j))))
 
 pub judge-relation-spec : {M : Type 1} → statement M
 judge-relation-spec =
@@ -190,18 +208,20 @@ judge-relation-spec =
     row-of-requires-2
     fits-word-requires
     fits-word-requires-2
+    judge-texts-requires
+    same-length
     returns
     asked-of-requires
     is-item-requires
     is-item-requires-2
     relate-fields-requires
-    same-length
+    same-length-2
     returns-2
     relate-literal-requires
-    same-length-2
+    same-length-3
     returns-3
     is-item-requires-3
     relate-literal-requires-2
-    same-length-3
+    same-length-4
     returns-4
     returns-5)

@@ -3,7 +3,7 @@ use mathlib.Core.Path.{_≡_, sym, ap, _∙_, refl}
 use mathlib.Core.Bool.{false≢true}
 use native.Mathlib.Omega.{arith}
 use borrow.Author.Needs.{needs}
-use borrow.Author.Tests.{not-false}
+use borrow.Author.Tests.{not-false, not-true}
 use Rattle.byte_words.specs.Words.{digitWord}
 use Rattle.columns.proofs.rows.relate_literal.Statement.{statement}
 use Rattle.columns.proofs.rows.relate_literal.Tie as tie
@@ -30,7 +30,9 @@ all-digits-requires : tie.Need-all-digits-requires
 all-digits-requires c κs = search needs
 
 returns : tie.Need-returns
-returns c = (λ e. absurd (false≢true e), λ _. refl)
+returns c =
+    let e = c .before .before .short-word .ensures ∙ ap digitWord (c .before .before .before .operand-bytes .ensures) in
+    (λ f. absurd (false≢true f), (λ _. refl, sym (rw e at (sym (c .before .all-digits .ensures) ∙ not-true _ (c .if1 .taken)))))
 
 order-bits-requires : tie.Need-order-bits-requires
 order-bits-requires c κs = search needs
@@ -42,16 +44,13 @@ same-length : tie.Need-same-length
 same-length c = search needs
 
 returns-2 : tie.Need-returns-2
-returns-2 c = (
-  λ _.
-      let c5 = c .before .before .before .before .before in
-      let e = c5 .before .before .short-word .ensures ∙ ap digitWord (c5 .before .before .before .operand-bytes .ensures) in
-      record {
-        digits = rw e at (sym (c5 .before .all-digits .ensures) ∙ not-false _ (c5 .if1 .left));
-        told = λ k l. rw (c .before .before .before .before .order-bits .ensures, e) at (c .before .before .compare-field .ensures k l);
-      },
-  λ e. absurd (false≢true (sym e)),
-)
+returns-2 c =
+    let c5 = c .before .before .before .before .before in
+    let e = c5 .before .before .short-word .ensures ∙ ap digitWord (c5 .before .before .before .operand-bytes .ensures) in
+    let d = rw e at (sym (c5 .before .all-digits .ensures) ∙ not-false _ (c5 .if1 .left)) in (
+      λ _. record { digits = d; numbers = rw (c .before .before .before .before .order-bits .ensures, e) at (c .before .before .compare-field .ensures) },
+      (λ f. absurd (false≢true (sym f)), sym d),
+    )
 
 pub relate-literal-spec : {M : Type 1} → statement M
 relate-literal-spec =

@@ -11,33 +11,31 @@ use borrow.Author.Needs.{needs}
 use Rattle.tables.specs.Rows.{part}
 use Rattle.values.specs.Comparison.{side}
 use Rattle.values.specs.Truth.{relationOutcome}
-use Rattle.block_truths.specs.Columns.{recordAt, Right}
-use Rattle.field_words.proofs.Bases.{next-base}
-use Rattle.places.proofs.Storing.{Stored, none-stored, stores, skips}
+use Rattle.block_truths.specs.Columns.{recordAt, Right, Standing}
+use Rattle.block_truths.proofs.Bases.{ends-inside}
+use Rattle.block_truths.proofs.Passing.{Passing, sets-out, has-room, tells, leaves, at-place, off-place, all-told}
 use Rattle.field_rows.proofs.Fitting.{right-for, at-record, item-inside}
 use Rattle.field_rows.proofs.each.relate_each.Statement.{statement}
 use Rattle.field_rows.proofs.each.relate_each.Tie as tie
 
 abbrev Inv-loop : tie.InvT-loop
 Inv-loop records numeric item1 row1 left item2 row2 right word negated at place truths₀ size n base₀ j₀ truths base j =
-    (j ≤ n) × (base ≡ base₀ + j * size)
-    × Stored (λ k v. getD at k 0 ≡ place → Right (relationOutcome word negated (side item1 row1 (cond item1 (part row1 (recordAt records base₀ size k)) left))
-    (side item2 row2 (cond item2 (part row2 (recordAt records base₀ size k)) right))) v) truths₀ truths j
+    Passing (Standing at place (λ k v. Right (relationOutcome word negated (side item1 row1 (cond item1 (part row1 (recordAt records base₀ size k)) left))
+    (side item2 row2 (cond item2 (part row2 (recordAt records base₀ size k)) right))) v) truths₀) base₀ size n truths₀ truths base j
 
 abbrev μ-loop : tie.MeasureT-loop
 μ-loop records numeric item1 row1 left item2 row2 right word negated at place truths₀ size n base₀ j₀ truths base j = n - j
 
 loop-holds : tie.Need-loop-holds Inv-loop μ-loop
-loop-holds c = (omega arith, omega arith, none-stored _ _)
+loop-holds c = sets-out _ _ _ _ _
 
 shared-slice-read-if1 : tie.Need-shared-slice-read-if1 Inv-loop μ-loop
 shared-slice-read-if1 c = omega (arith, c .before .before .before .before .before .before .before .before .pre .0 .0 .few)
 
 add-record : tie.Need-add-record Inv-loop μ-loop
 add-record c =
-    let c9 = c .before .before .before .before .before .before .before .before .before in
-    let l = c .before .before .before .loop in
-    omega (arith, l .inv .1, c9 .pre .0 .0 .within (l .j) (c .before .before .loop-test .taken))
+    let start = c .before .before .before .before .before .before .before .before .before in
+    omega (arith, ends-inside (start .pre .0 .0) (c .before .before .before .loop .inv .starts) (c .before .before .loop-test .taken))
 
 sub-record : tie.Need-sub-record Inv-loop μ-loop
 sub-record c = omega arith
@@ -47,9 +45,8 @@ part-record-start c = omega arith
 
 part-record-end : tie.Need-part-record-end Inv-loop μ-loop
 part-record-end c =
-    let c9 = c .before .before .before .before .before .before .before .before .before in
-    let l = c .before .before .before .loop in
-    omega (arith, l .inv .1, c9 .pre .0 .0 .within (l .j) (c .before .before .loop-test .taken))
+    let start = c .before .before .before .before .before .before .before .before .before in
+    omega (arith, ends-inside (start .pre .0 .0) (c .before .before .before .loop .inv .starts) (c .before .before .loop-test .taken))
 
 side-bytes-requires : tie.Need-side-bytes-requires Inv-loop μ-loop
 side-bytes-requires c κs =
@@ -57,7 +54,7 @@ side-bytes-requires c κs =
     let c10 = c4 .before .before .before .before .before .before in
     λ i. let l = c4 .loop in
     let a = c10 .args in
-    rw (at-record (now (a .records)) (a .block .from) (a .block .size) (l .j) (l .inv .1)) (item-inside (a .item1) (a .row1) _ (now (a .left)) (c10 .pre .1 (l .j)
+    rw (at-record (now (a .records)) (a .block .from) (a .block .size) (l .j) (l .inv .starts)) (item-inside (a .item1) (a .row1) _ (now (a .left)) (c10 .pre .1 (l .j)
     (c .before .before .before .loop-test .taken) .0) i)
 
 side-bytes-requires-2 : tie.Need-side-bytes-requires-2 Inv-loop μ-loop
@@ -66,7 +63,7 @@ side-bytes-requires-2 c κs =
     let c11 = c4 .before .before .before .before .before .before .before in
     λ i. let l = c4 .before .loop in
     let a = c11 .args in
-    rw (at-record (now (a .records)) (a .block .from) (a .block .size) (l .j) (l .inv .1)) (item-inside (a .item2) (a .row2) _ (now (a .right)) (c11 .pre .1 (l .j)
+    rw (at-record (now (a .records)) (a .block .from) (a .block .size) (l .j) (l .inv .starts)) (item-inside (a .item2) (a .row2) _ (now (a .right)) (c11 .pre .1 (l .j)
     (c4 .loop-test .taken) .1) i)
 
 side-truth-requires : tie.Need-side-truth-requires Inv-loop μ-loop
@@ -75,19 +72,18 @@ side-truth-requires c κs =
     let start = c .before .before .before .before .before .before .before .before .before .before .before .before in
     let a = start .args in
     let f = start .pre .1 (l .j) (c .before .before .before .before .before .loop-test .taken) in
-    rw (c .before .side-bytes .ensures, c .side-bytes2 .ensures, at-record (now (a .records)) (a .block .from) (a .block .size) (l .j) (l .inv .1)) (f .0, f .1, start .pre .0 .3)
+    rw (c .before .side-bytes .ensures, c .side-bytes2 .ensures, at-record (now (a .records)) (a .block .from) (a .block .size) (l .j) (l .inv .starts)) (f .0, f .1, start .pre .0 .3)
 
 slice-write-truths : tie.Need-slice-write-truths Inv-loop μ-loop
 slice-write-truths c =
     let c7 = c .before .before .before .before .before .before .before in
-    let c13 = c7 .before .before .before .before .before .before in
-    omega (arith, c7 .loop .inv .2 .long, c13 .pre .0 .0 .few)
+    let start = c7 .before .before .before .before .before .before in
+    has-room (start .pre .0 .0) (start .pre .0 .2) (c7 .loop .inv) (c .before .before .before .before .before .before .loop-test .taken)
 
 add-base : tie.Need-add-base Inv-loop μ-loop
 add-base c =
-    let c9 = c .before .before .before .before .before .before .before .before .before in
-    let l = c .before .before .before .loop in
-    omega (arith, l .inv .1, c9 .pre .0 .0 .within (l .j) (c .before .before .loop-test .taken))
+    let start = c .before .before .before .before .before .before .before .before .before in
+    omega (arith, ends-inside (start .pre .0 .0) (c .before .before .before .loop .inv .starts) (c .before .before .loop-test .taken))
 
 add-j : tie.Need-add-j Inv-loop μ-loop
 add-j c = omega arith
@@ -100,25 +96,22 @@ loop-again c =
     let l = c .before .before .before .loop in
     let start = c .before .before .before .before .before .before .before .before .before in
     let a = start .args in
-    let here = at-record (now (a .records)) (a .block .from) (a .block .size) (l .j) (l .inv .1) in (
-      omega arith,
-      next-base (a .block .from) (l .j) (a .block .size) (l .inv .1),
-      ⊎-elim
-          (λ w. rw (w .5) (stores _ _ (l .inv .2) (omega (arith, start .pre .0 .0 .few, start .pre .0 .2))
-          (λ _. right-for
-          (ap₂ (λ (x y : List ℕ). relationOutcome (a .word) (a .negated) (side (a .item1) (a .row1) x) (side (a .item2) (a .row2) y))
-          (w .2 .ensures ∙ ap (λ (x : List ℕ). cond (a .item1) (part (a .row1) x) (now (a .left))) here)
-          (w .3 .ensures ∙ ap (λ (x : List ℕ). cond (a .item2) (part (a .row2) x) (now (a .right))) here))
-          (w .4 .ensures))))
-          (λ w. rw (w .1) (skips _ _ (l .inv .2) (λ e. absurd (w .0 .left e))))
-          (c .if1 .came),
-    )
+    let here = at-record (now (a .records)) (a .block .from) (a .block .size) (l .j) (l .inv .starts) in
+    let turn = c .before .before .loop-test .taken in
+    ⊎-elim
+    (λ w. rw (w .5) (tells (start .pre .0 .0) (start .pre .0 .2) (l .inv) turn (at-place (w .0 .taken) (right-for
+    (ap₂ (λ (x y : List ℕ). relationOutcome (a .word) (a .negated) (side (a .item1) (a .row1) x) (side (a .item2) (a .row2) y))
+    (w .2 .ensures ∙ ap (λ (x : List ℕ). cond (a .item1) (part (a .row1) x) (now (a .left))) here)
+    (w .3 .ensures ∙ ap (λ (x : List ℕ). cond (a .item2) (part (a .row2) x) (now (a .right))) here))
+    (w .4 .ensures)))))
+    (λ w. rw (w .1) (leaves (start .pre .0 .0) (start .pre .0 .2) (l .inv) turn (off-place (w .0 .left))))
+    (c .if1 .came)
 
 same-length : tie.Need-same-length Inv-loop μ-loop
-same-length c = c .before .loop .inv .2 .long
+same-length c = c .before .loop .inv .stored .long
 
 returns : tie.Need-returns Inv-loop μ-loop
-returns c = λ k l e. c .before .loop .inv .2 .done k (omega arith) e
+returns c = all-told (c .before .loop .inv) (c .loop-test .left)
 
 pub relate-each-spec : {M : Type 1} → statement M
 relate-each-spec =

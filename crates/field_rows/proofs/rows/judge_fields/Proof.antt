@@ -2,8 +2,19 @@
 use mathlib.Core.Path.{sym, _∙_, _≡_, refl}
 use mathlib.Core.Bool.{false≢true}
 use borrow.Author.Needs.{needs}
+use Rattle.typing.specs.declared.Test.the-variants.{Class}
+use Rattle.typing.specs.Tests.{testOf}
+use Rattle.values.proofs.Reading.{read-class}
+use Rattle.block_truths.proofs.Firsts.{first-readable}
+use Rattle.block_truths.proofs.Passing.{retold-at}
+use Rattle.field_rows.proofs.Fitting.{right-for, item-fits, class-is}
 use Rattle.field_rows.proofs.rows.judge_fields.Statement.{statement}
 use Rattle.field_rows.proofs.rows.judge_fields.Tie as tie
+
+-- the row is a class test
+class-test : (c : tie.After-test2)
+    → testOf (c .before .before .before .before .before .before .before .before .before .before .args .condition .relation) ≡ Class (c .test2 .given .0 .0) (c .test2 .given .0 .1 .0)
+class-test c = sym (c .before .before .test-of .ensures) ∙ c .test2 .given .1
 
 test-of-requires : tie.Need-test-of-requires
 test-of-requires c κs = search needs
@@ -20,11 +31,16 @@ judge-relation-requires c κs =
 enum-known-test-2 : tie.Need-enum-known-test-2
 enum-known-test-2 c = search needs
 
-judge-class-requires : tie.Need-judge-class-requires
-judge-class-requires c κs =
-    let c4 = c .before .before .before .before in
-    let c12 = c4 .before .before .before .before .before .before .before .before in
-    (c12 .pre, sym (c4 .test-of .ensures) ∙ c .before .before .test2 .given .1)
+row-of-requires : tie.Need-row-of-requires
+row-of-requires c κs = read-class (first-readable (c .before .before .before .before .before .before .before .before .before .before .before .pre .0)) (class-test (c .before)) .within .there
+
+classify-each-requires : tie.Need-classify-each-requires
+classify-each-requires c κs =
+    let start = c .before .before .before .before .before .before .before .before .before .before .before .before .before in
+    let t = class-test (c .before .before .before) in (
+      (start .pre .0 .laid, start .pre .1, start .pre .2),
+      (λ k l. item-fits t (c .before .row-of .ensures) (start .pre .0 .readable k l)),
+    )
 
 enum-told : tie.Need-enum-told
 enum-told c = search needs
@@ -39,22 +55,30 @@ same-length : tie.Need-same-length
 same-length c = search needs
 
 returns : tie.Need-returns
-returns c = (λ t. c .before .before .judge-relation .ensures, λ e. absurd (false≢true (sym e)))
+returns c =
+    let e = sym (c .before .before .before .before .before .before .before .test-of .ensures) ∙ c .before .before .before .before .before .test .given .1 in
+    (λ t. c .before .before .judge-relation .ensures, (λ e. absurd (false≢true (sym e)), rw e))
 
 same-length-2 : tie.Need-same-length-2
 same-length-2 c = search needs
 
 returns-2 : tie.Need-returns-2
-returns-2 c = (λ t. c .before .before .judge-class .ensures, λ e. absurd (false≢true (sym e)))
+returns-2 c =
+    let start = c .before .before .before .before .before .before .before .before .before .before .before .before .before .before .before .before in
+    let t = class-test (c .before .before .before .before .before .before) in (
+      λ _. retold-at (c .before .before .classify-each .ensures)
+          (λ k l v. right-for (class-is t (c .before .before .before .before .row-of .ensures) (start .pre .0 .readable k l) (start .args .switches))),
+      (λ e. absurd (false≢true (sym e)), rw t),
+    )
 
 returns-3 : tie.Need-returns-3
-returns-3 c = (λ e. absurd (false≢true e), λ _. refl)
+returns-3 c = (λ e. absurd (false≢true e), (λ _. refl, rw (sym (c .before .before .test-of .ensures) ∙ c .enum-told .given .1)))
 
 returns-4 : tie.Need-returns-4
-returns-4 c = (λ e. absurd (false≢true e), λ _. refl)
+returns-4 c = (λ e. absurd (false≢true e), (λ _. refl, rw (sym (c .before .before .before .test-of .ensures) ∙ c .before .test3 .given .1)))
 
 returns-5 : tie.Need-returns-5
-returns-5 c = (λ e. absurd (false≢true e), λ _. refl)
+returns-5 c = (λ e. absurd (false≢true e), (λ _. refl, rw (sym (c .before .before .test-of .ensures) ∙ c .enum-told2 .given .1)))
 
 pub judge-fields-spec : {M : Type 1} → statement M
 judge-fields-spec =
@@ -64,7 +88,8 @@ judge-fields-spec =
     enum-known-test
     judge-relation-requires
     enum-known-test-2
-    judge-class-requires
+    row-of-requires
+    classify-each-requires
     enum-told
     enum-known-test-3
     enum-told-2

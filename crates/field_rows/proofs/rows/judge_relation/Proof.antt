@@ -8,6 +8,7 @@ use Rattle.tables.specs.Operands.{lendNames}
 use Rattle.values.proofs.Reading.{read-relation}
 use Rattle.block_truths.specs.Columns.{recordAt}
 use Rattle.block_truths.proofs.Firsts.{first-readable, first-within, within-unnamed}
+use Rattle.block_truths.proofs.Passing.{retold-at}
 use Rattle.field_rows.proofs.Fitting.{right-for, side-here, side-fits, relation-is}
 use Rattle.field_rows.proofs.rows.judge_relation.Statement.{statement}
 use Rattle.field_rows.proofs.rows.judge_relation.Tie as tie
@@ -81,15 +82,14 @@ returns : tie.Need-returns
 returns c =
     let c6 = c .before .before .before .before .before .before in
     let c9 = c6 .before .before .before in
-    let c20 = c9 .before .before .before .before .before .before .before .before .before .before .before in
-    λ k l e. let start = c20 in
+    let start = c9 .before .before .before .before .before .before .before .before .before .before .before in
     let a = start .args in
     let lent = lendNames (now (a .items)) (now (a .literals)) (now (a .bytes)) (now (a .names)) in
-    let content = recordAt (now (a .records)) (a .block .from) (a .block .size) k in
+    retold-at (c .before .before .relate-each .ensures)
+    (λ k l v. let content = recordAt (now (a .records)) (a .block .from) (a .block .size) k in
     right-for (relation-is lent content (a .switches) (a .condition .subject) (a .condition .relation) (a .condition .object) (start .pre .1)
     (side-here lent _ content (a .condition .subject) (c6 .before .is-item .ensures) (c9 .before .before .row-of .ensures) (c9 .operand-bytes .ensures))
-    (side-here lent _ content (a .condition .object) (c6 .is-item2 .ensures) (c9 .before .row-of2 .ensures) (c6 .before .before .operand-bytes2 .ensures)))
-    (c .before .before .relate-each .ensures k l e)
+    (side-here lent _ content (a .condition .object) (c6 .is-item2 .ensures) (c9 .before .row-of2 .ensures) (c6 .before .before .operand-bytes2 .ensures))))
 
 pub judge-relation-spec : {M : Type 1} → statement M
 judge-relation-spec =

@@ -9,7 +9,7 @@ use denote.Ref.{now}
 use borrow.Author.Needs.{needs}
 use Rattle.tables.specs.Operands.{lendNames}
 use Rattle.block_truths.specs.Columns.{recordAt}
-use Rattle.field_words.proofs.Bases.{next-base}
+use Rattle.block_truths.proofs.Bases.{next-base}
 use Rattle.rules.specs.Calls.{runGives}
 use Rattle.rules.proofs.Places.{run-fits}
 use Rattle.sweeps.specs.Sweep.{laid, answerOf, answersOf}
@@ -64,14 +64,14 @@ part-content-end c =
 shared-slice-read-judged-at : tie.Need-shared-slice-read-judged-at Inv-loop μ-loop
 shared-slice-read-judged-at c = omega (
   arith,
-  c .before .before .before .before .before .before .before .before .before .before .before .before .before .pre .1 .1 .places,
+  c .before .before .before .before .before .before .before .before .before .before .before .before .before .pre .1 .1 .0,
   c .before .before .before .before .before .before .before .before .before .before .before .before .before .pre .1 .0 .few,
 )
 
 shared-slice-read-judged-at-2 : tie.Need-shared-slice-read-judged-at-2 Inv-loop μ-loop
 shared-slice-read-judged-at-2 c = omega (
   arith,
-  c .before .before .before .before .before .before .before .before .before .before .before .before .before .before .pre .1 .1 .numbers,
+  c .before .before .before .before .before .before .before .before .before .before .before .before .before .before .pre .1 .1 .1,
   c .before .before .before .before .before .before .before .before .before .before .before .before .before .before .pre .1 .0 .few,
 )
 
@@ -84,10 +84,7 @@ judged-at-requires c κs =
     let within : l .base + a .block .size ≤ length (now (a .records)) = omega (arith, l .inv .1, inside (start .pre .1 .0) (l .j) (c .before .before .before .loop-test .taken)) in
     let width : l .base + a .block .size - l .base ≡ a .block .size = omega arith in (
       runnable lent (now (a .plan)) (now (a .records)) (a .block .size) (a .switches) (start .pre .0) (l .base) within,
-      rw (width, l .inv .1) (start .pre .1 .1 .settled (l .j) (omega (
-        arith,
-        start .pre .1 .0 .few,
-      ))),
+      rw (width, l .inv .1) (start .pre .1 .1 .2 .settled (l .j) (c .before .before .before .loop-test .taken)),
     )
 
 put-answer-requires : tie.Need-put-answer-requires Inv-loop μ-loop

@@ -35,9 +35,9 @@ same-length : tie.Need-same-length
 same-length c = search needs
 
 returns : tie.Need-returns
-returns c = λ k l.
+returns c =
     let order = c .before .before .before .before in
-    rw (order .order-bits .ensures, order .before .short-filled .ensures, order .before .before .operand-bytes .ensures) at (c .before .before .compare-text .ensures k l)
+    rw (order .order-bits .ensures, order .before .short-filled .ensures, order .before .before .operand-bytes .ensures) at (c .before .before .compare-text .ensures)
 
 pub relate-literal-spec : {M : Type 1} → statement M
 relate-literal-spec =

@@ -1,25 +1,23 @@
 -- One record after the other.
 use mathlib.Core.Path.{_≡_}
 use mathlib.Core.Bool.{true}
-use Prim.Native.Nat.{ℕ, _+_, _-_, _*_, _<_, _≤_}
+use Prim.Native.Nat.{ℕ, _-_}
 use native.Mathlib.Omega.{arith}
-use lib.ListN.{getD}
 use borrow.Author.Needs.{needs}
-use Rattle.places.proofs.Storing.{Stored, none-stored, stores}
 use Rattle.block_truths.specs.Columns.{compared}
-use Rattle.field_words.proofs.Bases.{next-base, ends-inside}
+use Rattle.block_truths.proofs.Bases.{ends-inside, field-there}
+use Rattle.block_truths.proofs.Passing.{Passing, sets-out, has-room, tells, all-told}
 use Rattle.text_columns.specs.TextColumns.{textAt, Text}
-use Rattle.text_columns.proofs.Sides.{text-there}
 use Rattle.text_columns.proofs.words.compare_text.Statement.{statement}
 use Rattle.text_columns.proofs.words.compare_text.Tie as tie
 
 abbrev Inv-loop : tie.InvT-loop
-Inv-loop records filled word order truths₀ end width size n base₀ j₀ truths base j =
-    (j ≤ n) × (base ≡ base₀ + j * size)
-    × Stored (λ k v. v ≡ compared true (order .less) (order .same) (order .more) (textAt records base₀ size end width filled k) word) truths₀ truths j
+Inv-loop records filled word order truths₀ text size n base₀ j₀ truths base j =
+    Passing (λ k v. v ≡ compared true (order .less) (order .same) (order .more) (textAt records base₀ size (text .end) (text .width) filled k) word)
+    base₀ size n truths₀ truths base j
 
 abbrev μ-loop : tie.MeasureT-loop
-μ-loop records filled word order truths₀ end width size n base₀ j₀ truths base j = n - j
+μ-loop records filled word order truths₀ text size n base₀ j₀ truths base j = n - j
 
 -- the text, which ends in each record
 text : (c : tie.After-extent-of Inv-loop μ-loop)
@@ -30,33 +28,28 @@ extent-of-requires : tie.Need-extent-of-requires Inv-loop μ-loop
 extent-of-requires c κs = search needs
 
 loop-holds : tie.Need-loop-holds Inv-loop μ-loop
-loop-holds c = (omega arith, omega arith, none-stored _ _)
+loop-holds c = sets-out _ _ _ _ _
 
-add-filled-text : tie.Need-add-filled-text Inv-loop μ-loop
-add-filled-text c =
+text-at-requires : tie.Need-text-at-requires Inv-loop μ-loop
+text-at-requires c κs =
     let head = c .before in
     let start = head .before .before .before .before in
-    omega (arith, text-there (start .pre .0 .0) (head .loop .inv .1) (c .loop-test .taken) (start .pre .0 .1) (text (head .before)))
-
-filled-text-requires : tie.Need-filled-text-requires Inv-loop μ-loop
-filled-text-requires c κs =
-    let head = c .before in
-    let start = head .before .before .before .before in
-    let f = text (head .before) in
-    (text-there (start .pre .0 .0) (head .loop .inv .1) (c .loop-test .taken) (start .pre .0 .1) f, (f .some, f .most, f .short))
+    let t = text (head .before) in
+    (field-there (start .pre .0 .0) (head .loop .inv .starts) (c .loop-test .taken) (start .pre .0 .1) (t .field), t .most, t .short)
 
 compare-words-requires : tie.Need-compare-words-requires Inv-loop μ-loop
 compare-words-requires c κs = search needs
 
 slice-write-truths : tie.Need-slice-write-truths Inv-loop μ-loop
 slice-write-truths c =
-    let head = c .before .before .before in
-    omega (arith, head .loop .inv .2 .long, head .before .before .before .before .pre .0 .0 .few)
+    let turn = c .before .before in
+    let start = turn .before .before .before .before .before in
+    has-room (start .pre .0 .0) (start .pre .0 .2) (turn .before .loop .inv) (turn .loop-test .taken)
 
 add-base : tie.Need-add-base Inv-loop μ-loop
 add-base c =
-    let head = c .before .before .before in
-    omega (arith, ends-inside (head .before .before .before .before .pre .0 .0) (head .loop .inv .1) (c .before .before .loop-test .taken))
+    let turn = c .before .before in
+    omega (arith, ends-inside (turn .before .before .before .before .before .pre .0 .0) (turn .before .loop .inv .starts) (turn .loop-test .taken))
 
 add-j : tie.Need-add-j Inv-loop μ-loop
 add-j c = omega arith
@@ -66,25 +59,19 @@ loop-less c = omega arith
 
 loop-again : tie.Need-loop-again Inv-loop μ-loop
 loop-again c =
-    let head = c .before .before .before in
-    let l = head .loop in
-    let start = head .before .before .before .before in (
-      omega arith,
-      next-base (start .args .block .from) (l .j) (start .args .block .size) (l .inv .1),
-      stores _ _ (l .inv .2) (omega (arith, start .pre .0 .0 .few, start .pre .0 .2)) (rw (
-        c .compare-words .ensures,
-        c .before .filled-text .ensures,
-        l .inv .1,
-      )),
-    )
+    let turn = c .before .before in
+    let start = turn .before .before .before .before .before in
+    let l = turn .before .loop .inv in
+    tells (start .pre .0 .0) (start .pre .0 .2) l (turn .loop-test .taken)
+    (rw (c .compare-words .ensures, c .before .text-at .ensures, l .starts))
 
 same-length : tie.Need-same-length Inv-loop μ-loop
-same-length c = c .before .loop .inv .2 .long
+same-length c = c .before .loop .inv .stored .long
 
 returns : tie.Need-returns Inv-loop μ-loop
-returns c = λ k l.
+returns c =
     let e = c .before .before .extent-of .ensures in
-    rw (e .0, e .1) at (c .before .loop .inv .2 .done k (omega arith))
+    rw (e .0, e .1) at (all-told (c .before .loop .inv) (c .loop-test .left))
 
 pub compare-text-spec : {M : Type 1} → statement M
 compare-text-spec =
@@ -94,8 +81,7 @@ compare-text-spec =
     μ-loop
     extent-of-requires
     loop-holds
-    add-filled-text
-    filled-text-requires
+    text-at-requires
     compare-words-requires
     slice-write-truths
     add-base

@@ -1,25 +1,23 @@
 -- One record after the other.
 use mathlib.Core.Path.{_≡_}
 use mathlib.Core.Bool.{true}
-use Prim.Native.Nat.{ℕ, _+_, _-_, _*_, _<_, _≤_}
+use Prim.Native.Nat.{ℕ, _-_}
 use native.Mathlib.Omega.{arith}
-use lib.ListN.{getD}
 use borrow.Author.Needs.{needs}
-use Rattle.places.proofs.Storing.{Stored, none-stored, stores}
 use Rattle.block_truths.specs.Columns.{compared}
-use Rattle.field_words.proofs.Bases.{next-base, ends-inside}
+use Rattle.block_truths.proofs.Bases.{ends-inside, field-there}
+use Rattle.block_truths.proofs.Passing.{Passing, sets-out, has-room, tells, all-told}
 use Rattle.text_columns.specs.TextColumns.{textAt, Text}
-use Rattle.text_columns.proofs.Sides.{text-there}
 use Rattle.text_columns.proofs.words.compare_texts.Statement.{statement}
 use Rattle.text_columns.proofs.words.compare_texts.Tie as tie
 
 abbrev Inv-loop : tie.InvT-loop
-Inv-loop records filled order truths₀ end1 width1 end2 width2 size n base₀ j₀ truths base j =
-    (j ≤ n) × (base ≡ base₀ + j * size)
-    × Stored (λ k v. v ≡ compared true (order .less) (order .same) (order .more) (textAt records base₀ size end1 width1 filled k) (textAt records base₀ size end2 width2 filled k)) truths₀ truths j
+Inv-loop records filled order truths₀ first second size n base₀ j₀ truths base j =
+    Passing (λ k v. v ≡ compared true (order .less) (order .same) (order .more) (textAt records base₀ size (first .end) (first .width) filled k)
+    (textAt records base₀ size (second .end) (second .width) filled k)) base₀ size n truths₀ truths base j
 
 abbrev μ-loop : tie.MeasureT-loop
-μ-loop records filled order truths₀ end1 width1 end2 width2 size n base₀ j₀ truths base j = n - j
+μ-loop records filled order truths₀ first second size n base₀ j₀ truths base j = n - j
 
 -- the two texts, which end in each record
 first : (c : tie.After-extent-of2 Inv-loop μ-loop)
@@ -39,46 +37,35 @@ extent-of-requires-2 : tie.Need-extent-of-requires-2 Inv-loop μ-loop
 extent-of-requires-2 c κs = search needs
 
 loop-holds : tie.Need-loop-holds Inv-loop μ-loop
-loop-holds c = (omega arith, omega arith, none-stored _ _)
+loop-holds c = sets-out _ _ _ _ _
 
-add-filled-text : tie.Need-add-filled-text Inv-loop μ-loop
-add-filled-text c =
+text-at-requires : tie.Need-text-at-requires Inv-loop μ-loop
+text-at-requires c κs =
     let head = c .before in
     let start = head .before .before .before .before .before in
-    omega (arith, text-there (start .pre .0 .0) (head .loop .inv .1) (c .loop-test .taken) (start .pre .0 .1) (first (head .before)))
+    let t = first (head .before) in
+    (field-there (start .pre .0 .0) (head .loop .inv .starts) (c .loop-test .taken) (start .pre .0 .1) (t .field), t .most, t .short)
 
-filled-text-requires : tie.Need-filled-text-requires Inv-loop μ-loop
-filled-text-requires c κs =
-    let head = c .before in
-    let start = head .before .before .before .before .before in
-    let f = first (head .before) in
-    (text-there (start .pre .0 .0) (head .loop .inv .1) (c .loop-test .taken) (start .pre .0 .1) f, (f .some, f .most, f .short))
-
-add-filled-text-2 : tie.Need-add-filled-text-2 Inv-loop μ-loop
-add-filled-text-2 c =
+text-at-requires-2 : tie.Need-text-at-requires-2 Inv-loop μ-loop
+text-at-requires-2 c κs =
     let head = c .before .before in
     let start = head .before .before .before .before .before in
-    omega (arith, text-there (start .pre .0 .0) (head .loop .inv .1) (c .before .loop-test .taken) (start .pre .0 .1) (second (head .before)))
-
-filled-text-requires-2 : tie.Need-filled-text-requires-2 Inv-loop μ-loop
-filled-text-requires-2 c κs =
-    let head = c .before .before in
-    let start = head .before .before .before .before .before in
-    let f = second (head .before) in
-    (text-there (start .pre .0 .0) (head .loop .inv .1) (c .before .loop-test .taken) (start .pre .0 .1) f, (f .some, f .most, f .short))
+    let t = second (head .before) in
+    (field-there (start .pre .0 .0) (head .loop .inv .starts) (c .before .loop-test .taken) (start .pre .0 .1) (t .field), t .most, t .short)
 
 compare-words-requires : tie.Need-compare-words-requires Inv-loop μ-loop
 compare-words-requires c κs = search needs
 
 slice-write-truths : tie.Need-slice-write-truths Inv-loop μ-loop
 slice-write-truths c =
-    let head = c .before .before .before .before in
-    omega (arith, head .loop .inv .2 .long, head .before .before .before .before .before .pre .0 .0 .few)
+    let turn = c .before .before .before in
+    let start = turn .before .before .before .before .before .before in
+    has-room (start .pre .0 .0) (start .pre .0 .2) (turn .before .loop .inv) (turn .loop-test .taken)
 
 add-base : tie.Need-add-base Inv-loop μ-loop
 add-base c =
-    let head = c .before .before .before .before in
-    omega (arith, ends-inside (head .before .before .before .before .before .pre .0 .0) (head .loop .inv .1) (c .before .before .before .loop-test .taken))
+    let turn = c .before .before .before in
+    omega (arith, ends-inside (turn .before .before .before .before .before .before .pre .0 .0) (turn .before .loop .inv .starts) (turn .loop-test .taken))
 
 add-j : tie.Need-add-j Inv-loop μ-loop
 add-j c = omega arith
@@ -88,27 +75,20 @@ loop-less c = omega arith
 
 loop-again : tie.Need-loop-again Inv-loop μ-loop
 loop-again c =
-    let head = c .before .before .before .before in
-    let l = head .loop in
-    let start = head .before .before .before .before .before in (
-      omega arith,
-      next-base (start .args .block .from) (l .j) (start .args .block .size) (l .inv .1),
-      stores _ _ (l .inv .2) (omega (arith, start .pre .0 .0 .few, start .pre .0 .2)) (rw (
-        c .compare-words .ensures,
-        c .before .filled-text2 .ensures,
-        c .before .before .filled-text .ensures,
-        l .inv .1,
-      )),
-    )
+    let turn = c .before .before .before in
+    let start = turn .before .before .before .before .before .before in
+    let l = turn .before .loop .inv in
+    tells (start .pre .0 .0) (start .pre .0 .2) l (turn .loop-test .taken)
+    (rw (c .compare-words .ensures, c .before .text-at2 .ensures, c .before .before .text-at .ensures, l .starts))
 
 same-length : tie.Need-same-length Inv-loop μ-loop
-same-length c = c .before .loop .inv .2 .long
+same-length c = c .before .loop .inv .stored .long
 
 returns : tie.Need-returns Inv-loop μ-loop
-returns c = λ k l.
+returns c =
     let e = c .before .before .before .extent-of .ensures in
     let f = c .before .before .extent-of2 .ensures in
-    rw (e .0, e .1, f .0, f .1) at (c .before .loop .inv .2 .done k (omega arith))
+    rw (e .0, e .1, f .0, f .1) at (all-told (c .before .loop .inv) (c .loop-test .left))
 
 pub compare-texts-spec : {M : Type 1} → statement M
 compare-texts-spec =
@@ -119,10 +99,8 @@ compare-texts-spec =
     extent-of-requires
     extent-of-requires-2
     loop-holds
-    add-filled-text
-    filled-text-requires
-    add-filled-text-2
-    filled-text-requires-2
+    text-at-requires
+    text-at-requires-2
     compare-words-requires
     slice-write-truths
     add-base

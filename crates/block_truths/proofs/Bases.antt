@@ -6,7 +6,7 @@ use native.Mathlib.Nat.{suc-mul}
 use native.Mathlib.Numerals.{add-one}
 use native.Mathlib.Omega.{arith}
 use lib.ListN.{length}
-use Rattle.block_truths.specs.Columns.{Laid, Field}
+use Rattle.block_truths.specs.Columns.{Laid, Field, There}
 
 -- the next record starts where this one ends
 pub next-base : {base : ℕ} (from j size : ℕ) → base ≡ from + j * size → base + size ≡ from + (j + 1) * size
@@ -18,5 +18,6 @@ module _ {records : List ℕ} {from size n : ℕ} (L : Laid records from size n)
   ends-inside = omega (arith, e, L .within j l)
 
   -- and so does a field of it, which ends far enough from the file's start
-  pub field-there : {end width : ℕ} → 8 ≤ from → Field size end width → (8 ≤ base + end) × (base + end ≤ length records)
-  field-there after f = omega (arith, e, ends-inside, f .inside)
+  pub field-there : {end width : ℕ} → 8 ≤ from → Field size end width → There (length records) base end width
+  field-there after f =
+      record { some = f .some; most = f .most; after = omega (arith, e, f .some, f .most); inside = omega (arith, e, ends-inside, f .inside) }
