@@ -11,15 +11,6 @@ use borrow.Author.Needs.{needs}
 use Rattle.merger.proofs.calls.merge_decided.Statement.{statement}
 use Rattle.merger.proofs.calls.merge_decided.Tie as tie
 
-contested-count-requires : tie.Need-contested-count-requires
-contested-count-requires c κs = search needs
-
-check-rooms-requires : tie.Need-check-rooms-requires
-check-rooms-requires c κs = search needs
-
-enum-known-room : tie.Need-enum-known-room
-enum-known-room c = search needs
-
 returns : tie.Need-returns
 returns c =
     let start = c .before .before .before .before .before .before .before .before .before .before .before in
@@ -29,9 +20,6 @@ returns c =
     let counted = c .before .before .before .before .contested-count .ensures ∙ contested-count copies (a .verdict) (a .apart) (start .pre .2) in
     let room = c .before .before .before .check-rooms .ensures in
     room-refuses copies (a .verdict) rows counted (now (a .merged)) (now (a .contested)) room (c .before .room .given .1)
-
-enum-told : tie.Need-enum-told
-enum-told c = search needs
 
 slice-relend-prefix-write-merged : tie.Need-slice-relend-prefix-write-merged
 slice-relend-prefix-write-merged c =
@@ -74,12 +62,6 @@ write-contested-requires c κs =
     let room = c .before .before .before .before .before .before .before .check-rooms .ensures in
     (start .pre .0, start .pre .1, rows-fit copies (a .verdict) rows counted (now (a .merged)) (now (a .contested)) room (c .before .before .before .before .before .enum-told .given .1))
 
-same-length : tie.Need-same-length
-same-length c = search needs
-
-same-length-2 : tie.Need-same-length-2
-same-length-2 c = search needs
-
 returns-2 : tie.Need-returns-2
 returns-2 c =
     let c6 = c .before .before .before .before .before .before in
@@ -98,15 +80,5 @@ pub merge-decided-spec : {M : Type 1} → statement M
 merge-decided-spec =
     tie.close
     (tie.spec
-    contested-count-requires
-    check-rooms-requires
-    enum-known-room
-    returns
-    enum-told
-    slice-relend-prefix-write-merged
-    slice-aggregate-write-merged
-    write-merged-requires
-    write-contested-requires
-    same-length
-    same-length-2
-    returns-2)
+    (λ c κs. search needs) (λ c κs. search needs) (λ c. search needs) returns (λ c. search needs) slice-relend-prefix-write-merged
+    slice-aggregate-write-merged write-merged-requires write-contested-requires (λ c. search needs) (λ c. search needs) returns-2)

@@ -1,7 +1,7 @@
 -- One part after another.
-use mathlib.Core.Path.{_≡_, refl, sym, ap, _∙_}
+use mathlib.Core.Path.{sym}
 use mathlib.Core.List.{List}
-use Prim.Native.Nat.{ℕ, _≤_}
+use Prim.Native.Nat.{ℕ}
 use native.Mathlib.Omega.{arith}
 use lib.ListN.{length}
 use denote.Ref.{now}
@@ -49,9 +49,6 @@ sweep-part-requires c κs =
           (c .before .part-records .ensures .2),
     )
 
-sub-left : tie.Need-sub-left Inv-loop μ-loop
-sub-left c = omega (arith, c .before .before .before .before .part-records .ensures .1)
-
 mul-from : tie.Need-mul-from Inv-loop μ-loop
 mul-from c =
     let head = c .before .before .before .before .before .before in
@@ -79,9 +76,6 @@ add-from c =
           (c .before .before .before .before .part-records .ensures .1) (c .before .before .before .before .part-records .ensures .0)
           (c .before .before .before .before .part-records .ensures .2) .within,
     )
-
-mul-out : tie.Need-mul-out Inv-loop μ-loop
-mul-out c = omega (arith, c .before .before .before .before .part-records .ensures .2)
 
 add-out : tie.Need-add-out Inv-loop μ-loop
 add-out c =
@@ -134,18 +128,6 @@ pub sweep-records-spec : {M : Type 1} → statement M
 sweep-records-spec =
     tie.close
     (tie.spec
-    Inv-loop
-    μ-loop
-    div-left
-    loop-holds
-    part-records-requires
-    sweep-part-requires
-    sub-left
-    mul-from
-    add-from
-    mul-out
-    add-out
-    loop-less
-    loop-again
-    same-length
-    returns)
+    Inv-loop μ-loop div-left loop-holds part-records-requires sweep-part-requires
+    (λ c. omega (arith, c .before .before .before .before .part-records .ensures .1)) mul-from add-from
+    (λ c. omega (arith, c .before .before .before .before .part-records .ensures .2)) add-out loop-less loop-again same-length returns)

@@ -1,18 +1,13 @@
 -- `literal` meets its contract: from the laws of proofs/ and what its callees ensure. Assumes nothing.
 use native.Mathlib.Omega.{arith}
 use denote.Ref.{now}
-use mathlib.Core.Path.{sym, _∙_}
-use lib.ListN.{length-drop}
-use Rattle.text_bytes.proofs.Laws.{inked-le, part-from}
+use Rattle.text_bytes.proofs.Laws.{inked-le}
 use Rattle.wanted_words.proofs.Laws.{common-le, literal-none, literal-word, literal-fault}
 use lib.ListN.{length, take, drop, length-take}
 use Prim.Native.Nat.{_-_}
 use borrow.Author.Needs.{needs}
 use Rattle.wanted_words.proofs.literals.literal.Statement.{statement}
 use Rattle.wanted_words.proofs.literals.literal.Tie as tie
-
-next-ink-requires : tie.Need-next-ink-requires
-next-ink-requires c κs = search needs
 
 returns : tie.Need-returns
 returns c = literal-none (now (c .before .before .before .before .args .word)) (now (c .before .before .before .before .args .text))
@@ -33,12 +28,6 @@ part-common-length-start c = omega (
       (c .before .before .before .before .pre),
   c .before .next-ink .ensures,
 )
-
-part-common-length-end : tie.Need-part-common-length-end
-part-common-length-end c = search needs
-
-common-length-requires : tie.Need-common-length-requires
-common-length-requires c κs = search needs
 
 add-t12 : tie.Need-add-t12
 add-t12 c = omega (
@@ -92,13 +81,5 @@ pub literal-spec : {M : Type 1} → statement M
 literal-spec =
     tie.close
     (tie.spec
-    next-ink-requires
-    returns
-    sub-common-length
-    part-common-length-start
-    part-common-length-end
-    common-length-requires
-    add-t12
-    add-t13
-    returns-2
+    (λ c κs. search needs) returns sub-common-length part-common-length-start (λ c. search needs) (λ c κs. search needs) add-t12 add-t13 returns-2
     returns-3)
