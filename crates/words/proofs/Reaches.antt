@@ -20,7 +20,7 @@ use Rattle.description.proofs.Bytes.{apart, eqb-same, eqb-no, leb-so, leb-no}
 use Rattle.description.proofs.Stages.{reach-le}
 use Rattle.description.proofs.Phases.{eqb-suc}
 use Rattle.words.specs.Runs.{nameRun}
-use Rattle.text_bytes.proofs.Laws.{inked-le, part-from}
+use Rattle.text_bytes.proofs.Laws.{ink-within, part-from}
 
 -- Tests of each byte.
 pub all-more : (test : ℕ → Bool) (w : List ℕ) (k : ℕ) → k < length w → test (getD w k 0) ≡ true → all test w ≡ all test (drop k w) → all test w ≡ all test (drop (k + 1) w)
@@ -212,9 +212,6 @@ name-none l text n p e h = let i : inked text n ≡ n = sym e ∙ h in rw (i, eq
 -- and of a level 88 entry
 pub label-none : (text : List ℕ) (n p : ℕ) → p ≡ inked text n → p ≡ n → Reached.Fault n ≡ labelAt text n
 label-none text n p e h = let i : inked text n ≡ n = sym e ∙ h in rw (i, eqb-same n)
-
-pub ink-within : (text : List ℕ) (n p : ℕ) → p ≡ inked text n → n ≤ length text → p ≤ length text
-ink-within text n p e h = omega (arith, inked-le text n h)
 
 module _ (text : List ℕ) (n p m : ℕ) (e : p ≡ inked text n) (g : m ≡ reach beginsName [] (take (length text - p) (drop p text))) where
   reaches : m ≡ nameReach text p

@@ -5,7 +5,7 @@ use mathlib.Core.Path.{refl, _∙_}
 use denote.Ref.{now}
 use Rattle.entries.specs.Entries.{capEntry}
 use Rattle.entries.proofs.Branches.{via, known}
-use Rattle.text_bytes.proofs.Laws.{inked-le}
+use Rattle.text_bytes.proofs.Laws.{ink-within}
 use Rattle.entries.specs.Entries.{calledOf}
 use Rattle.entries.proofs.Bounds.{Names, name-reaches}
 use borrow.Author.Needs.{needs}
@@ -13,13 +13,7 @@ use Rattle.entries.proofs.entry.named_at.Statement.{statement}
 use Rattle.entries.proofs.entry.named_at.Tie as tie
 
 narrow-requires-2 : tie.Need-narrow-requires-2
-narrow-requires-2 c κs = omega (
-  arith,
-  inked-le (now (c .before .before .before .args .text)) (c .before .before .before .args .p + 2)
-      (c .before .before .before .pre .0),
-  c .next-ink .ensures,
-  c .before .before .before .pre .1,
-)
+narrow-requires-2 c κs = omega (arith, ink-within _ _ _ (c .next-ink .ensures) (c .before .before .before .pre .0), c .before .before .before .pre .1)
 
 item-at-requires : tie.Need-item-at-requires
 item-at-requires c κs = (

@@ -2,7 +2,8 @@
 use native.Mathlib.Omega.{arith}
 use mathlib.Core.Path.{sym, _∙_}
 use mathlib.Core.Bool.{true, false}
-use Rattle.words.proofs.Reaches.{ink-within, name-within, label-none, label-is}
+use Rattle.text_bytes.proofs.Laws.{ink-within}
+use Rattle.words.proofs.Reaches.{name-within, label-none, label-is}
 use borrow.Author.Needs.{needs}
 use Rattle.words.proofs.names.label_at.Statement.{statement}
 use Rattle.words.proofs.names.label_at.Tie as tie

@@ -3,7 +3,8 @@ use native.Mathlib.Omega.{arith}
 use mathlib.Core.Path.{refl, sym, _∙_}
 use mathlib.Core.Bool.{true, false}
 use borrow.Author.Tests.{not-true, not-false}
-use Rattle.words.proofs.Reaches.{ink-within, name-within, name-none, name-is}
+use Rattle.text_bytes.proofs.Laws.{ink-within}
+use Rattle.words.proofs.Reaches.{name-within, name-none, name-is}
 use borrow.Author.Needs.{needs}
 use Rattle.words.proofs.names.name_at.Statement.{statement}
 use Rattle.words.proofs.names.name_at.Tie as tie
