@@ -6,7 +6,6 @@ use mathlib.Core.List.{List, [], _∷_, _++_}
 use mathlib.Core.Bool.{Bool, true, false, cond, not, _&&_}
 use lib.ListN.{length, drop}
 use lib.Seq.{sets}
-use borrow.Author.Tests.{leb-true}
 use Rattle.compare.specs.declared.Number.{Number}
 use Rattle.compare.specs.declared.Order.{Order}
 use Rattle.content.specs.Content.{signed, value}
@@ -35,12 +34,6 @@ use Rattle.differences.specs.Differ.{letterV, letterB, letterI, sameValu
 use Rattle.differences.specs.Differ.{liesInBoth, endCheck, differLines, differBy, differing, Held}
 
 module _ {r : Row} {first second : List ℕ} (h : Held r first second) where
-  pub first-lies : r .offset + r .size ≤ length first
-  first-lies = leb-true _ _ (h .inFirst)
-
-  pub second-lies : r .offset + r .size ≤ length second
-  second-lies = leb-true _ _ (h .inSecond)
-
   pub scale-fits : r .scale ≤ 18
   scale-fits = scale-small r (h .sound)
 

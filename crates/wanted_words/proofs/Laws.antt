@@ -35,7 +35,7 @@ pub common-end : (w bs : List ℕ) (k : ℕ) → length w ≤ k → common w bs 
 unfolding common
 common-end w bs k l e = sym (e ∙ rw (drop-of-length-le w l) (omega arith))
 
-common-le : (w bs : List ℕ) → common w bs ≤ length bs
+pub common-le : (w bs : List ℕ) → common w bs ≤ length bs
 unfolding common
 common-le [] bs = omega arith
 common-le (a ∷ w) [] = omega arith
