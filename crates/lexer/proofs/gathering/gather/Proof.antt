@@ -28,10 +28,13 @@ abbrev book : tie.Start Inv-loop μ-loop → Book
 book start = bookIn (knownAt (now (start .args .description)) (start .args .items) (now (start .args .places))) (start .args .literals) (start .args .content)
     (now (start .args .rows)) (now (start .args .bytes))
 
--- a step leaves each output as long as it was lent
-still : (c : tie.After-step Inv-loop μ-loop) → (length (c .step .last .1 .1 .1 .1 .1 .0) ≡ length (now (c .before .before .before .before .before .before .before .before .before .before .before .before .before .args .tokens)))
-    × (length (c .step .last .1 .1 .1 .1 .1 .1 .0) ≡ length (now (c .before .before .before .before .before .before .before .before .before .before .before .before .before .args .rows)))
-    × (length (c .step .last .1 .1 .1 .1 .1 .1 .1 .0) ≡ length (now (c .before .before .before .before .before .before .before .before .before .before .before .before .before .args .bytes)))
+-- what a step started with; it leaves each output as long as it was lent
+abbrev first : tie.After-step Inv-loop μ-loop → tie.Start Inv-loop μ-loop
+first c = c .before .before .before .before .before .before .before .before .before .before .before .before .before
+
+still : (c : tie.After-step Inv-loop μ-loop) → (length (c .step .last .1 .1 .1 .1 .1 .0) ≡ length (now (first c .args .tokens)))
+    × (length (c .step .last .1 .1 .1 .1 .1 .1 .0) ≡ length (now (first c .args .rows)))
+    × (length (c .step .last .1 .1 .1 .1 .1 .1 .1 .0) ≡ length (now (first c .args .bytes)))
 still c =
     let i = c .before .before .before .before .before .before .loop .inv in
     (c .step .kept .1 .1 .1 .1 .1 .0 ∙ i .2, c .step .kept .1 .1 .1 .1 .1 .1 .0 ∙ i .3, c .step .kept .1 .1 .1 .1 .1 .1 .1 .0 ∙ i .4)
@@ -63,7 +66,7 @@ loop-less : tie.Need-loop-less Inv-loop μ-loop
 loop-less c =
     let s = c .before .before .before .before .before .before .before .before .before in
     let l = s .before .before .before .before .before .before .loop in
-    let start = s .before .before .before .before .before .before .before .before .before .before .before .before .before in
+    let start = first s in
     omega (
       arith,
       on-step (book start) (now (start .args .text)) (l .inv .0) (l .inv .1) (s .step .result) (s .step .ensures) (c .before .stepped .given .1) .2,
@@ -74,7 +77,7 @@ loop-again : tie.Need-loop-again Inv-loop μ-loop
 loop-again c =
     let s = c .before .before .before .before .before .before .before .before .before in
     let l = s .before .before .before .before .before .before .loop in
-    let start = s .before .before .before .before .before .before .before .before .before .before .before .before .before in
+    let start = first s in
     let on = on-step (book start) (now (start .args .text)) (l .inv .0) (l .inv .1) (s .step .result) (s .step .ensures) (c .before .stepped .given .1) in
     (on .0, on .1, still s .0, still s .1, still s .2)
 
@@ -82,21 +85,21 @@ returns : tie.Need-returns Inv-loop μ-loop
 returns c =
     let s = c .before .before .before .before .before .before .before .before .before in
     let l = s .before .before .before .before .before .before .loop in
-    let start = s .before .before .before .before .before .before .before .before .before .before .before .before .before in
+    let start = first s in
     whole-end (book start) (now (start .args .text)) (l .inv .0) (l .inv .1) (s .step .result) (s .step .ensures) (c .before .enum-told .given .1) (c .if2 .taken)
 
 returns-2 : tie.Need-returns-2 Inv-loop μ-loop
 returns-2 c =
     let s = c .before .before .before .before .before .before .before .before .before in
     let l = s .before .before .before .before .before .before .loop in
-    let start = s .before .before .before .before .before .before .before .before .before .before .before .before .before in
+    let start = first s in
     long-end (book start) (now (start .args .text)) (l .inv .0) (l .inv .1) (s .step .result) (s .step .ensures) (c .before .enum-told .given .1) (c .if2 .left)
 
 returns-3 : tie.Need-returns-3 Inv-loop μ-loop
 returns-3 c =
     let s = c .before .before .before .before .before .before .before .before .before .before in
     let l = s .before .before .before .before .before .before .loop in
-    let start = s .before .before .before .before .before .before .before .before .before .before .before .before .before in
+    let start = first s in
     fault-end (book start) (now (start .args .text)) (l .inv .0) (l .inv .1) (s .step .result) (s .step .ensures) (c .early .result)
     (c .before .before .stepped2 .given .1) (c .early .ensures)
 

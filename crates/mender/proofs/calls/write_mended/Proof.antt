@@ -122,7 +122,8 @@ next-row-requires-2 c κs =
 loop-less : tie.Need-loop-less Inv-loop μ-loop
 loop-less c =
     let row = c .before .before .before .before .before .before .before .before .before in
-    less-left _ _ (row .before .before .before .before .before .before .before .pre .0) (row .before .before .loop .inv .0) (row .before .loop-test .taken) (row .row-at .ensures) (c .before .row-end .ensures)
+    let start = row .before .before .before .before .before .before .before in
+    less-left _ _ (start .pre .0) (row .before .before .loop .inv .0) (row .before .loop-test .taken) (row .row-at .ensures) (c .before .row-end .ensures)
 
 loop-again : tie.Need-loop-again Inv-loop μ-loop
 loop-again c =

@@ -15,44 +15,54 @@ abbrev copies : tie.Start → Copies
 copies start = copiesOf (now (start .args .items)) (now (start .args .old)) (now (start .args .first)) (now (start .args .second))
 
 -- how many rows are contested
-counted : (c : tie.After-contested-count) → c .contested-count .result ≡ length (contested (copies (c .before .before .before .before .before .before .before)) (c .before .before .before .before .before .before .before .args .verdict))
+abbrev asked : tie.After-contested-count → tie.Start
+asked c = c .before .before .before .before .before .before .before
+
+counted : (c : tie.After-contested-count) → c .contested-count .result ≡ length (contested (copies (asked c)) (asked c .args .verdict))
 counted c =
-    let start = c .before .before .before .before .before .before .before in
-    c .contested-count .ensures ∙ contested-count (copies start) (start .args .verdict) (start .args .apart) (start .pre .2)
+    let a = asked c .args in
+    c .contested-count .ensures ∙ contested-count (copies (asked c)) (a .verdict) (a .apart) (asked c .pre .2)
 
 -- both outputs have room
-fits : (c : tie.After-enum-told) → (length (now (c .before .before .before .before .before .before .before .before .before .before .args .old)) ≤ length (now (c .before .before .before .before .before .before .before .before .before .before .args .merged)))
-    × (length (contested (copies (c .before .before .before .before .before .before .before .before .before .before)) (c .before .before .before .before .before .before .before .before .before .before .args .verdict)) ≤ length (now (c .before .before .before .before .before .before .before .before .before .before .args .contested)))
+abbrev first : tie.After-enum-told → tie.Start
+first c = asked (c .before .before .before)
+
+fits : (c : tie.After-enum-told) → (length (now (first c .args .old)) ≤ length (now (first c .args .merged)))
+    × (length (contested (copies (first c)) (first c .args .verdict)) ≤ length (now (first c .args .contested)))
 fits c =
-    let start = c .before .before .before .before .before .before .before .before .before .before in
-    let a = start .args in
+    let a = first c .args in
     let k = counted (c .before .before .before) in
-    let room = c .before .before .check-rooms .ensures in
-    (bytes-fit (copies start) (a .verdict) _ k (now (a .merged)) (now (a .contested)) room (c .enum-told .given .1),
-    rows-fit (copies start) (a .verdict) _ k (now (a .merged)) (now (a .contested)) room (c .enum-told .given .1))
+    let room = c .before .before .check-rooms .ensures in (
+      bytes-fit (copies (first c)) (a .verdict) _ k (now (a .merged)) (now (a .contested)) room (c .enum-told .given .1),
+      rows-fit (copies (first c)) (a .verdict) _ k (now (a .merged)) (now (a .contested)) room (c .enum-told .given .1),
+    )
 
 returns : tie.Need-returns
 returns c =
-    let start = c .before .before .before .before .before .before .before .before .before .before .before in
+    let start = asked (c .before .before .before .before) in
     let a = start .args in
     room-refuses (copies start) (a .verdict) _ (counted (c .before .before .before .before)) (now (a .merged)) (now (a .contested)) (c .before .before .before .check-rooms .ensures)
     (c .before .room .given .1)
 
 slice-aggregate-write-merged : tie.Need-slice-aggregate-write-merged
-slice-aggregate-write-merged c = let a = c .before .before .before .before .before .before .before .before .before .before .before .args in sym (length-take-le (length (now (a .old))) (now (a .merged)) (fits (c .before) .0))
+slice-aggregate-write-merged c =
+    let a = first (c .before) .args in
+    sym (length-take-le (length (now (a .old))) (now (a .merged)) (fits (c .before) .0))
 
 write-merged-requires : tie.Need-write-merged-requires
 write-merged-requires c κs =
-    let start = c .before .before .before .before .before .before .before .before .before .before .before in
+    let start = first (c .before) in
     ready-for (copies start) (start .pre .0) (length-take-le (length (now (start .args .old))) (now (start .args .merged)) (fits (c .before) .0))
 
 write-contested-requires : tie.Need-write-contested-requires
-write-contested-requires c κs = let start = c .before .before .before .before .before .before .before .before .before .before .before .before .before .before .before in (start .pre .0, start .pre .1, fits (c .before .before .before .before .before) .1)
+write-contested-requires c κs =
+    let start = first (c .before .before .before .before .before) in
+    (start .pre .0, start .pre .1, fits (c .before .before .before .before .before) .1)
 
 returns-2 : tie.Need-returns-2
 returns-2 c =
     let told = c .before .before .before .before .before .before .before .before in
-    let start = told .before .before .before .before .before .before .before .before .before .before in
+    let start = first told in
     let a = start .args in
     both-written (copies start) (a .verdict) _ (counted (told .before .before .before)) (now (a .merged)) (now (a .contested)) (told .before .before .check-rooms .ensures)
     (told .enum-told .given .1) (ap (λ (l : List ℕ). l ++ drop (length (now (a .old))) (now (a .merged))) (c .before .before .before .before .before .before .write-merged .ensures))

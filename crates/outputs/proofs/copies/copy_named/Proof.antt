@@ -24,7 +24,9 @@ slice-write-to : tie.Need-slice-write-to Inv-loop μ-loop
 slice-write-to c = omega (arith, front-length (c .before .before .loop .inv .1))
 
 loop-again : tie.Need-loop-again Inv-loop μ-loop
-loop-again c = (omega arith, named-more (now (c .before .before .before .args .entries)) (now (c .before .before .before .args .to)) (c .before .before .loop .i) (omega arith) (c .before .before .loop .inv .1))
+loop-again c =
+    let a = c .before .before .before .args in
+    (omega arith, named-more (now (a .entries)) (now (a .to)) (c .before .before .loop .i) (omega arith) (c .before .before .loop .inv .1))
 
 same-length : tie.Need-same-length Inv-loop μ-loop
 same-length c = front-length (c .before .loop .inv .1)
@@ -36,5 +38,5 @@ pub copy-named-spec : {M : Type 1} → statement M
 copy-named-spec =
     tie.close
     (tie.spec
-    Inv-loop μ-loop (λ c. (omega arith, named-none (now (c .args .entries)) _)) (λ c. omega arith) (λ c. omega arith) (λ c. omega arith) (λ c. omega arith) mul-to-2 slice-write-to (λ c. omega arith) (λ c. omega arith)
-    loop-again same-length returns)
+    Inv-loop μ-loop (λ c. (omega arith, named-none (now (c .args .entries)) _)) (λ c. omega arith) (λ c. omega arith) (λ c. omega arith) (λ c. omega arith) mul-to-2 slice-write-to
+    (λ c. omega arith) (λ c. omega arith) loop-again same-length returns)

@@ -34,5 +34,5 @@ pub copy-numbers-spec : {M : Type 1} → statement M
 copy-numbers-spec =
     tie.close
     (tie.spec
-    Inv-loop μ-loop (λ c. (omega arith, front-none _)) (λ c. omega arith) (λ c. omega arith) mul-to-2 slice-write-to (λ c. omega arith) (λ c. omega arith)
-    loop-again same-length returns)
+    Inv-loop μ-loop (λ c. (omega arith, front-none _)) (λ c. omega arith) (λ c. omega arith) mul-to-2 slice-write-to
+    (λ c. omega arith) (λ c. omega arith) loop-again same-length returns)

@@ -26,10 +26,13 @@ run start content =
     runGives (lendNames (now (a .items)) (now (a .literals)) (now (a .bytes)) (now (a .names))) (now (a .plan)) content (a .switches)
 
 -- the next part lies in the file, and its numbers have room
-next : (c : tie.After-part-records Inv-loop μ-loop) → Part (now (c .before .before .before .before .before .before .before .before .before .before .args .records)) (c .before .before .before .before .before .before .before .before .before .before .args .size) (c .before .before .loop .from) (c .part-records .result)
-    (c .before .before .loop .out) (length (c .before .before .loop .answers))
+abbrev first : tie.After-part-records Inv-loop μ-loop → tie.Start Inv-loop μ-loop
+first c = c .before .before .before .before .before .before .before .before .before .before
+
+next : (c : tie.After-part-records Inv-loop μ-loop) → Part (now (first c .args .records)) (first c .args .size) (c .before .before .loop .from)
+    (c .part-records .result) (c .before .before .loop .out) (length (c .before .before .loop .answers))
 next c =
-    let start = c .before .before .before .before .before .before .before .before .before .before in
+    let start = first c in
     let a = start .args in
     let told = c .part-records .ensures in
     part (run start) (now (a .records)) (a .size) (now (a .answers)) (start .pre .sizes) (start .pre .fits) (c .before .before .loop .inv) (c .part-records .result)
@@ -43,18 +46,22 @@ as-many c =
     long (run start) (now (a .records)) (a .size) (now (a .answers)) (start .pre .sizes) (start .pre .fits) (c .loop .inv)
 
 div-left : tie.Need-div-left Inv-loop μ-loop
-div-left c = let start = c .before .before .before .before .before .before .before in omega (arith, filled (start .args .size) (length (now (start .args .records))) (start .pre .sizes) .0)
+div-left c =
+    let start = c .before .before .before .before .before .before .before in
+    omega (arith, filled (start .args .size) (length (now (start .args .records))) (start .pre .sizes) .0)
 
 part-records-requires : tie.Need-part-records-requires Inv-loop μ-loop
-part-records-requires c κs = let start = c .before .before .before .before .before .before .before .before .before in omega (arith, filled (start .args .size) (length (now (start .args .records))) (start .pre .sizes) .0)
+part-records-requires c κs =
+    let start = c .before .before .before .before .before .before .before .before .before in
+    omega (arith, filled (start .args .size) (length (now (start .args .records))) (start .pre .sizes) .0)
 
 sweep-part-requires : tie.Need-sweep-part-requires Inv-loop μ-loop
-sweep-part-requires c κs = (rw (sym (as-many (c .before .before .before))) at (c .before .before .before .before .before .before .before .before .before .before .before .pre), next (c .before))
+sweep-part-requires c κs = (rw (sym (as-many (c .before .before .before))) at (first (c .before) .pre), next (c .before))
 
 add-out : tie.Need-add-out Inv-loop μ-loop
 add-out c =
     let p = c .before .before .before .before in
-    omega (arith, next p .fits, as-many (p .before .before), p .before .before .before .before .before .before .before .before .before .before .good .1 .1 .1 .1 .1 .1 .1 .1 .0 .0)
+    omega (arith, next p .fits, as-many (p .before .before), first p .good .1 .1 .1 .1 .1 .1 .1 .1 .0 .0)
 
 loop-less : tie.Need-loop-less Inv-loop μ-loop
 loop-less c = omega (arith, c .before .before .before .before .part-records .ensures .0, c .before .before .before .before .part-records .ensures .1)
@@ -62,7 +69,7 @@ loop-less c = omega (arith, c .before .before .before .before .part-records .ens
 loop-again : tie.Need-loop-again Inv-loop μ-loop
 loop-again c =
     let p = c .before .before .before .before in
-    let start = p .before .before .before .before .before .before .before .before .before .before in
+    let start = first p in
     let a = start .args in
     goes-on (run start) (now (a .records)) (a .size) (now (a .answers)) (start .pre .sizes) (start .pre .fits) (p .before .before .loop .inv) (p .part-records .result)
     (p .part-records .ensures .1) (c .before .before .sweep-part .ensures)
