@@ -17,12 +17,6 @@ Inv-loop entries n to₀ i₀ to i = (i ≤ n) × Front (map namedOf (notedFrom 
 abbrev μ-loop : tie.MeasureT-loop
 μ-loop entries n to₀ i₀ to i = n - i
 
-mul-to-2 : tie.Need-mul-to-2 Inv-loop μ-loop
-mul-to-2 c = omega (arith, front-length (c .before .before .loop .inv .1))
-
-slice-write-to : tie.Need-slice-write-to Inv-loop μ-loop
-slice-write-to c = omega (arith, front-length (c .before .before .loop .inv .1))
-
 loop-again : tie.Need-loop-again Inv-loop μ-loop
 loop-again c =
     let a = c .before .before .before .args in
@@ -38,5 +32,5 @@ pub copy-named-spec : {M : Type 1} → statement M
 copy-named-spec =
     tie.close
     (tie.spec
-    Inv-loop μ-loop (λ c. (omega arith, named-none (now (c .args .entries)) _)) (λ c. omega arith) (λ c. omega arith) (λ c. omega arith) (λ c. omega arith) mul-to-2 slice-write-to
-    (λ c. omega arith) (λ c. omega arith) loop-again same-length returns)
+    Inv-loop μ-loop (λ c. (omega arith, named-none (now (c .args .entries)) _)) (λ c. omega arith) (λ c. omega arith) (λ c. omega arith) (λ c. omega arith) (λ c. omega (arith, front-length (c .before .before .loop .inv .1)))
+    (λ c. omega (arith, front-length (c .before .before .loop .inv .1))) (λ c. omega arith) (λ c. omega arith) loop-again same-length returns)

@@ -15,12 +15,6 @@ Inv-loop from n to₀ i₀ to i = (i ≤ n) × Front (take i from) to₀ i to
 abbrev μ-loop : tie.MeasureT-loop
 μ-loop from n to₀ i₀ to i = n - i
 
-mul-to-2 : tie.Need-mul-to-2 Inv-loop μ-loop
-mul-to-2 c = omega (arith, front-length (c .before .before .loop .inv .1))
-
-slice-write-to : tie.Need-slice-write-to Inv-loop μ-loop
-slice-write-to c = omega (arith, front-length (c .before .before .loop .inv .1))
-
 loop-again : tie.Need-loop-again Inv-loop μ-loop
 loop-again c = (omega arith, copy-more _ (now (c .before .before .before .args .to)) (c .before .before .loop .i) (omega arith) (omega arith) (c .before .before .loop .inv .1))
 
@@ -34,5 +28,5 @@ pub copy-numbers-spec : {M : Type 1} → statement M
 copy-numbers-spec =
     tie.close
     (tie.spec
-    Inv-loop μ-loop (λ c. (omega arith, front-none _)) (λ c. omega arith) (λ c. omega arith) mul-to-2 slice-write-to
-    (λ c. omega arith) (λ c. omega arith) loop-again same-length returns)
+    Inv-loop μ-loop (λ c. (omega arith, front-none _)) (λ c. omega arith) (λ c. omega arith) (λ c. omega (arith, front-length (c .before .before .loop .inv .1)))
+    (λ c. omega (arith, front-length (c .before .before .loop .inv .1))) (λ c. omega arith) (λ c. omega arith) loop-again same-length returns)
