@@ -7,9 +7,8 @@ ghost use Rattle.grammar.specs.Judging.{walk};
 ghost use Rattle.rules.specs.Calls.{told, judgeGives, runGives};
 ghost use Rattle.rules.specs.Numbers.{ofVerdict};
 use checks::lent::check_record;
-use checks::lent::check_tables;
-use name_tables::check_names;
 use plan_checks::check_plan;
+use preparer::lent::check_lent;
 use preparer::prepare::prepare;
 use resolver::Prepared;
 use runner::run_rows;
@@ -77,12 +76,8 @@ pub fn run<'a>(
     ensures { λ r. ⌜ r ≡ runGives (lendNames (now (items .entry)) (now (literals .entry)) (now (bytes .entry)) (now (names .entry))) (now (plan .entry)) (now («record» .entry)) switches ⌝ }
     ensures { λ r. ⌜ ofVerdict (r .verdict) ≡ ofVerdict (runGives (lendNames (now (items .entry)) (now (literals .entry)) (now (bytes .entry)) (now (names .entry))) (now (plan .entry)) (now («record» .entry)) switches .verdict) ⌝ }
 {
-    let tables = check_tables(items, literals, bytes);
-    if let Check::Refused(refusal) = tables {
-        return unjudged(refusal);
-    }
-    let named = check_names(items, literals, bytes, names);
-    if let Check::Refused(refusal) = named {
+    let lent = check_lent(items, literals, bytes, names);
+    if let Check::Refused(refusal) = lent {
         return unjudged(refusal);
     }
     let rows = check_plan(false, items, literals, names, plan);

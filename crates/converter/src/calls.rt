@@ -8,12 +8,11 @@ ghost use Rattle.values.specs.Names.{lentLines};
 ghost use Rattle.grammar.specs.Plan.{planCheck};
 ghost use Rattle.rules.specs.Calls.{Leaves};
 ghost use Rattle.rules.specs.Converting.{convertGives, convertPlanGives};
-use checks::lent::check_tables;
 use conversion::words::converted_length;
 use conversion::words::write_converted;
-use name_tables::check_names;
 use plan_checks::check_plan;
 use plan_conversion::rows::write_plan;
+use preparer::lent::check_lent;
 use preparer::prepare::prepare;
 use resolver::Prepared;
 use tables::Check;
@@ -52,12 +51,8 @@ pub fn convert_condition(
 fn check_old(items: &[u32], literals: &[u32], bytes: &[u8], names: &[u32], plan: &[u32]) -> Check
     ensures { λ r. ⌜ r ≡ firstOf (lentLines (under true (lendNames (now (items .entry)) (now (literals .entry)) (now (bytes .entry)) (now (names .entry)))) ++ planCheck (under true (lendNames (now (items .entry)) (now (literals .entry)) (now (bytes .entry)) (now (names .entry)))) (now (plan .entry)) ∷ []) ⌝ }
 {
-    let tables = check_tables(items, literals, bytes);
-    if let Check::Refused(refusal) = tables {
-        return Check::Refused(refusal);
-    }
-    let named = check_names(items, literals, bytes, names);
-    if let Check::Refused(refusal) = named {
+    let lent = check_lent(items, literals, bytes, names);
+    if let Check::Refused(refusal) = lent {
         return Check::Refused(refusal);
     }
     check_plan(true, items, literals, names, plan)

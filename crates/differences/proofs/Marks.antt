@@ -1,14 +1,11 @@
 -- What a row that is sound and lies in both records says, and the whole answer of the call by its lines. Assumes nothing.
 use Prim.Native.Nat.{ℕ, _+_, _≤_, _<_}
 use native.Mathlib.Nat.{add-zero}
-use native.Mathlib.Omega.{arith}
-use mathlib.Core.Path.{_≡_, refl, sym, ap, ap₂, _∙_}
+use mathlib.Core.Path.{_≡_, refl, sym, ap, _∙_}
 use mathlib.Core.List.{List, [], _∷_, _++_}
 use mathlib.Core.Bool.{Bool, true, false, cond, not, _&&_}
 use lib.ListN.{length, drop}
 use lib.Seq.{sets}
-use lib.Dec.{leb}
-use borrow.Author.Tests.{leb-true, not-true, not-false}
 use Rattle.compare.specs.declared.Number.{Number}
 use Rattle.compare.specs.declared.Order.{Order}
 use Rattle.content.specs.Content.{signed, value}
@@ -21,28 +18,22 @@ use Rattle.tables.specs.declared.Refusal.{Refusal}
 use Rattle.tables.specs.declared.Refusal.the-variants.{Record}
 use Rattle.content.specs.declared.Row.{Row}
 use Rattle.tables.specs.declared.Written.the-variants.{Count, Refused as Unwritten}
-use Rattle.tables.specs.Rows.{rowAt, rowCount, rowSound, isNumeric, liesIn, part}
+use Rattle.tables.specs.Rows.{rowAt, rowCount, isNumeric, liesIn, part}
 use Rattle.tables.specs.Operands.{lend}
 use Rattle.tables.specs.Refusals.{firstOf}
 use Rattle.tables.specs.Tables.{itemRowCheck}
 use Rattle.tables.proofs.Tests.{both}
 use Rattle.tables.proofs.Bytes.{scale-small}
 use Rattle.numbers.proofs.FieldLaws.{number-field}
-use Rattle.tables.proofs.Lines.{every-sound, lines-before, lines-sound, line-sound, line-refused, line-last}
+use Rattle.tables.proofs.Lines.{passes, fails, every-sound, lines-before, lines-sound, line-sound, line-refused, line-last}
 use Rattle.items.specs.Items.{listed}
 use Rattle.items.specs.Lines.{itemLines, roomCheck}
 use Rattle.items.proofs.Listing.{count-more}
 use Rattle.items.proofs.Facts.{row-sound-at, few-fact}
 use Rattle.differences.specs.Differ.{letterV, letterB, letterI, sameValue, bothValid, differs, mark, entryOf, entryAt, differences}
-use Rattle.differences.specs.Differ.{liesInBoth, endCheck, differLines, Differing, differBy, differing, Held}
+use Rattle.differences.specs.Differ.{liesInBoth, endCheck, differLines, differBy, differing, Held}
 
 module _ {r : Row} {first second : List ℕ} (h : Held r first second) where
-  pub first-lies : r .offset + r .size ≤ length first
-  first-lies = leb-true _ _ (h .inFirst)
-
-  pub second-lies : r .offset + r .size ≤ length second
-  second-lies = leb-true _ _ (h .inSecond)
-
   pub scale-fits : r .scale ≤ 18
   scale-fits = scale-small r (h .sound)
 
@@ -80,27 +71,22 @@ module _ (r : Row) (xs ys : List ℕ) where
   pub mark-text : isNumeric r ≡ false → letterV ≡ mark r xs ys
   mark-text n = rw n
 
-  pub mark-invalid : isNumeric r ≡ true → bothValid r xs ys ≡ false → letterI ≡ mark r xs ys
-  mark-invalid n e = rw (n, e)
-
-  pub mark-same : isNumeric r ≡ true → bothValid r xs ys ≡ true → sameValue r xs ys ≡ true → letterB ≡ mark r xs ys
-  mark-same n e f = rw (n, e, f)
-
-  pub mark-apart : isNumeric r ≡ true → bothValid r xs ys ≡ true → sameValue r xs ys ≡ false → letterV ≡ mark r xs ys
-  mark-apart n e f = rw (n, e, f)
-
   -- by the two numbers that were read
-  module _ {xs' ys' : List ℕ} {one other : Number} (p : one ≡ numberOf (r .kind) (r .digits) xs') (q : other ≡ numberOf (r .kind) (r .digits) ys')
-      (e : xs' ≡ xs) (f : ys' ≡ ys) where
-    pub valid-read : one .valid && other .valid ≡ bothValid r xs ys
+  module _ {xs' ys' : List ℕ} {one other : Number} (n : isNumeric r ≡ true) (p : one ≡ numberOf (r .kind) (r .digits) xs')
+      (q : other ≡ numberOf (r .kind) (r .digits) ys') (e : xs' ≡ xs) (f : ys' ≡ ys) where
+    valid-read : one .valid && other .valid ≡ bothValid r xs ys
     valid-read = rw (p, q, e, f)
 
-    pub same-read : {order : Order} {b : Bool}
+    pub mark-invalid : not (one .valid && other .valid) ≡ true → letterI ≡ mark r xs ys
+    mark-invalid h = rw (n, fails valid-read h)
+
+    pub mark-valid : not (one .valid && other .valid) ≡ false → {order : Order} {b : Bool} (t : Bool)
         → order ≡ scaledOrder (signed (one .minus) (one .digits)) (r .scale) (signed (other .minus) (other .digits)) (r .scale)
-        → b ≡ relationHolds 7 order → b ≡ sameValue r xs ys
-    same-read {order} g h =
+        → b ≡ relationHolds 7 order → b ≡ t → cond t letterB letterV ≡ mark r xs ys
+    mark-valid v {order} t g h k =
         let o : order ≡ scaledOrder (value (r .kind) xs) (r .scale) (value (r .kind) ys) (r .scale) = g ∙ rw (p, q, e, f) in
-        h ∙ ap isEqual o
+        let same : sameValue r xs ys ≡ t = sym (h ∙ ap isEqual o) ∙ k in
+        rw (n, passes valid-read v, same)
 
 -- one row more
 module _ (items first second : List ℕ) (v : ℕ) where

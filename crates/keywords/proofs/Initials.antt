@@ -1,125 +1,80 @@
 -- The first byte of a word tells which keywords it may be.
-use mathlib.Core.Path.{_≡_, refl, sym, ap, _∙_}
-use mathlib.Core.Bool.{Bool, true, false, _&&_, _||_, or-false}
-use mathlib.Core.List.{List, [], _∷_}
-use Prim.Native.Nat.{ℕ, suc, _<_}
+use mathlib.Core.Path.{_≡_, refl, sym, _∙_}
+use mathlib.Core.Bool.{Bool, true, false, cond, _&&_, _||_, or-false, or-assoc}
+use mathlib.Core.List.{List, [], _∷_, _++_}
+use mathlib.Core.Logic.{⊎-elim}
+use Prim.Native.Nat.{ℕ, _<_}
 use native.Mathlib.Omega.{arith}
+use borrow.Author.Tests.{eqb-true}
 use lib.Dec.{eqb}
 use lib.ListN.{length, getD}
 use Rattle.description.specs.Grammar.{bytes, same, within, keywords}
-use Rattle.description.proofs.Bytes.{eqb-no}
-use Rattle.keywords.specs.Initials.{wordsA, wordsL, wordsN, wordsP, wordsS, wordsT, wordsU}
+use Rattle.description.proofs.Bytes.{apart, and-both, or-either, eqb-no}
+use Rattle.keywords.specs.Initials.{beginning}
 
--- one word, and one word more
+-- one word, and the words of two lists
 pub one-word : (w v : List ℕ) (r : Bool) → r ≡ same w v → r ≡ within w (v ∷ [])
 unfolding within
 one-word w v r e = e ∙ sym (or-false (same w v))
 
-pub word-more : (w v : List ℕ) (vs : List (List ℕ)) (r s : Bool) → r ≡ same w v → s ≡ within w vs → r || s ≡ within w (v ∷ vs)
+within-both : (w : List ℕ) (us vs : List (List ℕ)) → within w us || within w vs ≡ within w (us ++ vs)
 unfolding within
-word-more w v vs r s e f = rw (e, f)
+within-both w [] vs = refl
+within-both w (u ∷ us) vs = rw (or-assoc, within-both w us vs)
+
+pub both-lists : (w : List ℕ) (us vs : List (List ℕ)) (r s : Bool) → r ≡ within w us → s ≡ within w vs → r || s ≡ within w (us ++ vs)
+both-lists w us vs r s e f = rw (e, f) (within-both w us vs)
 
 pub no-letters : (w : List ℕ) → length w ≡ 0 → false ≡ within w keywords
 unfolding within same
 no-letters [] h = refl
 no-letters (a ∷ v) h = absurd (omega arith)
 
-pub starts-A : (w : List ℕ) → 0 < length w → getD w 0 0 ≡ 0x41 → within w wordsA ≡ within w keywords
+-- the words that begin as it does
+begins : (a : ℕ) (u : List ℕ) (vs : List (List ℕ)) → within (a ∷ u) (beginning a vs) ≡ within (a ∷ u) vs
 unfolding within same
-starts-A [] h e = absurd (omega arith)
-starts-A (a ∷ v) h e = rw e
+begins a u [] = refl
+begins a u (v ∷ vs) = by v (eqb a (getD v 0 0)) refl (begins a u vs)
+  where
+    by : (v : List ℕ) (t : Bool) → eqb a (getD v 0 0) ≡ t → within (a ∷ u) (beginning a vs) ≡ within (a ∷ u) vs
+        → within (a ∷ u) (cond t (v ∷ beginning a vs) (beginning a vs)) ≡ same (a ∷ u) v || within (a ∷ u) vs
+    by v true q e = rw e
+    by [] false q e = e
+    by (b ∷ v) false q e = rw (q, e)
 
-pub starts-C : (w : List ℕ) → 0 < length w → getD w 0 0 ≡ 0x43 → within w (bytes "COMP-3" ∷ []) ≡ within w keywords
-unfolding within same
-starts-C [] h e = absurd (omega arith)
-starts-C (a ∷ v) h e = rw e
+pub starts : (w : List ℕ) (b : ℕ) → 0 < length w → getD w 0 0 ≡ b → within w (beginning b keywords) ≡ within w keywords
+starts [] b h e = absurd (omega arith)
+starts (a ∷ u) b h e = rw (← e) (begins a u keywords)
 
-pub starts-E : (w : List ℕ) → 0 < length w → getD w 0 0 ≡ 0x45 → within w (bytes "EQUAL" ∷ []) ≡ within w keywords
-unfolding within same
-starts-E [] h e = absurd (omega arith)
-starts-E (a ∷ v) h e = rw e
+-- a byte that is none of these, and lists all of whose words begin with one of them
+abbrev pub Other : ℕ → List ℕ → Type 0
+Other a [] = Unit {0}
+Other a (b ∷ bs) = Other a bs × ¬ (a ≡ b)
 
-pub starts-F : (w : List ℕ) → 0 < length w → getD w 0 0 ≡ 0x46 → within w (bytes "FILLER" ∷ []) ≡ within w keywords
-unfolding within same
-starts-F [] h e = absurd (omega arith)
-starts-F (a ∷ v) h e = rw e
+abbrev found : ℕ → List ℕ → Bool
+found b [] = false
+found b (d ∷ bs) = eqb b d || found b bs
 
-pub starts-G : (w : List ℕ) → 0 < length w → getD w 0 0 ≡ 0x47 → within w (bytes "GREATER" ∷ []) ≡ within w keywords
-unfolding within same
-starts-G [] h e = absurd (omega arith)
-starts-G (a ∷ v) h e = rw e
+abbrev covered : List ℕ → List (List ℕ) → Bool
+covered bs [] = true
+covered bs (v ∷ vs) = found (getD v 0 0) bs && covered bs vs
 
-pub starts-I : (w : List ℕ) → 0 < length w → getD w 0 0 ≡ 0x49 → within w (bytes "IS" ∷ []) ≡ within w keywords
-unfolding within same
-starts-I [] h e = absurd (omega arith)
-starts-I (a ∷ v) h e = rw e
+other-byte : (a b : ℕ) (bs : List ℕ) → Other a bs → found b bs ≡ true → eqb a b ≡ false
+other-byte a b [] h e = apart e refl
+other-byte a b (d ∷ bs) h e =
+    ⊎-elim (λ q. eqb-no a b (λ p. h .1 (p ∙ eqb-true b d q))) (λ q. other-byte a b bs (h .0) q) (or-either (eqb b d) (found b bs) e)
 
-pub starts-L : (w : List ℕ) → 0 < length w → getD w 0 0 ≡ 0x4c → within w wordsL ≡ within w keywords
+not-there : (bs w : List ℕ) (vs : List (List ℕ)) → 0 < length w → Other (getD w 0 0) bs → covered bs vs ≡ true → false ≡ within w vs
 unfolding within same
-starts-L [] h e = absurd (omega arith)
-starts-L (a ∷ v) h e = rw e
+not-there bs [] vs l h e = absurd (omega arith)
+not-there bs (a ∷ u) [] l h e = refl
+not-there bs (a ∷ u) ([] ∷ vs) l h e = not-there bs (a ∷ u) vs l h (and-both (found 0 bs) (covered bs vs) e .1)
+not-there bs (a ∷ u) ((b ∷ v) ∷ vs) l h e =
+    let t = and-both (found b bs) (covered bs vs) e in
+    rw (other-byte a b bs h (t .0)) (not-there bs (a ∷ u) vs l h (t .1))
 
-pub starts-N : (w : List ℕ) → 0 < length w → getD w 0 0 ≡ 0x4e → within w wordsN ≡ within w keywords
-unfolding within same
-starts-N [] h e = absurd (omega arith)
-starts-N (a ∷ v) h e = rw e
+abbrev pub firsts : List ℕ
+firsts = bytes "ZVUTSPONLIGFECA"
 
-pub starts-O : (w : List ℕ) → 0 < length w → getD w 0 0 ≡ 0x4f → within w (bytes "OR" ∷ []) ≡ within w keywords
-unfolding within same
-starts-O [] h e = absurd (omega arith)
-starts-O (a ∷ v) h e = rw e
-
-pub starts-P : (w : List ℕ) → 0 < length w → getD w 0 0 ≡ 0x50 → within w wordsP ≡ within w keywords
-unfolding within same
-starts-P [] h e = absurd (omega arith)
-starts-P (a ∷ v) h e = rw e
-
-pub starts-S : (w : List ℕ) → 0 < length w → getD w 0 0 ≡ 0x53 → within w wordsS ≡ within w keywords
-unfolding within same
-starts-S [] h e = absurd (omega arith)
-starts-S (a ∷ v) h e = rw e
-
-pub starts-T : (w : List ℕ) → 0 < length w → getD w 0 0 ≡ 0x54 → within w wordsT ≡ within w keywords
-unfolding within same
-starts-T [] h e = absurd (omega arith)
-starts-T (a ∷ v) h e = rw e
-
-pub starts-U : (w : List ℕ) → 0 < length w → getD w 0 0 ≡ 0x55 → within w wordsU ≡ within w keywords
-unfolding within same
-starts-U [] h e = absurd (omega arith)
-starts-U (a ∷ v) h e = rw e
-
-pub starts-V : (w : List ℕ) → 0 < length w → getD w 0 0 ≡ 0x56 → within w (bytes "VALUE" ∷ []) ≡ within w keywords
-unfolding within same
-starts-V [] h e = absurd (omega arith)
-starts-V (a ∷ v) h e = rw e
-
-pub starts-Z : (w : List ℕ) → 0 < length w → getD w 0 0 ≡ 0x5a → within w (bytes "ZERO" ∷ []) ≡ within w keywords
-unfolding within same
-starts-Z [] h e = absurd (omega arith)
-starts-Z (a ∷ v) h e = rw e
-
-pub starts-other : (w : List ℕ) → ¬ (getD w 0 0 ≡ 0x41) → ¬ (getD w 0 0 ≡ 0x43) → ¬ (getD w 0 0 ≡ 0x45) → ¬ (getD w 0 0 ≡ 0x46)
-    → ¬ (getD w 0 0 ≡ 0x47) → ¬ (getD w 0 0 ≡ 0x49) → ¬ (getD w 0 0 ≡ 0x4c) → ¬ (getD w 0 0 ≡ 0x4e) → ¬ (getD w 0 0 ≡ 0x4f) → ¬ (getD w 0 0 ≡ 0x50)
-    → ¬ (getD w 0 0 ≡ 0x53) → ¬ (getD w 0 0 ≡ 0x54) → ¬ (getD w 0 0 ≡ 0x55) → ¬ (getD w 0 0 ≡ 0x56) → ¬ (getD w 0 0 ≡ 0x5a)
-    → false ≡ within w keywords
-unfolding within same
-starts-other [] hA hC hE hF hG hI hL hN hO hP hS hT hU hV hZ = refl
-starts-other (a ∷ v) hA hC hE hF hG hI hL hN hO hP hS hT hU hV hZ =
-    rw (
-      eqb-no a 0x41 hA,
-      eqb-no a 0x43 hC,
-      eqb-no a 0x45 hE,
-      eqb-no a 0x46 hF,
-      eqb-no a 0x47 hG,
-      eqb-no a 0x49 hI,
-      eqb-no a 0x4c hL,
-      eqb-no a 0x4e hN,
-      eqb-no a 0x4f hO,
-      eqb-no a 0x50 hP,
-      eqb-no a 0x53 hS,
-      eqb-no a 0x54 hT,
-      eqb-no a 0x55 hU,
-      eqb-no a 0x56 hV,
-      eqb-no a 0x5a hZ,
-    )
+pub starts-other : (w : List ℕ) → 0 < length w → Other (getD w 0 0) firsts → false ≡ within w keywords
+starts-other w l h = not-there firsts w keywords l h refl

@@ -1,7 +1,8 @@
 // Words that are no names.
 ghost use mathlib.Core.Path.{_≡_};
+ghost use mathlib.Core.List.{[], _∷_};
 ghost use Rattle.description.specs.Grammar.{same, within, keywords};
-ghost use Rattle.keywords.specs.Initials.{wordsA, wordsL, wordsN, wordsP, wordsS, wordsT, wordsU};
+ghost use Rattle.keywords.specs.Initials.{beginning};
 
 pub fn same_bytes(a: &[u8], b: &[u8]) -> bool
     ensures { λ r. ⌜ r ≡ same (now (a .entry)) (now (b .entry)) ⌝ }
@@ -17,6 +18,18 @@ pub fn same_bytes(a: &[u8], b: &[u8]) -> bool
         k += 1;
     }
     true
+}
+
+fn either(w: &[u8], a: &[u8], b: &[u8]) -> bool
+    ensures { λ r. ⌜ r ≡ within (now (w .entry)) (now (a .entry) ∷ now (b .entry) ∷ []) ⌝ }
+{
+    same_bytes(w, a) | same_bytes(w, b)
+}
+
+fn one_of_four(w: &[u8], a: &[u8], b: &[u8], c: &[u8], d: &[u8]) -> bool
+    ensures { λ r. ⌜ r ≡ within (now (w .entry)) (now (a .entry) ∷ now (b .entry) ∷ now (c .entry) ∷ now (d .entry) ∷ []) ⌝ }
+{
+    either(w, a, b) | either(w, c, d)
 }
 
 // The first byte tells which keywords a word may be.
@@ -48,52 +61,50 @@ pub fn is_keyword(w: &[u8]) -> bool
 }
 
 fn keyword_a(w: &[u8]) -> bool
-    ensures { λ r. ⌜ r ≡ within (now (w .entry)) wordsA ⌝ }
+    ensures { λ r. ⌜ r ≡ within (now (w .entry)) (beginning 0x41 keywords) ⌝ }
 {
-    same_bytes(w, b"AND")
-        | (same_bytes(w, b"ALPHABETIC")
-            | (same_bytes(w, b"ALPHABETIC-LOWER") | same_bytes(w, b"ALPHABETIC-UPPER")))
+    one_of_four(
+        w,
+        b"AND",
+        b"ALPHABETIC",
+        b"ALPHABETIC-LOWER",
+        b"ALPHABETIC-UPPER",
+    )
 }
 
 fn keyword_l(w: &[u8]) -> bool
-    ensures { λ r. ⌜ r ≡ within (now (w .entry)) wordsL ⌝ }
+    ensures { λ r. ⌜ r ≡ within (now (w .entry)) (beginning 0x4c keywords) ⌝ }
 {
-    same_bytes(w, b"LEADING") | same_bytes(w, b"LESS")
+    either(w, b"LEADING", b"LESS")
 }
 
 fn keyword_n(w: &[u8]) -> bool
-    ensures { λ r. ⌜ r ≡ within (now (w .entry)) wordsN ⌝ }
+    ensures { λ r. ⌜ r ≡ within (now (w .entry)) (beginning 0x4e keywords) ⌝ }
 {
-    same_bytes(w, b"NOT") | (same_bytes(w, b"NUMERIC") | same_bytes(w, b"NEGATIVE"))
+    either(w, b"NOT", b"NUMERIC") | same_bytes(w, b"NEGATIVE")
 }
 
 fn keyword_p(w: &[u8]) -> bool
-    ensures { λ r. ⌜ r ≡ within (now (w .entry)) wordsP ⌝ }
+    ensures { λ r. ⌜ r ≡ within (now (w .entry)) (beginning 0x50 keywords) ⌝ }
 {
-    same_bytes(w, b"PIC") | same_bytes(w, b"POSITIVE")
+    either(w, b"PIC", b"POSITIVE")
 }
 
 fn keyword_s(w: &[u8]) -> bool
-    ensures { λ r. ⌜ r ≡ within (now (w .entry)) wordsS ⌝ }
+    ensures { λ r. ⌜ r ≡ within (now (w .entry)) (beginning 0x53 keywords) ⌝ }
 {
-    same_bytes(w, b"SIGN") | same_bytes(w, b"SEPARATE")
+    either(w, b"SIGN", b"SEPARATE")
 }
 
 fn keyword_t(w: &[u8]) -> bool
-    ensures { λ r. ⌜ r ≡ within (now (w .entry)) wordsT ⌝ }
+    ensures { λ r. ⌜ r ≡ within (now (w .entry)) (beginning 0x54 keywords) ⌝ }
 {
-    same_bytes(w, b"TRAILING")
-        | (same_bytes(w, b"THRU") | (same_bytes(w, b"THAN") | same_bytes(w, b"TO")))
+    one_of_four(w, b"TRAILING", b"THRU", b"THAN", b"TO")
 }
 
 fn keyword_u(w: &[u8]) -> bool
-    ensures { λ r. ⌜ r ≡ within (now (w .entry)) wordsU ⌝ }
+    ensures { λ r. ⌜ r ≡ within (now (w .entry)) (beginning 0x55 keywords) ⌝ }
 {
-    same_bytes(w, b"UPSI-0")
-        | (same_bytes(w, b"UPSI-1")
-            | (same_bytes(w, b"UPSI-2")
-                | (same_bytes(w, b"UPSI-3")
-                    | (same_bytes(w, b"UPSI-4")
-                        | (same_bytes(w, b"UPSI-5")
-                            | (same_bytes(w, b"UPSI-6") | same_bytes(w, b"UPSI-7")))))))
+    one_of_four(w, b"UPSI-0", b"UPSI-1", b"UPSI-2", b"UPSI-3")
+        | one_of_four(w, b"UPSI-4", b"UPSI-5", b"UPSI-6", b"UPSI-7")
 }

@@ -8,7 +8,7 @@ use native.Mathlib.Omega.{arith}
 use lib.Dec.{eqb, ltb}
 use lib.ListN.{length, take, drop, length-take, length-drop, length-append}
 use lib.Seq.{drop-nil}
-use borrow.Author.Tests.{eq-eqb}
+use borrow.Author.Tests.{eq-eqb, not-true}
 use Rattle.content.specs.Content.{isSign, firstByte, lastByte, butFirst, butLast}
 use Rattle.content.specs.WrongByte.{validContent}
 use Rattle.tables.specs.Rows.{rowSound}
@@ -53,84 +53,21 @@ isValue (order p j) = false
 isValue equal = false
 isValue (faulty n) = false
 
-abbrev NoValues : List Keyword → Type 0
-NoValues [] = Unit {0}
-NoValues (k ∷ ks) = (isValue (k .meaning) ≡ false) × NoValues ks
+-- a word of a list with no values means none
+abbrev noValues : List Keyword → Bool
+noValues [] = true
+noValues (k ∷ ks) = not (isValue (k .meaning)) && noValues ks
 
-no-values : NoValues vocabulary
-no-values = (
-  refl,
-  (
-    refl,
-    (
-      refl,
-      (
-        refl,
-        (
-          refl,
-          (
-            refl,
-            (
-              refl,
-              (
-                refl,
-                (
-                  refl,
-                  (
-                    refl,
-                    (
-                      refl,
-                      (
-                        refl,
-                        (
-                          refl,
-                          (
-                            refl,
-                            (
-                              refl,
-                              (
-                                refl,
-                                (
-                                  refl,
-                                  (
-                                    refl,
-                                    (
-                                      refl,
-                                      (
-                                        refl,
-                                        (
-                                          refl,
-                                          (refl, (refl, (refl, (refl, (refl, (refl, (refl, tt))))))),
-                                        ),
-                                      ),
-                                    ),
-                                  ),
-                                ),
-                              ),
-                            ),
-                          ),
-                        ),
-                      ),
-                    ),
-                  ),
-                ),
-              ),
-            ),
-          ),
-        ),
-      ),
-    ),
-  ),
-)
-
-looked : (w : List ℕ) (other : Meaning) (ks : List Keyword) → NoValues ks → isValue other ≡ false → isValue (lookup w other ks) ≡ false
+looked : (w : List ℕ) (other : Meaning) (ks : List Keyword) → noValues ks ≡ true → isValue other ≡ false → isValue (lookup w other ks) ≡ false
 unfolding lookup
 looked w other [] n e = e
-looked w other (k ∷ ks) n e = by (same w (k .bytes)) (looked w other ks (n .1) e)
+looked w other (k ∷ ks) n e =
+    let b = both (not (isValue (k .meaning))) (noValues ks) n in
+    by (same w (k .bytes)) (not-true _ (b .0)) (looked w other ks (b .1) e)
   where
-    by : (t : Bool) → isValue (lookup w other ks) ≡ false → isValue (cond t (k .meaning) (lookup w other ks)) ≡ false
-    by true h = n .0
-    by false h = h
+    by : (t : Bool) → isValue (k .meaning) ≡ false → isValue (lookup w other ks) ≡ false → isValue (cond t (k .meaning) (lookup w other ks)) ≡ false
+    by true g h = g
+    by false g h = h
 
 named-none : (known : Known) (w : List ℕ) → isValue (named known w) ≡ false
 named-none known w = by (isName w) (eqb (count w (everyName known)) 1) (ltb p n)
@@ -206,7 +143,7 @@ unfolding meaning
 made known w l e = by (isText w) refl (isNumber w) refl e
   where
     none : isValue (lookup w (named known w) vocabulary) ≡ false
-    none = looked w (named known w) vocabulary no-values (named-none known w)
+    none = looked w (named known w) vocabulary refl (named-none known w)
 
     by : (t : Bool) → isText w ≡ t → (u : Bool) → isNumber w ≡ u
         → cond t (value (textOf w)) (cond u (value (numberOf w)) (lookup w (named known w) vocabulary)) ≡ value l → Made w l

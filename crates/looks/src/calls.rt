@@ -5,11 +5,10 @@ ghost use Rattle.tables.specs.Refusals.{firstOf};
 ghost use Rattle.rules.specs.Calls.{Leaves};
 ghost use Rattle.look_lists.specs.Looked.{runLines, lookedGives, lookedPlanGives, namedGives};
 use checks::lent::check_record;
-use checks::lent::check_tables;
 use look_lists::lists::list_named;
 use look_lists::lists::list_reached;
-use name_tables::check_names;
 use plan_checks::check_plan;
+use preparer::lent::check_lent;
 use preparer::prepare::prepare;
 use resolver::Prepared;
 use tables::Check;
@@ -63,12 +62,8 @@ fn check_run(
 ) -> Check
     ensures { λ r. ⌜ r ≡ firstOf (runLines (lendNames (now (items .entry)) (now (literals .entry)) (now (bytes .entry)) (now (names .entry))) (now (plan .entry)) (now («record» .entry))) ⌝ }
 {
-    let tables = check_tables(items, literals, bytes);
-    if let Check::Refused(refusal) = tables {
-        return Check::Refused(refusal);
-    }
-    let named = check_names(items, literals, bytes, names);
-    if let Check::Refused(refusal) = named {
+    let lent = check_lent(items, literals, bytes, names);
+    if let Check::Refused(refusal) = lent {
         return Check::Refused(refusal);
     }
     let rows = check_plan(false, items, literals, names, plan);

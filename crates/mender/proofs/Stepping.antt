@@ -1,9 +1,9 @@
 -- One step of the walk over a record that is mended: to the end of the row that starts next. Assumes nothing.
-use Prim.Native.Nat.{ℕ, zero, suc, _+_, _-_, _*_, _≤_, _<_}
+use Prim.Native.Nat.{ℕ, suc, _+_, _-_, _*_, _≤_, _<_}
 use native.Mathlib.Omega.{arith}
 use mathlib.Core.Path.{_≡_, refl, sym, ap, ap₂, _∙_}
 use mathlib.Core.List.{List, [], _∷_, _++_, append-nil, append-assoc}
-use mathlib.Core.Logic.{_⊎_, inl, inr}
+use mathlib.Core.Logic.{inl}
 use mathlib.Core.Bool.{Bool, true, false, cond}
 use lib.ListN.{length, getD, take, drop, length-append, length-drop, drop-of-length-le}
 use lib.Seq.{take-all, take-length, drop-length, length-take-le, take-at, drop-at, drop-drop}
@@ -11,7 +11,7 @@ use borrow.Rule.Slice.PartMut.{putMid}
 use Rattle.mending.proofs.Changes.{changes-within}
 use Rattle.mender.proofs.Nearing.{changes-of}
 use lib.Dec.{eqb, leb}
-use borrow.Author.Tests.{le-leb, leb-true}
+use borrow.Author.Tests.{leb-true}
 use Rattle.tables.specs.Rows.{rowAt, rowCount, part}
 use Rattle.tables.proofs.Bytes.{RowFacts}
 use Rattle.tables.specs.declared.Check.the-variants.{Sound}
@@ -22,7 +22,6 @@ use Rattle.mender.specs.Walks.{Next, Lying, mendedPart, rowChanges}
 use Rattle.content.specs.declared.Row.{Row}
 use Rattle.tables.proofs.Tests.{both}
 use native.Mathlib.Decide.{decLt}
-use Rattle.items.proofs.Rewriting.{Clear, Lies}
 use Rattle.mending.proofs.Theorems.{clear, lies, facts, mended-long, byte-untouched, item-mended}
 use Rattle.mender.proofs.Walking.{half, seen, seen-more, half-more, still-old, seen-same, half-same, Ahead, free-until, ahead-row}
 use Rattle.content.specs.Kinds.{isZoned}
@@ -225,6 +224,30 @@ module _ (items content : List ℕ) (sound : firstOf (mendLines items content) �
             length-append (seen content (mendedRecord items content) at) (changesFrom (rowAt items row .offset) (partAt items row content) (mendedAt items content row)),
             changes-within 0 content (mendedRecord items content) (rowAt items row .offset + rowAt items row .size) long inside,
           )
+
+      -- and where that row ends
+      module _ {r : Row} {end : ℕ} (p : r ≡ rowAt items row) (q : end ≡ r .offset + r .size) where
+        end-is : end ≡ rowAt items row .offset + rowAt items row .size
+        end-is = q ∙ ap (λ (s : Row). s .offset + s .size) p
+
+        pub walk-past : {next : ℕ} → Next items end next → Walk items content end next
+        walk-past {next} n = rw end-is (walk-on next (rw end-is at n))
+
+        pub less-left : length content - end < length content - at
+        less-left = omega (arith, end-is, ends-later, inside)
+
+        pub seen-past : seen content (mendedRecord items content) end
+            ≡ seen content (mendedRecord items content) at ++ changesFrom (rowAt items row .offset) (partAt items row content) (mendedAt items content row)
+        seen-past = ap (seen content (mendedRecord items content)) end-is ∙ seen-step
+
+        pub count-past : {count n : ℕ} → count ≡ length (seen content (mendedRecord items content) at)
+            → n ≡ length (changesFrom (rowAt items row .offset) (partAt items row content) (mendedAt items content row))
+            → count + n ≡ length (seen content (mendedRecord items content) end)
+        count-past e f = omega (arith, simp length-append at (ap length seen-past))
+
+        pub half-past : {mended : List ℕ} → mended ≡ half content (mendedRecord items content) (rowAt items row .offset + rowAt items row .size)
+            → mended ≡ half content (mendedRecord items content) end
+        half-past e = e ∙ ap (half content (mendedRecord items content)) (sym end-is)
 
 -- the rest of a list lent, written from its start, and given back
 module _ (list₀ list written more last : List ℕ) (count r : ℕ) (c : count ≡ length written) (l : list ≡ written ++ drop count list₀)

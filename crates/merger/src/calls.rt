@@ -5,35 +5,22 @@ ghost use Prim.Native.Nat.{_≤_};
 ghost use lib.ListN.{length, drop};
 ghost use Rattle.tables.specs.Operands.{lendNames};
 ghost use Rattle.tables.specs.Refusals.{firstOf};
-ghost use Rattle.values.specs.Names.{lentLines};
 ghost use Rattle.merging.specs.Merge.{copiesOf, lengthCheck, apartRows, contested, deskLines, mergeWith, mergeGives};
 ghost use Rattle.copies.specs.Ready.{Ready};
 ghost use Rattle.merger.specs.Desk.{contestedCount, Decides, roomsFor, Leaves};
 use checks::lent::check_record;
-use checks::lent::check_tables;
 use conditions::calls::run;
 use contested::apart::count_apart;
 use contested::apart::list_apart;
 use copies::write_merged;
 use items::lines::check_room;
 use merging::Merged;
-use name_tables::check_names;
 use overlaps::check_overlap;
 use plan_checks::check_plan;
+use preparer::lent::check_lent;
 use tables::Check;
 use tables::Refusal;
 use tables::Verdict;
-
-// 1 to 4 and 18.
-fn check_lent(items: &[u32], literals: &[u32], bytes: &[u8], names: &[u32]) -> Check
-    ensures { λ r. ⌜ r ≡ firstOf (lentLines (lendNames (now (items .entry)) (now (literals .entry)) (now (bytes .entry)) (now (names .entry)))) ⌝ }
-{
-    let tables = check_tables(items, literals, bytes);
-    if let Check::Refused(refusal) = tables {
-        return Check::Refused(refusal);
-    }
-    check_names(items, literals, bytes, names)
-}
 
 // 20: copies of unequal length.
 fn check_lengths(old: &[u8], first: &[u8], second: &[u8]) -> Check

@@ -6,7 +6,7 @@ use native.Mathlib.Omega.{arith}
 use native.Mathlib.Numerals.{add-one}
 use borrow.Rule.Slice.PartMut.{putMid}
 use lib.ListN.{length, getD, take, drop, set, length-append, length-take, length-drop}
-use lib.Seq.{sets, drop-cons, set-at, take-suc, append-snoc, length-take-le}
+use lib.Seq.{sets, take-suc}
 use Rattle.tables.proofs.Front.{Front, front-none, front-length, front-store, front-part}
 use Rattle.entries.specs.declared.Noted.{Noted}
 use Rattle.noting.specs.Stored.{notedAt, notedFrom}
@@ -15,14 +15,11 @@ use Rattle.literal_bytes.specs.Written.{literalBy, writtenOver}
 use Rattle.outputs.specs.Noted.{namedOf, rowAt, wordAt, bytesAt, rowsFrom, bytesFrom, Words}
 
 -- One number more.
-put : (done before : List ℕ) (i v : ℕ) → length done ≡ i → i < length before → set (done ++ drop i before) i v ≡ (done ++ v ∷ []) ++ drop (i + 1) before
-put done before i v e l = rw (drop-cons before i 0 l, add-one i, append-snoc done v (drop (suc i) before)) (set-at done (getD before i 0) (drop (suc i) before) v i e)
-
-pub copy-more : (from before : List ℕ) (i : ℕ) {to : List ℕ} → i < length from → i < length before → to ≡ take i from ++ drop i before →
-    set to i (getD from i 0) ≡ take (i + 1) from ++ drop (i + 1) before
-copy-more from before i l m e =
+pub copy-more : (from before : List ℕ) (i : ℕ) {to : List ℕ} → i < length from → i < length before → Front (take i from) before i to →
+    Front (take (i + 1) from) before (i + 1) (set to i (getD from i 0))
+copy-more from before i l m f =
     let k : take (i + 1) from ≡ take i from ++ getD from i 0 ∷ [] = rw (add-one i) (take-suc from i 0 l) in
-    rw (e, k) (put (take i from) before i (getD from i 0) (length-take-le i from (omega arith)) m)
+    rw k (front-store f (getD from i 0) m)
 
 noted-length : (flat : List ℕ) (i n : ℕ) → length (notedFrom flat i n) ≡ n
 unfolding notedFrom
@@ -40,18 +37,18 @@ map-snoc : (xs : List Noted) (x : Noted) → map namedOf (xs ++ x ∷ []) ≡ ma
 map-snoc [] x = refl
 map-snoc (y ∷ xs) x = ap (λ (l : List ℕ). namedOf y ∷ l) (map-snoc xs x)
 
-pub named-none : (flat before : List ℕ) → before ≡ map namedOf (notedFrom flat 0 0) ++ drop 0 before
+pub named-none : (flat before : List ℕ) → Front (map namedOf (notedFrom flat 0 0)) before 0 before
 unfolding notedFrom
-named-none flat before = refl
+named-none flat before = front-none before
 
-pub named-more : (flat before : List ℕ) (i : ℕ) {to : List ℕ} → i < length before → to ≡ map namedOf (notedFrom flat 0 i) ++ drop i before →
-    set to i (getD flat (i * 7 + 2) 0) ≡ map namedOf (notedFrom flat 0 (i + 1)) ++ drop (i + 1) before
-named-more flat before i l e =
+pub named-more : (flat before : List ℕ) (i : ℕ) {to : List ℕ} → i < length before → Front (map namedOf (notedFrom flat 0 i)) before i to →
+    Front (map namedOf (notedFrom flat 0 (i + 1))) before (i + 1) (set to i (getD flat (i * 7 + 2) 0))
+named-more flat before i m f =
     let z : 0 + i ≡ i = omega arith in
-    let m : notedFrom flat 0 (i + 1) ≡ notedFrom flat 0 i ++ notedAt flat i ∷ [] = rw (add-one i, noted-snoc flat 0 i, z) in
+    let n : notedFrom flat 0 (i + 1) ≡ notedFrom flat 0 i ++ notedAt flat i ∷ [] = rw (add-one i, noted-snoc flat 0 i, z) in
     let k : map namedOf (notedFrom flat 0 (i + 1)) ≡ map namedOf (notedFrom flat 0 i) ++ getD flat (i * 7 + 2) 0 ∷ [] =
-    ap (map namedOf) m ∙ map-snoc (notedFrom flat 0 i) (notedAt flat i) in
-    rw (e, k) (put (map namedOf (notedFrom flat 0 i)) before i (getD flat (i * 7 + 2) 0) (named-length flat i) l)
+    ap (map namedOf) n ∙ map-snoc (notedFrom flat 0 i) (notedAt flat i) in
+    rw k (front-store f (getD flat (i * 7 + 2) 0) m)
 
 -- Literals in two parts.
 rows-split : (notes : List ℕ) (i m n : ℕ) → rowsFrom notes i (m + n) ≡ rowsFrom notes i m ++ rowsFrom notes (i + m) n

@@ -6,8 +6,7 @@ ghost use Rattle.tables.specs.Operands.{lendNames, under};
 ghost use Rattle.tables.specs.Refusals.{firstOf};
 ghost use Rattle.rules.specs.Calls.{tokenLines};
 ghost use Rattle.preparer.specs.Prepared.{Prepares};
-use checks::lent::check_tables;
-use name_tables::check_names;
+use crate::lent::check_lent;
 use resolver::Prepared;
 use resolver::resolve;
 use tables::Check;
@@ -15,7 +14,7 @@ use token_checks::tokens::check_token_count;
 use token_checks::tokens::check_tokens;
 
 // 1 to 6, and 18 just after 4. `off`, here and below: the rules have the switch-off words.
-fn check_lent(
+fn check_lines(
     off: bool,
     items: &[u32],
     literals: &[u32],
@@ -25,12 +24,8 @@ fn check_lent(
 ) -> Check
     ensures { λ r. ⌜ r ≡ firstOf (tokenLines (under off (lendNames (now (items .entry)) (now (literals .entry)) (now (bytes .entry)) (now (names .entry)))) (now (tokens .entry))) ⌝ }
 {
-    let tables = check_tables(items, literals, bytes);
-    if let Check::Refused(refusal) = tables {
-        return Check::Refused(refusal);
-    }
-    let named = check_names(items, literals, bytes, names);
-    if let Check::Refused(refusal) = named {
+    let lent = check_lent(items, literals, bytes, names);
+    if let Check::Refused(refusal) = lent {
         return Check::Refused(refusal);
     }
     let count = check_token_count(tokens);
@@ -53,8 +48,8 @@ pub fn prepare(
     requires { ⌜ 640 ≤ length (now rows) ⌝ }
     ensures { λ r. ⌜ Prepares (under off (lendNames (now (items .entry)) (now (literals .entry)) (now (bytes .entry)) (now (names .entry)))) (now (tokens .entry)) r (now (rows .entry)) (now (rows .exit)) ⌝ }
 {
-    let lent = check_lent(off, items, literals, bytes, names, tokens);
-    match lent {
+    let lines = check_lines(off, items, literals, bytes, names, tokens);
+    match lines {
         Check::Refused(refusal) => Prepared::Refused(refusal),
         Check::Sound => resolve(items, literals, tokens, rows),
     }

@@ -8,9 +8,8 @@ ghost use Rattle.tables.specs.Refusals.{firstOf};
 ghost use Rattle.sweeps.specs.Sweep.{evenly, ruleLines, sweptNumbers, sweepGives, Leaves, Sweepable};
 use block_truths::Block;
 use checks::lent::check_record;
-use checks::lent::check_tables;
-use name_tables::check_names;
 use plan_checks::check_plan;
+use preparer::lent::check_lent;
 use sweeps::Swept;
 use sweeps::parts::WIDTH;
 use sweeps::parts::part_records;
@@ -25,12 +24,8 @@ const MOST: usize = 1073741823;
 fn check_rules(items: &[u32], literals: &[u32], bytes: &[u8], names: &[u32], plan: &[u32]) -> Check
     ensures { λ r. ⌜ r ≡ firstOf (ruleLines (lendNames (now (items .entry)) (now (literals .entry)) (now (bytes .entry)) (now (names .entry))) (now (plan .entry))) ⌝ }
 {
-    let tables = check_tables(items, literals, bytes);
-    if let Check::Refused(refusal) = tables {
-        return Check::Refused(refusal);
-    }
-    let named = check_names(items, literals, bytes, names);
-    if let Check::Refused(refusal) = named {
+    let lent = check_lent(items, literals, bytes, names);
+    if let Check::Refused(refusal) = lent {
         return Check::Refused(refusal);
     }
     check_plan(false, items, literals, names, plan)

@@ -35,6 +35,9 @@ blanks-le (b ∷ bs) = by (isBlank b) (blanks-le bs)
 pub inked-le : (text : List ℕ) (n : ℕ) → n ≤ length text → inked text n ≤ length text
 inked-le text n h = omega (arith, blanks-le (drop n text), length-drop n text)
 
+pub ink-within : (text : List ℕ) (n p : ℕ) → p ≡ inked text n → n ≤ length text → p ≤ length text
+ink-within text n p e h = omega (arith, inked-le text n h)
+
 -- the part from p on
 pub part-from : (text : List ℕ) (p : ℕ) → take (length text - p) (drop p text) ≡ drop p text
 part-from text p = take-all (length text - p) (drop p text) (omega (arith, length-drop p text))

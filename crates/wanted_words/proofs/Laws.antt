@@ -14,7 +14,7 @@ use Rattle.description.specs.Stages.{inked, common, met, literalAt}
 use Rattle.description.specs.declared.Reached.{Reached}
 use Rattle.description.specs.declared.Reached.the-variants as Reached
 use Rattle.description.proofs.Bytes.{eqb-no, eqb-same}
-use Rattle.text_bytes.proofs.Laws.{part-from}
+use Rattle.text_bytes.proofs.Laws.{ink-within, part-from}
 
 -- A word that is asked for.
 pub common-more : (w bs : List ℕ) (k : ℕ) → k < length w → k < length bs → getD bs k 0 ≡ getD w k 0 →
@@ -48,14 +48,16 @@ common-le (a ∷ w) (b ∷ bs) = by (eqb b a) (common-le w bs)
 pub literal-none : (w text : List ℕ) (n p : ℕ) → p ≡ inked text n → p ≡ n → Reached.Fault n ≡ literalAt w text n
 literal-none w text n p e h = let i : inked text n ≡ n = sym e ∙ h in rw (i, eqb-same n)
 
-pub literal-word : (w text : List ℕ) (n p m : ℕ) → p ≡ inked text n → ¬ (p ≡ n) → m ≡ common w (take (length text - p) (drop p text)) → m ≡ length w →
-    Reached.Word (p + m) ≡ literalAt w text n
-literal-word w text n p m e h f k =
-    let z : m ≡ common w (drop p text) = f ∙ ap (common w) (part-from text p) in
-    rw (← e, eqb-no p n h, ← z, k, eqb-same (length w))
+module _ (w text : List ℕ) (n p m : ℕ) (e : p ≡ inked text n) (f : m ≡ common w (take (length text - p) (drop p text))) where
+  reaches : m ≡ common w (drop p text)
+  reaches = f ∙ ap (common w) (part-from text p)
 
-pub literal-fault : (w text : List ℕ) (n p m : ℕ) → p ≡ inked text n → ¬ (p ≡ n) → m ≡ common w (take (length text - p) (drop p text)) → ¬ (m ≡ length w) →
-    Reached.Fault (p + m) ≡ literalAt w text n
-literal-fault w text n p m e h f k =
-    let z : m ≡ common w (drop p text) = f ∙ ap (common w) (part-from text p) in
-    rw (← e, eqb-no p n h, ← z, eqb-no m (length w) k)
+  pub common-within : n ≤ length text → p + m ≤ length text
+  common-within h = omega (arith, reaches, ink-within text n p e h, common-le w (drop p text), length-drop p text)
+
+  module _ (h : ¬ (p ≡ n)) where
+    pub literal-word : m ≡ length w → Reached.Word (p + m) ≡ literalAt w text n
+    literal-word k = rw (← e, eqb-no p n h, ← reaches, k, eqb-same (length w))
+
+    pub literal-fault : ¬ (m ≡ length w) → Reached.Fault (p + m) ≡ literalAt w text n
+    literal-fault k = rw (← e, eqb-no p n h, ← reaches, eqb-no m (length w) k)

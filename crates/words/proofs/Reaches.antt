@@ -1,17 +1,17 @@
 -- How far a name may go on: 29 bytes that a name may have, the first no hyphen, and then one with which it is a name.
 use mathlib.Core.Path.{_≡_, refl, sym, ap, _∙_}
-use mathlib.Core.Bool.{Bool, true, false, not, cond, _&&_, _||_, and-false, and-true}
-use mathlib.Core.List.{List, [], _∷_, _++_, append-nil}
+use mathlib.Core.Bool.{Bool, true, false, not, cond, _&&_, _||_, and-true}
+use mathlib.Core.List.{List, [], _∷_, _++_}
 use Prim.Native.Nat.{ℕ, zero, suc, _+_, _-_, _≤_, _<_}
 use native.Mathlib.Omega.{arith}
 use native.Mathlib.Numerals.{add-one}
-use borrow.Author.Tests.{eqb-true, eqb-false, ltb-true, ltb-false, lt-ltb, le-ltb, not-false, leb-true, leb-false}
+use borrow.Author.Tests.{eqb-true, ltb-true, ltb-false, lt-ltb, le-ltb}
 use lib.Dec.{eqb, leb, ltb}
-use lib.ListN.{length, getD, take, drop, length-append, drop-of-length-le, List·getD-eq-default}
+use lib.ListN.{length, getD, take, drop, length-append, length-drop, drop-of-length-le, List·getD-eq-default}
 use lib.Seq.{append-snoc, drop-cons}
 use Rattle.description.specs.Grammar.{same, all, any, isLetter, isHyphen, isNameByte, within, keywords}
-use Rattle.description.specs.Reader.{isName, isCalled, hasRoom, beginsName}
-use Rattle.description.specs.Stages.{reach, inked, isPeriod, nameReach, nameFrom, nameAt, calledAt, labelAt}
+use Rattle.description.specs.Reader.{isName, isCalled, beginsName}
+use Rattle.description.specs.Stages.{reach, inked, isPeriod, nameReach, nameAt, labelAt}
 use Rattle.description.specs.declared.Reached.{Reached}
 use Rattle.description.specs.declared.Reached.the-variants as Reached
 use Rattle.description.specs.declared.Called.{Called}
@@ -20,7 +20,7 @@ use Rattle.description.proofs.Bytes.{apart, eqb-same, eqb-no, leb-so, leb-no}
 use Rattle.description.proofs.Stages.{reach-le}
 use Rattle.description.proofs.Phases.{eqb-suc}
 use Rattle.words.specs.Runs.{nameRun}
-use Rattle.text_bytes.proofs.Laws.{part-from}
+use Rattle.text_bytes.proofs.Laws.{ink-within, part-from}
 
 -- Tests of each byte.
 pub all-more : (test : ℕ → Bool) (w : List ℕ) (k : ℕ) → k < length w → test (getD w k 0) ≡ true → all test w ≡ all test (drop k w) → all test w ≡ all test (drop (k + 1) w)
@@ -209,43 +209,24 @@ no-byte text k l = rw (List·getD-eq-default text 0 l)
 pub name-none : (l : ℕ) (text : List ℕ) (n p : ℕ) → p ≡ inked text n → p ≡ n → Called.Fault n ≡ nameAt l text n
 name-none l text n p e h = let i : inked text n ≡ n = sym e ∙ h in rw (i, eqb-same n)
 
-module _ (l : ℕ) (text : List ℕ) (n p m : ℕ) (e : p ≡ inked text n) (f : ¬ (p ≡ n)) (g : m ≡ reach beginsName [] (take (length text - p) (drop p text))) where
-  name-is : {t s : Bool} → isCalled (take ((p + m) - p) (drop p text)) ≡ t → isPeriod text (p + m) && leb l 48 ≡ s →
-      nameAt l text n ≡ cond t (cond s (Called.Group (p + m + 1)) (Called.Item (p + m))) (Called.Fault (p + m))
-  name-is h k =
-      let z : m ≡ nameReach text p = g ∙ ap (reach beginsName []) (part-from text p) in
-      let y : (p + m) - p ≡ m = omega arith in
-      let i : isCalled (take m (drop p text)) ≡ _ = rw y at h in
-      rw (← e, eqb-no p n f, ← z, i, k)
-
-  pub name-end : p ≤ length text → p + m ≤ length text
-  name-end l =
-      let z : m ≡ nameReach text p = g ∙ ap (reach beginsName []) (part-from text p) in
-      omega (arith, reach-le beginsName [] (drop p text), lib.ListN.length-drop p text)
-
-  pub name-fault : isCalled (take ((p + m) - p) (drop p text)) ≡ false → Called.Fault (p + m) ≡ nameAt l text n
-  name-fault h = sym (name-is h refl)
-
-  pub name-group : isCalled (take ((p + m) - p) (drop p text)) ≡ true → isPeriod text (p + m) && leb l 48 ≡ true → Called.Group (p + m + 1) ≡ nameAt l text n
-  name-group h k = sym (name-is h k)
-
-  pub name-item : isCalled (take ((p + m) - p) (drop p text)) ≡ true → isPeriod text (p + m) && leb l 48 ≡ false → Called.Item (p + m) ≡ nameAt l text n
-  name-item h k = sym (name-is h k)
-
--- The name of a level 88 entry.
+-- and of a level 88 entry
 pub label-none : (text : List ℕ) (n p : ℕ) → p ≡ inked text n → p ≡ n → Reached.Fault n ≡ labelAt text n
 label-none text n p e h = let i : inked text n ≡ n = sym e ∙ h in rw (i, eqb-same n)
 
-module _ (text : List ℕ) (n p m : ℕ) (e : p ≡ inked text n) (f : ¬ (p ≡ n)) (g : m ≡ reach beginsName [] (take (length text - p) (drop p text))) where
-  label-is : {t : Bool} → isName (take ((p + m) - p) (drop p text)) ≡ t → labelAt text n ≡ cond t (Reached.Word (p + m)) (Reached.Fault (p + m))
-  label-is h =
-      let z : m ≡ nameReach text p = g ∙ ap (reach beginsName []) (part-from text p) in
-      let y : (p + m) - p ≡ m = omega arith in
-      let i : isName (take m (drop p text)) ≡ _ = rw y at h in
-      rw (← e, eqb-no p n f, ← z, i)
+module _ (text : List ℕ) (n p m : ℕ) (e : p ≡ inked text n) (g : m ≡ reach beginsName [] (take (length text - p) (drop p text))) where
+  reaches : m ≡ nameReach text p
+  reaches = g ∙ ap (reach beginsName []) (part-from text p)
 
-  pub label-word : isName (take ((p + m) - p) (drop p text)) ≡ true → Reached.Word (p + m) ≡ labelAt text n
-  label-word h = sym (label-is h)
+  pub name-within : n ≤ length text → p + m ≤ length text
+  name-within h = omega (arith, reaches, ink-within text n p e h, reach-le beginsName [] (drop p text), length-drop p text)
 
-  pub label-fault : isName (take ((p + m) - p) (drop p text)) ≡ false → Reached.Fault (p + m) ≡ labelAt text n
-  label-fault h = sym (label-is h)
+  part-is : take ((p + m) - p) (drop p text) ≡ take m (drop p text)
+  part-is = let y : (p + m) - p ≡ m = omega arith in rw y
+
+  module _ (f : ¬ (p ≡ n)) (t : Bool) where
+    pub name-is : (l : ℕ) (s : Bool) → isCalled (take ((p + m) - p) (drop p text)) ≡ t → isPeriod text (p + m) && leb l 48 ≡ s →
+        cond t (cond s (Called.Group (p + m + 1)) (Called.Item (p + m))) (Called.Fault (p + m)) ≡ nameAt l text n
+    name-is l s h k = let i : isCalled (take m (drop p text)) ≡ t = rw part-is at h in rw (← e, eqb-no p n f, ← reaches, i, k)
+
+    pub label-is : isName (take ((p + m) - p) (drop p text)) ≡ t → cond t (Reached.Word (p + m)) (Reached.Fault (p + m)) ≡ labelAt text n
+    label-is h = let i : isName (take m (drop p text)) ≡ t = rw part-is at h in rw (← e, eqb-no p n f, ← reaches, i)

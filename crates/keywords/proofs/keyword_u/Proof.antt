@@ -1,104 +1,14 @@
 -- `keyword_u` meets its contract: from the laws of proofs/ and what its callees ensure. Assumes nothing.
-use denote.Ref.{now}
-use Rattle.keywords.proofs.Initials.{one-word, word-more}
-use borrow.Author.Needs.{needs}
+use mathlib.Core.Path.{refl}
+use Rattle.keywords.proofs.Initials.{both-lists}
 use Rattle.keywords.proofs.keyword_u.Statement.{statement}
 use Rattle.keywords.proofs.keyword_u.Tie as tie
 
-slice-aggregate-same-bytes : tie.Need-slice-aggregate-same-bytes
-slice-aggregate-same-bytes c = search needs
-
-same-bytes-requires : tie.Need-same-bytes-requires
-same-bytes-requires c κs = search needs
-
-slice-aggregate-same-bytes-2 : tie.Need-slice-aggregate-same-bytes-2
-slice-aggregate-same-bytes-2 c = search needs
-
-same-bytes-requires-2 : tie.Need-same-bytes-requires-2
-same-bytes-requires-2 c κs = search needs
-
-slice-aggregate-same-bytes-3 : tie.Need-slice-aggregate-same-bytes-3
-slice-aggregate-same-bytes-3 c = search needs
-
-same-bytes-requires-3 : tie.Need-same-bytes-requires-3
-same-bytes-requires-3 c κs = search needs
-
-slice-aggregate-same-bytes-4 : tie.Need-slice-aggregate-same-bytes-4
-slice-aggregate-same-bytes-4 c = search needs
-
-same-bytes-requires-4 : tie.Need-same-bytes-requires-4
-same-bytes-requires-4 c κs = search needs
-
-slice-aggregate-same-bytes-5 : tie.Need-slice-aggregate-same-bytes-5
-slice-aggregate-same-bytes-5 c = search needs
-
-same-bytes-requires-5 : tie.Need-same-bytes-requires-5
-same-bytes-requires-5 c κs = search needs
-
-slice-aggregate-same-bytes-6 : tie.Need-slice-aggregate-same-bytes-6
-slice-aggregate-same-bytes-6 c = search needs
-
-same-bytes-requires-6 : tie.Need-same-bytes-requires-6
-same-bytes-requires-6 c κs = search needs
-
-slice-aggregate-same-bytes-7 : tie.Need-slice-aggregate-same-bytes-7
-slice-aggregate-same-bytes-7 c = search needs
-
-same-bytes-requires-7 : tie.Need-same-bytes-requires-7
-same-bytes-requires-7 c κs = search needs
-
-slice-aggregate-same-bytes-8 : tie.Need-slice-aggregate-same-bytes-8
-slice-aggregate-same-bytes-8 c = search needs
-
-same-bytes-requires-8 : tie.Need-same-bytes-requires-8
-same-bytes-requires-8 c κs = search needs
-
 returns : tie.Need-returns
-returns c = word-more (now
-    (c .before .before .before .before .before .before .before .before .before .before .before .before .before .before .before .before .before .args .w)) _ _
-    (c .before .before .before .before .before .before .before .before .before .before .before .before .before .before .same-bytes .result) _
-    (c .before .before .before .before .before .before .before .before .before .before .before .before .before .before .same-bytes .ensures)
-    (word-more (now
-    (c .before .before .before .before .before .before .before .before .before .before .before .before .before .before .before .before .before .args .w)) _ _
-    (c .before .before .before .before .before .before .before .before .before .before .before .before .same-bytes2 .result) _
-    (c .before .before .before .before .before .before .before .before .before .before .before .before .same-bytes2 .ensures)
-    (word-more (now
-    (c .before .before .before .before .before .before .before .before .before .before .before .before .before .before .before .before .before .args .w)) _ _
-    (c .before .before .before .before .before .before .before .before .before .before .same-bytes3 .result) _
-    (c .before .before .before .before .before .before .before .before .before .before .same-bytes3 .ensures)
-    (word-more (now
-    (c .before .before .before .before .before .before .before .before .before .before .before .before .before .before .before .before .before .args .w)) _ _
-    (c .before .before .before .before .before .before .before .before .same-bytes4 .result) _ (c .before .before .before .before .before .before .before .before .same-bytes4 .ensures)
-    (word-more (now
-    (c .before .before .before .before .before .before .before .before .before .before .before .before .before .before .before .before .before .args .w)) _ _
-    (c .before .before .before .before .before .before .same-bytes5 .result) _ (c .before .before .before .before .before .before .same-bytes5 .ensures)
-    (word-more (now
-    (c .before .before .before .before .before .before .before .before .before .before .before .before .before .before .before .before .before .args .w)) _ _
-    (c .before .before .before .before .same-bytes6 .result) _ (c .before .before .before .before .same-bytes6 .ensures)
-    (word-more (now
-    (c .before .before .before .before .before .before .before .before .before .before .before .before .before .before .before .before .before .args .w)) _ _
-    (c .before .before .same-bytes7 .result) _ (c .before .before .same-bytes7 .ensures)
-    (one-word (now (c .before .before .before .before .before .before .before .before .before .before .before .before .before .before .before .before .before .args .w)) _
-    (c .same-bytes8 .result) (c .same-bytes8 .ensures))))))))
+returns c = both-lists _ _ _ _ _ (c .before .before .before .before .before .one-of-four .ensures) (c .one-of-four2 .ensures)
 
 pub keyword-u-spec : {M : Type 1} → statement M
 keyword-u-spec =
     tie.close
     (tie.spec
-    slice-aggregate-same-bytes
-    same-bytes-requires
-    slice-aggregate-same-bytes-2
-    same-bytes-requires-2
-    slice-aggregate-same-bytes-3
-    same-bytes-requires-3
-    slice-aggregate-same-bytes-4
-    same-bytes-requires-4
-    slice-aggregate-same-bytes-5
-    same-bytes-requires-5
-    slice-aggregate-same-bytes-6
-    same-bytes-requires-6
-    slice-aggregate-same-bytes-7
-    same-bytes-requires-7
-    slice-aggregate-same-bytes-8
-    same-bytes-requires-8
-    returns)
+    (λ c. refl) (λ c. refl) (λ c. refl) (λ c. refl) (λ c κs. tt) (λ c. refl) (λ c. refl) (λ c. refl) (λ c. refl) (λ c κs. tt) returns)

@@ -1,10 +1,9 @@
 -- `same_bytes` meets its contract: from the laws of proofs/ and what its callees ensure. Assumes nothing.
-use Prim.Native.Nat.{_-_, _≤_}
+use Prim.Native.Nat.{_-_}
 use native.Mathlib.Omega.{arith}
-use mathlib.Core.Path.{_≡_, refl, sym, _∙_}
+use mathlib.Core.Path.{_≡_, refl}
 use lib.ListN.{length, drop}
 use denote.Ref.{now}
-use borrow.Author.Needs.{needs}
 use Rattle.description.specs.Grammar.{same}
 use Rattle.keywords.proofs.Same.{same-lengths, same-more, same-other, same-end}
 use Rattle.keywords.proofs.same_bytes.Statement.{statement}

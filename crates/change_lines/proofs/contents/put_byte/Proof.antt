@@ -1,32 +1,14 @@
 -- As itself, or after a stroke.
-use mathlib.Core.Path.{_≡_, refl, sym, _∙_}
+use mathlib.Core.Path.{refl, sym, _∙_}
 use Rattle.lines.proofs.Joining.{joined, kept}
 use Rattle.change_lines.proofs.contents.put_byte.Statement.{statement}
 use Rattle.change_lines.proofs.contents.put_byte.Tie as tie
-
-is-shown-requires : tie.Need-is-shown-requires
-is-shown-requires c κs = tt
-
-slice-aggregate-put : tie.Need-slice-aggregate-put
-slice-aggregate-put c = refl
-
-put-requires : tie.Need-put-requires
-put-requires c κs = tt
 
 same-length : tie.Need-same-length
 same-length c = kept (c .before .before .put .ensures)
 
 returns : tie.Need-returns
 returns c = rw (sym (c .before .before .before .before .before .before .is-shown .ensures) ∙ c .before .before .before .before .before .if1 .taken) (c .before .before .put .ensures)
-
-slice-aggregate-put-2 : tie.Need-slice-aggregate-put-2
-slice-aggregate-put-2 c = refl
-
-put-requires-2 : tie.Need-put-requires-2
-put-requires-2 c κs = tt
-
-put-hex-requires : tie.Need-put-hex-requires
-put-hex-requires c κs = tt
 
 same-length-2 : tie.Need-same-length-2
 same-length-2 c = kept (joined (c .before .before .before .before .before .before .put2 .ensures) (c .before .before .put-hex .ensures))
@@ -42,13 +24,4 @@ pub put-byte-spec : {M : Type 1} → statement M
 put-byte-spec =
     tie.close
     (tie.spec
-    is-shown-requires
-    slice-aggregate-put
-    put-requires
-    same-length
-    returns
-    slice-aggregate-put-2
-    put-requires-2
-    put-hex-requires
-    same-length-2
-    returns-2)
+    (λ c κs. tt) (λ c. refl) (λ c κs. tt) same-length returns (λ c. refl) (λ c κs. tt) (λ c κs. tt) same-length-2 returns-2)

@@ -1,6 +1,6 @@
 -- A quote, each byte, and a quote.
-use mathlib.Core.Path.{_≡_, refl, sym, ap, _∙_}
-use Prim.Native.Nat.{_+_, _-_, _≤_}
+use mathlib.Core.Path.{refl}
+use Prim.Native.Nat.{_-_, _≤_}
 use native.Mathlib.Omega.{arith}
 use lib.ListN.{length, take}
 use denote.Ref.{now}
@@ -17,26 +17,8 @@ Inv-loop out₀ at bytes end₀ i₀ t7 out end i = (i ≤ length bytes) × Puts
 abbrev μ-loop : tie.MeasureT-loop
 μ-loop out₀ at bytes end₀ i₀ t7 out end i = length bytes - i
 
-slice-aggregate-put : tie.Need-slice-aggregate-put Inv-loop μ-loop
-slice-aggregate-put c = refl
-
-put-requires : tie.Need-put-requires Inv-loop μ-loop
-put-requires c κs = tt
-
 loop-holds : tie.Need-loop-holds Inv-loop μ-loop
 loop-holds c = (omega arith, no-bytes (c .before .before .put .last .0) (c .before .before .put .result) (now (c .before .before .before .before .before .before .before .args .bytes)))
-
-shared-slice-read-put-byte : tie.Need-shared-slice-read-put-byte Inv-loop μ-loop
-shared-slice-read-put-byte c = c .before .before .loop-test .taken
-
-put-byte-requires : tie.Need-put-byte-requires Inv-loop μ-loop
-put-byte-requires c κs = tt
-
-add-i : tie.Need-add-i Inv-loop μ-loop
-add-i c = omega (arith, c .before .before .before .before .before .loop-test .taken)
-
-loop-less : tie.Need-loop-less Inv-loop μ-loop
-loop-less c = omega (arith, c .before .before .before .before .before .loop-test .taken)
 
 loop-again : tie.Need-loop-again Inv-loop μ-loop
 loop-again c =
@@ -44,12 +26,6 @@ loop-again c =
     let back6 = back5 .before in
     let back14 = back6 .before .before .before .before .before .before .before .before in
     (omega (arith, back5 .loop-test .taken), byte-more (now (back14 .args .bytes)) (back6 .loop .i) (back6 .loop .inv .1) (back5 .loop-test .taken) (c .before .before .put-byte .ensures))
-
-slice-aggregate-put-2 : tie.Need-slice-aggregate-put-2 Inv-loop μ-loop
-slice-aggregate-put-2 c = refl
-
-put-requires-2 : tie.Need-put-requires-2 Inv-loop μ-loop
-put-requires-2 c κs = tt
 
 same-length : tie.Need-same-length Inv-loop μ-loop
 same-length c =
@@ -71,17 +47,6 @@ pub put-content-spec : {M : Type 1} → statement M
 put-content-spec =
     tie.close
     (tie.spec
-    Inv-loop
-    μ-loop
-    slice-aggregate-put
-    put-requires
-    loop-holds
-    shared-slice-read-put-byte
-    put-byte-requires
-    add-i
-    loop-less
-    loop-again
-    slice-aggregate-put-2
-    put-requires-2
-    same-length
-    returns)
+    Inv-loop μ-loop (λ c. refl) (λ c κs. tt) loop-holds (λ c. c .before .before .loop-test .taken) (λ c κs. tt)
+    (λ c. omega (arith, c .before .before .before .before .before .loop-test .taken))
+    (λ c. omega (arith, c .before .before .before .before .before .loop-test .taken)) loop-again (λ c. refl) (λ c κs. tt) same-length returns)

@@ -1,69 +1,21 @@
 -- The lines 1 to 4, 18 and 11, tried in order.
 use mathlib.Core.Path.{sym, _∙_}
-use mathlib.Core.Bool.{true}
-use Rattle.tables.specs.Operands.{lendNames, under}
-use Rattle.names.proofs.Lines.{tables-refused, names-tried}
 use Rattle.converter.proofs.Calling.{lent-refused, plan-tried}
 use borrow.Author.Needs.{needs}
 use Rattle.converter.proofs.calls.check_old.Statement.{statement}
 use Rattle.converter.proofs.calls.check_old.Tie as tie
 
-check-tables-requires : tie.Need-check-tables-requires
-check-tables-requires c κs = search needs
-
-enum-known-tables : tie.Need-enum-known-tables
-enum-known-tables c = search needs
-
 returns : tie.Need-returns
 returns c =
-    let t = c .before .before .before in
-    let a = t .before .before .before .before .before .before .args in
-    let lent = under true (lendNames (a .items .now) (a .literals .now) (a .bytes .now) (a .names .now)) in
+    let a = c .before .before .before .before .before .before .before .before .before .args in
     lent-refused (a .items .now) (a .literals .now) (a .bytes .now) (a .names .now) (a .plan .now)
-    (tables-refused lent (t .check-tables .ensures) (c .before .tables .given .1))
-
-enum-told : tie.Need-enum-told
-enum-told c = search needs
-
-check-names-requires : tie.Need-check-names-requires
-check-names-requires c κs = sym (c .before .before .check-tables .ensures) ∙ c .enum-told .given .1
-
-enum-known-named : tie.Need-enum-known-named
-enum-known-named c = search needs
+    (sym (c .before .before .before .check-lent .ensures) ∙ c .before .lent .given .1)
 
 returns-2 : tie.Need-returns-2
 returns-2 c =
-    let t = c .before .before .before .before .before .before in
-    let a = t .before .before .before .before .before .before .args in
-    let lent = under true (lendNames (a .items .now) (a .literals .now) (a .bytes .now) (a .names .now)) in
-    let tried = names-tried lent (t .check-tables .ensures) (c .before .before .before .before .enum-told .given .1) (c .before .before .before .check-names .ensures) in
-    lent-refused (a .items .now) (a .literals .now) (a .bytes .now) (a .names .now) (a .plan .now) (sym tried ∙ c .before .named .given .1)
-
-enum-told-2 : tie.Need-enum-told-2
-enum-told-2 c = search needs
-
-check-plan-requires : tie.Need-check-plan-requires
-check-plan-requires c κs = search needs
-
-returns-3 : tie.Need-returns-3
-returns-3 c =
-    let t = c .before .before .before .before .before .before in
-    let a = t .before .before .before .before .before .before .args in
-    let lent = under true (lendNames (a .items .now) (a .literals .now) (a .bytes .now) (a .names .now)) in
-    let tried = names-tried lent (t .check-tables .ensures) (c .before .before .before .before .enum-told .given .1) (c .before .before .before .check-names .ensures) in
-    plan-tried (a .items .now) (a .literals .now) (a .bytes .now) (a .names .now) (a .plan .now) (sym tried ∙ c .before .enum-told2 .given .1) (c .check-plan .ensures)
+    let a = c .before .before .before .before .before .before .before .before .before .args in
+    plan-tried (a .items .now) (a .literals .now) (a .bytes .now) (a .names .now) (a .plan .now)
+    (sym (c .before .before .before .check-lent .ensures) ∙ c .before .enum-told .given .1) (c .check-plan .ensures)
 
 pub check-old-spec : {M : Type 1} → statement M
-check-old-spec =
-    tie.close
-    (tie.spec
-    check-tables-requires
-    enum-known-tables
-    returns
-    enum-told
-    check-names-requires
-    enum-known-named
-    returns-2
-    enum-told-2
-    check-plan-requires
-    returns-3)
+check-old-spec = tie.close (tie.spec (λ c κs. tt) (λ c. search needs) returns (λ c. search needs) (λ c κs. search needs) returns-2)

@@ -6,21 +6,6 @@ use borrow.Author.Needs.{needs}
 use Rattle.converter.proofs.calls.convert_condition.Statement.{statement}
 use Rattle.converter.proofs.calls.convert_condition.Tie as tie
 
-slice-aggregate-prepare : tie.Need-slice-aggregate-prepare
-slice-aggregate-prepare c = search needs
-
-prepare-requires : tie.Need-prepare-requires
-prepare-requires c κs = search needs
-
-enum-known-prepared : tie.Need-enum-known-prepared
-enum-known-prepared c = search needs
-
-enum-told : tie.Need-enum-told
-enum-told c = search needs
-
-converted-length-requires : tie.Need-converted-length-requires
-converted-length-requires c κs = search needs
-
 returns : tie.Need-returns
 returns c =
     let t = c .before .before .before .before .before in
@@ -36,18 +21,12 @@ returns-2 c =
     let rows = c .before .before .before .enum-told .given .1 in
     convert-no-room lent (a .tokens .now) (a .output .now) (t .prepare .ensures) rows (c .before .before .converted-length .ensures) (c .before .if1 .left) (c .if2 .taken)
 
-write-converted-requires : tie.Need-write-converted-requires
-write-converted-requires c κs = omega (arith, c .before .before .before .converted-length .ensures, c .before .if2 .left)
-
 returns-3 : tie.Need-returns-3
 returns-3 c =
     let t = c .before .before .before .before in
     let a = t .before .before .before .before .before .before .before .before .args in
     let lent = lendNames (a .items .now) (a .literals .now) (a .bytes .now) (a .names .now) in
     convert-refused lent (a .tokens .now) (a .output .now) (t .prepare .ensures) (c .before .prepared .given .1)
-
-same-length : tie.Need-same-length
-same-length c = search needs
 
 returns-4 : tie.Need-returns-4
 returns-4 c =
@@ -65,14 +44,5 @@ pub convert-condition-spec : {M : Type 1} → statement M
 convert-condition-spec =
     tie.close
     (tie.spec
-    slice-aggregate-prepare
-    prepare-requires
-    enum-known-prepared
-    enum-told
-    converted-length-requires
-    returns
-    returns-2
-    write-converted-requires
-    returns-3
-    same-length
-    returns-4)
+    (λ c. search needs) (λ c κs. search needs) (λ c. search needs) (λ c. search needs) (λ c κs. search needs) returns returns-2
+    (λ c κs. omega (arith, c .before .before .before .converted-length .ensures, c .before .if2 .left)) returns-3 (λ c. search needs) returns-4)

@@ -5,20 +5,11 @@ use borrow.Author.Needs.{needs}
 use Rattle.converter.proofs.calls.convert_plan.Statement.{statement}
 use Rattle.converter.proofs.calls.convert_plan.Tie as tie
 
-check-old-requires : tie.Need-check-old-requires
-check-old-requires c κs = search needs
-
-enum-known-old : tie.Need-enum-known-old
-enum-known-old c = search needs
-
 returns : tie.Need-returns
 returns c =
     let t = c .before .before .before in
     let a = t .before .before .before .before .before .before .before .args in
     plan-refused (a .items .now) (a .literals .now) (a .bytes .now) (a .names .now) (a .plan .now) (a .output .now) (t .check-old .ensures) (c .before .old .given .1)
-
-enum-told : tie.Need-enum-told
-enum-told c = search needs
 
 returns-2 : tie.Need-returns-2
 returns-2 c =
@@ -36,9 +27,6 @@ write-plan-requires c κs =
     let size = plan-size (a .items .now) (a .literals .now) (a .bytes .now) (a .names .now) (a .plan .now) (a .output .now) (t .check-old .ensures) (c .before .before .enum-told .given .1) in
     omega (arith, size, c .before .if1 .left)
 
-same-length : tie.Need-same-length
-same-length c = search needs
-
 returns-3 : tie.Need-returns-3
 returns-3 c =
     let t = c .before .before .before .before .before .before .before in
@@ -53,11 +41,4 @@ pub convert-plan-spec : {M : Type 1} → statement M
 convert-plan-spec =
     tie.close
     (tie.spec
-    check-old-requires
-    enum-known-old
-    returns
-    enum-told
-    returns-2
-    write-plan-requires
-    same-length
-    returns-3)
+    (λ c κs. search needs) (λ c. search needs) returns (λ c. search needs) returns-2 write-plan-requires (λ c. search needs) returns-3)

@@ -6,22 +6,10 @@ use borrow.Author.Needs.{needs}
 use Rattle.differences.proofs.calls.check_copies.Statement.{statement}
 use Rattle.differences.proofs.calls.check_copies.Tie as tie
 
-check-items-requires : tie.Need-check-items-requires
-check-items-requires c κs = search needs
-
-enum-known-table : tie.Need-enum-known-table
-enum-known-table c = search needs
-
 returns : tie.Need-returns
 returns c =
     let a = c .before .before .before .before .before .before .before .args in
     sym (table-stops (now (a .items)) (now (a .first)) (now (a .second)) (sym (c .before .before .before .check-items .ensures) ∙ c .before .table .given .1))
-
-enum-told : tie.Need-enum-told
-enum-told c = search needs
-
-check-ends-requires : tie.Need-check-ends-requires
-check-ends-requires c κs = search needs
 
 returns-2 : tie.Need-returns-2
 returns-2 c =
@@ -30,12 +18,4 @@ returns-2 c =
     c .check-ends .ensures ∙ sym (ends-decide (now (a .items)) (now (a .first)) (now (a .second)) table)
 
 pub check-copies-spec : {M : Type 1} → statement M
-check-copies-spec =
-    tie.close
-    (tie.spec
-    check-items-requires
-    enum-known-table
-    returns
-    enum-told
-    check-ends-requires
-    returns-2)
+check-copies-spec = tie.close (tie.spec (λ c κs. search needs) (λ c. search needs) returns (λ c. search needs) (λ c κs. search needs) returns-2)

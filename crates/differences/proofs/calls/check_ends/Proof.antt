@@ -21,27 +21,12 @@ abbrev μ-loop : tie.MeasureT-loop
 loop-holds : tie.Need-loop-holds Inv-loop μ-loop
 loop-holds c = passed-none _ _ _
 
-row-at-requires : tie.Need-row-at-requires Inv-loop μ-loop
-row-at-requires c κs = omega arith
-
-ends-within-requires : tie.Need-ends-within-requires Inv-loop μ-loop
-ends-within-requires c κs = tt
-
-ends-within-requires-2 : tie.Need-ends-within-requires-2 Inv-loop μ-loop
-ends-within-requires-2 c κs = tt
-
 returns : tie.Need-returns Inv-loop μ-loop
 returns c =
     let row = c .before .before .before .row-at .ensures in
     let one = c .before .before .ends-within .ensures ∙ ap (λ (r : Row). liesIn r (now (c .before .before .before .before .before .before .before .before .before .args .first))) row in
     let other = c .before .ends-within2 .ensures ∙ ap (λ (r : Row). liesIn r (now (c .before .before .before .before .before .before .before .before .before .args .second))) row in
     failed-at (c .before .before .before .before .before .loop .inv) (c .before .before .before .before .loop-test .taken) (ap₂ _&&_ one other) (c .if1 .taken)
-
-add-v : tie.Need-add-v Inv-loop μ-loop
-add-v c = omega arith
-
-loop-less : tie.Need-loop-less Inv-loop μ-loop
-loop-less c = omega arith
 
 loop-again : tie.Need-loop-again Inv-loop μ-loop
 loop-again c =
@@ -57,14 +42,4 @@ pub check-ends-spec : {M : Type 1} → statement M
 check-ends-spec =
     tie.close
     (tie.spec
-    Inv-loop
-    μ-loop
-    loop-holds
-    row-at-requires
-    ends-within-requires
-    ends-within-requires-2
-    returns
-    add-v
-    loop-less
-    loop-again
-    returns-2)
+    Inv-loop μ-loop loop-holds (λ c κs. omega arith) (λ c κs. tt) (λ c κs. tt) returns (λ c. omega arith) (λ c. omega arith) loop-again returns-2)

@@ -25,22 +25,10 @@ loop-holds c =
     let a = c .before .before .before .args in
     (omega arith, sym (ap length (listed-none (entryAt (now (a .items)) (now (a .first)) (now (a .second))))), omega arith)
 
-row-at-requires : tie.Need-row-at-requires Inv-loop μ-loop
-row-at-requires c κs = omega arith
-
 item-differs-requires : tie.Need-item-differs-requires Inv-loop μ-loop
 item-differs-requires c κs =
     let a = c .before .before .before .before .before .before .args in
     held (now (a .items)) (now (a .first)) (now (a .second)) (c .before .before .before .before .before .before .pre) (c .before .before .loop .v) (c .before .loop-test .taken) (c .row-at .ensures)
-
-add-count : tie.Need-add-count Inv-loop μ-loop
-add-count c = omega arith
-
-add-v : tie.Need-add-v Inv-loop μ-loop
-add-v c = omega arith
-
-loop-less : tie.Need-loop-less Inv-loop μ-loop
-loop-less c = omega arith
 
 loop-again : tie.Need-loop-again Inv-loop μ-loop
 loop-again c =
@@ -73,13 +61,5 @@ pub count-differences-spec : {M : Type 1} → statement M
 count-differences-spec =
     tie.close
     (tie.spec
-    Inv-loop
-    μ-loop
-    loop-holds
-    row-at-requires
-    item-differs-requires
-    add-count
-    add-v
-    loop-less
-    loop-again
+    Inv-loop μ-loop loop-holds (λ c κs. omega arith) item-differs-requires (λ c. omega arith) (λ c. omega arith) (λ c. omega arith) loop-again
     returns)

@@ -12,29 +12,14 @@ use borrow.Author.Needs.{needs}
 use Rattle.differences.proofs.calls.differ.Statement.{statement}
 use Rattle.differences.proofs.calls.differ.Tie as tie
 
-check-copies-requires : tie.Need-check-copies-requires
-check-copies-requires c κs = search needs
-
-enum-known-line : tie.Need-enum-known-line
-enum-known-line c = search needs
-
 returns : tie.Need-returns
 returns c =
     let a = c .before .before .before .before .before .before .before .before .args in
     let m = sym (stopped (now (a .items)) (now (a .first)) (now (a .second)) (now (a .output)) (sym (c .before .before .before .check-copies .ensures) ∙ c .before .line .given .1)) in
     (ap (λ (g : Differing). g .answer) m, ap (λ (g : Differing). g .output) m)
 
-enum-told : tie.Need-enum-told
-enum-told c = search needs
-
 count-differences-requires : tie.Need-count-differences-requires
 count-differences-requires c κs = sym (c .before .before .check-copies .ensures) ∙ c .enum-told .given .1
-
-check-room-requires : tie.Need-check-room-requires
-check-room-requires c κs = search needs
-
-enum-known-room : tie.Need-enum-known-room
-enum-known-room c = search needs
 
 returns-2 : tie.Need-returns-2
 returns-2 c =
@@ -45,9 +30,6 @@ returns-2 c =
     let m = sym (crowded (now (a .items)) (now (a .first)) (now (a .second)) (now (a .output)) lines room) in
     (ap (λ (g : Differing). g .answer) m, ap (λ (g : Differing). g .output) m)
 
-enum-told-2 : tie.Need-enum-told-2
-enum-told-2 c = search needs
-
 write-differences-requires : tie.Need-write-differences-requires
 write-differences-requires c κs =
     let a = c .before .before .before .before .before .before .before .before .before .before .before .before .args in
@@ -55,9 +37,6 @@ write-differences-requires c κs =
     let needed = ap (λ (n : ℕ). roomCheck n (length (now (a .output)))) (c .before .before .before .before .count-differences .ensures) in
     let room = sym (c .before .before .before .check-room .ensures ∙ needed) ∙ c .before .enum-told2 .given .1 in
     (lines, room-fact (length (differences (now (a .items)) (now (a .first)) (now (a .second)))) (length (now (a .output))) room)
-
-same-length : tie.Need-same-length
-same-length c = search needs
 
 returns-3 : tie.Need-returns-3
 returns-3 c =
@@ -76,15 +55,5 @@ pub differ-spec : {M : Type 1} → statement M
 differ-spec =
     tie.close
     (tie.spec
-    check-copies-requires
-    enum-known-line
-    returns
-    enum-told
-    count-differences-requires
-    check-room-requires
-    enum-known-room
-    returns-2
-    enum-told-2
-    write-differences-requires
-    same-length
-    returns-3)
+    (λ c κs. search needs) (λ c. search needs) returns (λ c. search needs) count-differences-requires (λ c κs. search needs) (λ c. search needs)
+    returns-2 (λ c. search needs) write-differences-requires (λ c. search needs) returns-3)

@@ -1,5 +1,5 @@
 -- The laws of a loop that lists.
-use Prim.Native.Nat.{ℕ, _+_, _-_}
+use Prim.Native.Nat.{_+_, _-_}
 use native.Mathlib.Omega.{arith}
 use mathlib.Core.Path.{ap, _∙_}
 use lib.ListN.{length}
@@ -22,9 +22,6 @@ abbrev μ-loop : tie.MeasureT-loop
 loop-holds : tie.Need-loop-holds Inv-loop μ-loop
 loop-holds c = listing-start _ _ _
 
-row-at-requires : tie.Need-row-at-requires Inv-loop μ-loop
-row-at-requires c κs = omega arith
-
 cast-list-row : tie.Need-cast-list-row Inv-loop μ-loop
 cast-list-row c =
     let a = c .before .before .before .before .before .before .before .args in
@@ -39,12 +36,6 @@ list-row-requires c κs =
       rw e (listing-fits (c .before .before .before .loop .inv) (c .before .before .loop-test .taken) (c .before .before .before .before .before .before .before .before .pre .1)),
     )
 
-add-v : tie.Need-add-v Inv-loop μ-loop
-add-v c = omega arith
-
-loop-less : tie.Need-loop-less Inv-loop μ-loop
-loop-less c = omega arith
-
 loop-again : tie.Need-loop-again Inv-loop μ-loop
 loop-again c =
     let a = c .before .before .before .before .before .before .before .before .before .before .before .args in
@@ -57,9 +48,6 @@ loop-again c =
     (called .1 ∙ ap (λ (r : Row). sets (at-loop .list) (at-loop .count) (entryOf r (at-loop .v) (part r first) (part r second))) row)
     (called .0 ∙ ap (λ (r : Row). at-loop .count + length (entryOf r (at-loop .v) (part r first) (part r second))) row)
 
-same-length : tie.Need-same-length Inv-loop μ-loop
-same-length c = c .before .loop .inv .long
-
 returns : tie.Need-returns Inv-loop μ-loop
 returns c = listing-list (c .before .loop .inv) (c .loop-test .left)
 
@@ -67,14 +55,5 @@ pub write-differences-spec : {M : Type 1} → statement M
 write-differences-spec =
     tie.close
     (tie.spec
-    Inv-loop
-    μ-loop
-    loop-holds
-    row-at-requires
-    cast-list-row
-    list-row-requires
-    add-v
-    loop-less
-    loop-again
-    same-length
-    returns)
+    Inv-loop μ-loop loop-holds (λ c κs. omega arith) cast-list-row list-row-requires (λ c. omega arith) (λ c. omega arith) loop-again
+    (λ c. c .before .loop .inv .long) returns)

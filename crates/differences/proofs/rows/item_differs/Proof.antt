@@ -1,22 +1,10 @@
 -- What the callees ensure.
 use mathlib.Core.Path.{ap, ap₂, _∙_}
-use mathlib.Core.Bool.{Bool, not, _&&_}
+use mathlib.Core.Bool.{not, _&&_}
 use Rattle.items.specs.Items.{same}
 use borrow.Author.Needs.{needs}
 use Rattle.differences.proofs.rows.item_differs.Statement.{statement}
 use Rattle.differences.proofs.rows.item_differs.Tie as tie
-
-row-part-requires : tie.Need-row-part-requires
-row-part-requires c κs = search needs
-
-row-part-requires-2 : tie.Need-row-part-requires-2
-row-part-requires-2 c κs = search needs
-
-same-bytes-requires : tie.Need-same-bytes-requires
-same-bytes-requires c κs = search needs
-
-is-group-requires : tie.Need-is-group-requires
-is-group-requires c κs = search needs
 
 returns : tie.Need-returns
 returns c =
@@ -24,6 +12,4 @@ returns c =
     ap₂ _&&_ (ap not (c .is-group .ensures)) (ap not (c .before .same-bytes .ensures ∙ parts))
 
 pub item-differs-spec : {M : Type 1} → statement M
-item-differs-spec =
-    tie.close
-    (tie.spec row-part-requires row-part-requires-2 same-bytes-requires is-group-requires returns)
+item-differs-spec = tie.close (tie.spec (λ c κs. search needs) (λ c κs. search needs) (λ c κs. search needs) (λ c κs. search needs) returns)

@@ -8,29 +8,17 @@ use borrow.Author.Needs.{needs}
 use Rattle.differences.proofs.rows.list_row.Statement.{statement}
 use Rattle.differences.proofs.rows.list_row.Tie as tie
 
-item-differs-requires : tie.Need-item-differs-requires
-item-differs-requires c κs = search needs
-
 returns : tie.Need-returns
 returns c =
     let a = c .before .before .before .before .before .args in
     none-listed (a .row) (a .v) (part (a .row) (now (a .first))) (part (a .row) (now (a .second))) (now (a .list)) (a .count)
     (fails (c .before .item-differs .ensures) (c .if1 .taken))
 
-mark-of-requires : tie.Need-mark-of-requires
-mark-of-requires c κs = search needs
-
 put-entry-requires : tie.Need-put-entry-requires
 put-entry-requires c κs =
     let a = c .before .before .before .before .before .before .before .args in
     two-fit (a .row) (a .v) (part (a .row) (now (a .first))) (part (a .row) (now (a .second))) (now (a .list)) (a .count)
     (passes (c .before .before .before .item-differs .ensures) (c .before .before .if1 .left)) (c .before .before .before .before .before .before .before .pre .1)
-
-add-result : tie.Need-add-result
-add-result c = search needs
-
-same-length : tie.Need-same-length
-same-length c = search needs
 
 returns-2 : tie.Need-returns-2
 returns-2 c =
@@ -43,10 +31,4 @@ pub list-row-spec : {M : Type 1} → statement M
 list-row-spec =
     tie.close
     (tie.spec
-    item-differs-requires
-    returns
-    mark-of-requires
-    put-entry-requires
-    add-result
-    same-length
-    returns-2)
+    (λ c κs. search needs) returns (λ c κs. search needs) put-entry-requires (λ c. search needs) (λ c. search needs) returns-2)

@@ -7,23 +7,8 @@ use borrow.Author.Needs.{needs}
 use Rattle.differences.proofs.rows.put_entry.Statement.{statement}
 use Rattle.differences.proofs.rows.put_entry.Tie as tie
 
-mul-list : tie.Need-mul-list
-mul-list c = search needs
-
-slice-write-list : tie.Need-slice-write-list
-slice-write-list c = search needs
-
-add-list : tie.Need-add-list
-add-list c = search needs
-
-mul-list-2 : tie.Need-mul-list-2
-mul-list-2 c = search needs
-
 slice-write-list-2 : tie.Need-slice-write-list-2
 slice-write-list-2 c = omega (arith, length-set (now (c .args .list)) (c .args .place) (c .args .row))
-
-same-length : tie.Need-same-length
-same-length c = search needs
 
 returns : tie.Need-returns
 returns c = rw (add-one (c .args .place))
@@ -31,4 +16,5 @@ returns c = rw (add-one (c .args .place))
 pub put-entry-spec : {M : Type 1} → statement M
 put-entry-spec =
     tie.close
-    (tie.spec mul-list slice-write-list add-list mul-list-2 slice-write-list-2 same-length returns)
+    (tie.spec
+    (λ c. search needs) (λ c. search needs) (λ c. search needs) (λ c. search needs) slice-write-list-2 (λ c. search needs) returns)

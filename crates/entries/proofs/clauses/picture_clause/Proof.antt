@@ -7,18 +7,6 @@ use borrow.Author.Needs.{needs}
 use Rattle.entries.proofs.clauses.picture_clause.Statement.{statement}
 use Rattle.entries.proofs.clauses.picture_clause.Tie as tie
 
-picture-at-requires : tie.Need-picture-at-requires
-picture-at-requires c κs = search needs
-
-enum-known-kind : tie.Need-enum-known-kind
-enum-known-kind c = search needs
-
-ended-requires : tie.Need-ended-requires
-ended-requires c κs = search needs
-
-enum-known-signed : tie.Need-enum-known-signed
-enum-known-signed c = search needs
-
 usage-at-requires : tie.Need-usage-at-requires
 usage-at-requires c κs =
     let c5 = c .before .before .before .before .before in
@@ -28,9 +16,6 @@ usage-at-requires c κs =
       number-small (pictureAt (now (a .text)) (a .n)) (c .before .before .before .picture-at .ensures)
           (c .before .signed .given .1),
     )
-
-enum-known-k : tie.Need-enum-known-k
-enum-known-k c = search needs
 
 returns : tie.Need-returns
 returns c =
@@ -54,12 +39,5 @@ pub picture-clause-spec : {M : Type 1} → statement M
 picture-clause-spec =
     tie.close
     (tie.spec
-    picture-at-requires
-    enum-known-kind
-    ended-requires
-    enum-known-signed
-    usage-at-requires
-    enum-known-k
-    returns
-    returns-2
+    (λ c κs. search needs) (λ c. search needs) (λ c κs. search needs) (λ c. search needs) usage-at-requires (λ c. search needs) returns returns-2
     returns-3)

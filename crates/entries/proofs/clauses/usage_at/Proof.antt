@@ -1,22 +1,9 @@
 -- `usage_at` meets its contract: from the laws of proofs/ and what its callees ensure. Assumes nothing.
 use denote.Ref.{now}
-use Rattle.entries.specs.Entries.{capClauses}
 use Rattle.entries.proofs.Branches.{sign-is, packed-is}
 use borrow.Author.Needs.{needs}
 use Rattle.entries.proofs.clauses.usage_at.Statement.{statement}
 use Rattle.entries.proofs.clauses.usage_at.Tie as tie
-
-next-ink-requires : tie.Need-next-ink-requires
-next-ink-requires c κs = search needs
-
-byte-at-requires : tie.Need-byte-at-requires
-byte-at-requires c κs = search needs
-
-sign-at-requires : tie.Need-sign-at-requires
-sign-at-requires c κs = search needs
-
-packed-at-requires : tie.Need-packed-at-requires
-packed-at-requires c κs = search needs
 
 returns : tie.Need-returns
 returns c =
@@ -33,12 +20,4 @@ returns-2 c =
     (c .packed-at .ensures)
 
 pub usage-at-spec : {M : Type 1} → statement M
-usage-at-spec =
-    tie.close
-    (tie.spec
-    next-ink-requires
-    byte-at-requires
-    sign-at-requires
-    packed-at-requires
-    returns
-    returns-2)
+usage-at-spec = tie.close (tie.spec (λ c κs. search needs) (λ c κs. search needs) (λ c κs. search needs) (λ c κs. search needs) returns returns-2)

@@ -1,29 +1,15 @@
 -- `entry_at` meets its contract: from the laws of proofs/ and what its callees ensure. Assumes nothing.
-use Prim.Native.Nat.{_-_, _+_, _≤_}
-use native.Mathlib.Omega.{arith}
-use mathlib.Core.Path.{_≡_, refl, sym, ap, _∙_}
-use lib.ListN.{length, take, drop, getD}
+use Prim.Native.Nat.{_-_}
+use mathlib.Core.Path.{refl, sym, _∙_}
 use denote.Ref.{now}
-use Rattle.entries.specs.Entries.{capClauses, capEntry}
-use Rattle.entries.proofs.Branches.{via, known}
+use Rattle.entries.specs.Entries.{capEntry}
+use Rattle.entries.proofs.Branches.{via}
 use Rattle.levels.specs.Stack.{groupsOf}
 use Rattle.entries.specs.Entries.{enteredAt, leveledAt}
 use Rattle.entries.proofs.Bounds.{level-inside}
 use borrow.Author.Needs.{needs}
 use Rattle.entries.proofs.entry.entry_at.Statement.{statement}
 use Rattle.entries.proofs.entry.entry_at.Tie as tie
-
-level-at-requires : tie.Need-level-at-requires
-level-at-requires c κs = search needs
-
-enum-known-level : tie.Need-enum-known-level
-enum-known-level c = search needs
-
-enter-requires : tie.Need-enter-requires
-enter-requires c κs = search needs
-
-enum-known-d : tie.Need-enum-known-d
-enum-known-d c = search needs
 
 named-at-requires : tie.Need-named-at-requires
 named-at-requires c κs = (
@@ -37,15 +23,6 @@ named-at-requires c κs = (
       ∙ c .before .before .before .before .before .level .given .1),
   c .before .before .before .before .before .before .before .before .before .before .pre .1 .1,
 )
-
-enum-told : tie.Need-enum-told
-enum-told c = search needs
-
-enum-told-2 : tie.Need-enum-told-2
-enum-told-2 c = search needs
-
-enum-known-k : tie.Need-enum-known-k
-enum-known-k c = search needs
 
 returns : tie.Need-returns
 returns c = via (λ x. capEntry
@@ -89,15 +66,5 @@ pub entry-at-spec : {M : Type 1} → statement M
 entry-at-spec =
     tie.close
     (tie.spec
-    level-at-requires
-    enum-known-level
-    enter-requires
-    enum-known-d
-    named-at-requires
-    enum-told
-    enum-told-2
-    enum-known-k
-    returns
-    returns-2
-    returns-3
-    returns-4)
+    (λ c κs. search needs) (λ c. search needs) (λ c κs. search needs) (λ c. search needs) named-at-requires (λ c. search needs) (λ c. search needs)
+    (λ c. search needs) returns returns-2 returns-3 returns-4)

@@ -1,25 +1,11 @@
 -- `item_at` meets its contract: from the laws of proofs/ and what its callees ensure. Assumes nothing.
-use Prim.Native.Nat.{_-_, _+_, _≤_}
-use native.Mathlib.Omega.{arith}
-use mathlib.Core.Path.{_≡_, refl, sym, ap, _∙_}
-use lib.ListN.{length, take, drop, getD}
+use Prim.Native.Nat.{_-_}
 use denote.Ref.{now}
-use Rattle.entries.specs.Entries.{capClauses, capEntry}
-use Rattle.entries.proofs.Branches.{via, known}
 use Rattle.description.specs.Stages.{clausesAt}
 use Rattle.entries.proofs.Branches.{item-is, item-fault}
 use borrow.Author.Needs.{needs}
 use Rattle.entries.proofs.entry.item_at.Statement.{statement}
 use Rattle.entries.proofs.entry.item_at.Tie as tie
-
-clauses-at-requires : tie.Need-clauses-at-requires
-clauses-at-requires c κs = search needs
-
-enum-known-kind : tie.Need-enum-known-kind
-enum-known-kind c = search needs
-
-enum-known-e : tie.Need-enum-known-e
-enum-known-e c = search needs
 
 returns : tie.Need-returns
 returns c = item-is (c .before .before .before .before .before .args .level) (c .before .before .before .before .before .args .depth)
@@ -34,5 +20,4 @@ returns-2 c = item-fault (c .before .before .before .before .before .args .level
     (c .before .before .before .clauses-at .ensures) (c .before .e .given .1)
 
 pub item-at-spec : {M : Type 1} → statement M
-item-at-spec =
-    tie.close (tie.spec clauses-at-requires enum-known-kind enum-known-e returns returns-2)
+item-at-spec = tie.close (tie.spec (λ c κs. search needs) (λ c. search needs) (λ c. search needs) returns returns-2)

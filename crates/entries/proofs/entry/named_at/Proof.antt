@@ -1,44 +1,19 @@
 -- `named_at` meets its contract: from the laws of proofs/ and what its callees ensure. Assumes nothing.
-use Prim.Native.Nat.{_-_, _+_, _≤_}
+use Prim.Native.Nat.{_-_, _+_}
 use native.Mathlib.Omega.{arith}
-use mathlib.Core.Path.{_≡_, refl, sym, ap, _∙_}
-use lib.ListN.{length, take, drop, getD}
+use mathlib.Core.Path.{refl, _∙_}
 use denote.Ref.{now}
-use Rattle.entries.specs.Entries.{capClauses, capEntry}
+use Rattle.entries.specs.Entries.{capEntry}
 use Rattle.entries.proofs.Branches.{via, known}
-use Rattle.text_bytes.proofs.Laws.{inked-le}
-use Rattle.entries.specs.Entries.{itemAt, calledOf}
+use Rattle.text_bytes.proofs.Laws.{ink-within}
+use Rattle.entries.specs.Entries.{calledOf}
 use Rattle.entries.proofs.Bounds.{Names, name-reaches}
 use borrow.Author.Needs.{needs}
 use Rattle.entries.proofs.entry.named_at.Statement.{statement}
 use Rattle.entries.proofs.entry.named_at.Tie as tie
 
-narrow-requires : tie.Need-narrow-requires
-narrow-requires c κs = search needs
-
-add-next-ink : tie.Need-add-next-ink
-add-next-ink c = search needs
-
-next-ink-requires : tie.Need-next-ink-requires
-next-ink-requires c κs = search needs
-
 narrow-requires-2 : tie.Need-narrow-requires-2
-narrow-requires-2 c κs = omega (
-  arith,
-  inked-le (now (c .before .before .before .args .text)) (c .before .before .before .args .p + 2)
-      (c .before .before .before .pre .0),
-  c .next-ink .ensures,
-  c .before .before .before .pre .1,
-)
-
-add-name-at : tie.Need-add-name-at
-add-name-at c = search needs
-
-name-at-requires : tie.Need-name-at-requires
-name-at-requires c κs = search needs
-
-enum-known-k : tie.Need-enum-known-k
-enum-known-k c = search needs
+narrow-requires-2 c κs = omega (arith, ink-within _ _ _ (c .next-ink .ensures) (c .before .before .before .pre .0), c .before .before .before .pre .1)
 
 item-at-requires : tie.Need-item-at-requires
 item-at-requires c κs = (
@@ -49,12 +24,6 @@ item-at-requires c κs = (
       (c .before .before .before .before .before .before .before .before .args .level)) .1,
   c .before .before .before .before .before .before .before .before .pre .1,
 )
-
-enum-known-k-2 : tie.Need-enum-known-k-2
-enum-known-k-2 c = search needs
-
-enum-known-k-3 : tie.Need-enum-known-k-3
-enum-known-k-3 c = search needs
 
 returns : tie.Need-returns
 returns c =
@@ -84,16 +53,5 @@ pub named-at-spec : {M : Type 1} → statement M
 named-at-spec =
     tie.close
     (tie.spec
-    narrow-requires
-    add-next-ink
-    next-ink-requires
-    narrow-requires-2
-    add-name-at
-    name-at-requires
-    enum-known-k
-    item-at-requires
-    enum-known-k-2
-    enum-known-k-3
-    returns
-    returns-2
-    returns-3)
+    (λ c κs. search needs) (λ c. search needs) (λ c κs. search needs) narrow-requires-2 (λ c. search needs) (λ c κs. search needs)
+    (λ c. search needs) item-at-requires (λ c. search needs) (λ c. search needs) returns returns-2 returns-3)

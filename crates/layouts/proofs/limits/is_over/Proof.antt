@@ -3,11 +3,8 @@ use borrow.Author.Needs.{needs}
 use Rattle.layouts.proofs.limits.is_over.Statement.{statement}
 use Rattle.layouts.proofs.limits.is_over.Tie as tie
 
-most-of-requires : tie.Need-most-of-requires
-most-of-requires c κs = search needs
-
 returns : tie.Need-returns
 returns c = rw (c .before .before .before .most-of .ensures)
 
 pub is-over-spec : {M : Type 1} → statement M
-is-over-spec = tie.close (tie.spec most-of-requires returns)
+is-over-spec = tie.close (tie.spec (λ c κs. search needs) returns)

@@ -1,7 +1,7 @@
 -- `lay_rows` meets its contract: from the laws of proofs/ and what its callees ensure. Assumes nothing.
-use Prim.Native.Nat.{_-_, _+_, _*_, _≤_}
+use Prim.Native.Nat.{_-_}
 use native.Mathlib.Omega.{arith}
-use mathlib.Core.Path.{_≡_, refl, sym, ap, _∙_}
+use mathlib.Core.Path.{_≡_, refl, sym, _∙_}
 use lib.ListN.{length}
 use denote.Ref.{now}
 use Rattle.layouts.specs.Layouts.{shownRow}
@@ -21,9 +21,6 @@ loop-holds c = (lay-none (now (c .before .before .args .entries)) (c .before .be
 row-of-requires : tie.Need-row-of-requires Inv-loop μ-loop
 row-of-requires c κs = (c .loop-test .taken, (c .before .before .before .before .pre .0, c .before .before .before .before .pre .1 .0))
 
-is-over-requires : tie.Need-is-over-requires Inv-loop μ-loop
-is-over-requires c κs = omega (arith, c .before .before .before .before .before .pre .1 .0, c .before .loop-test .taken)
-
 mul-at : tie.Need-mul-at Inv-loop μ-loop
 mul-at c = omega (arith, c .before .before .before .before .before .before .before .pre .1 .0, c .before .before .before .loop-test .taken)
 
@@ -38,9 +35,6 @@ shared-slice-read-wide c = omega (arith, c .before .before .before .before .befo
 
 wide-requires : tie.Need-wide-requires Inv-loop μ-loop
 wide-requires c κs = omega (arith, c .before .before .before .before .before .before .before .before .pre .1 .0, c .before .before .before .before .loop-test .taken)
-
-same-length : tie.Need-same-length Inv-loop μ-loop
-same-length c = c .before .before .before .before .before .before .loop .inv .1
 
 returns : tie.Need-returns Inv-loop μ-loop
 returns c = lay-over (now (c .before .before .before .before .before .before .before .before .before .args .entries))
@@ -108,9 +102,6 @@ loop-again c = (
   c .before .before .before .store-row .kept .0 ∙ c .before .before .before .before .before .before .before .before .before .loop .inv .1,
 )
 
-same-length-2 : tie.Need-same-length-2 Inv-loop μ-loop
-same-length-2 c = c .before .loop .inv .1
-
 returns-2 : tie.Need-returns-2 Inv-loop μ-loop
 returns-2 c = lay-end (now (c .before .before .before .before .args .entries)) (c .before .before .before .before .args .n) (c .before .loop .rows)
     (c .before .loop .offset) (c .before .loop .i) (c .before .loop .inv .0) (c .loop-test .left)
@@ -119,23 +110,7 @@ pub lay-rows-spec : {M : Type 1} → statement M
 lay-rows-spec =
     tie.close
     (tie.spec
-    Inv-loop
-    μ-loop
-    loop-holds
-    row-of-requires
-    is-over-requires
-    mul-at
-    add-wide
-    mul-wide
-    shared-slice-read-wide
-    wide-requires
-    same-length
-    returns
-    store-row-requires
-    size-at-requires
-    add-offset
-    add-i
-    loop-less
-    loop-again
-    same-length-2
-    returns-2)
+    Inv-loop μ-loop loop-holds row-of-requires
+    (λ c κs. omega (arith, c .before .before .before .before .before .pre .1 .0, c .before .loop-test .taken)) mul-at add-wide mul-wide
+    shared-slice-read-wide wide-requires (λ c. c .before .before .before .before .before .before .loop .inv .1) returns store-row-requires
+    size-at-requires add-offset add-i loop-less loop-again (λ c. c .before .loop .inv .1) returns-2)

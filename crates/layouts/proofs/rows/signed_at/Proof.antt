@@ -5,20 +5,8 @@ use borrow.Author.Needs.{needs}
 use Rattle.layouts.proofs.rows.signed_at.Statement.{statement}
 use Rattle.layouts.proofs.rows.signed_at.Tie as tie
 
-mul-at : tie.Need-mul-at
-mul-at c = search needs
-
-add-kind : tie.Need-add-kind
-add-kind c = search needs
-
-mul-kind : tie.Need-mul-kind
-mul-kind c = search needs
-
-shared-slice-read-kind : tie.Need-shared-slice-read-kind
-shared-slice-read-kind c = search needs
-
 returns : tie.Need-returns
 returns c = signed-is (now (c .before .args .entries)) (c .before .args .i)
 
 pub signed-at-spec : {M : Type 1} → statement M
-signed-at-spec = tie.close (tie.spec mul-at add-kind mul-kind shared-slice-read-kind returns)
+signed-at-spec = tie.close (tie.spec (λ c. search needs) (λ c. search needs) (λ c. search needs) (λ c. search needs) returns)

@@ -1,7 +1,6 @@
 -- `sum_below` meets its contract: from the laws of proofs/ and what its callees ensure. Assumes nothing.
-use Prim.Native.Nat.{_-_, _+_, _*_, _≤_}
+use Prim.Native.Nat.{_-_, _≤_}
 use native.Mathlib.Omega.{arith}
-use lib.ListN.{length}
 use denote.Ref.{now}
 use borrow.Author.Tests.{not-true, not-false}
 use Rattle.layouts.proofs.Laying.{SoFar, sum-none, sum-more, sum-stop, sum-end}
@@ -16,12 +15,6 @@ abbrev μ-loop : tie.MeasureT-loop
 
 loop-holds : tie.Need-loop-holds Inv-loop μ-loop
 loop-holds c = (c .before .pre .0, sum-none (now (c .before .args .entries)) (c .before .args .i) (c .before .args .n) (c .before .args .level))
-
-mul-l : tie.Need-mul-l Inv-loop μ-loop
-mul-l c = omega (arith, c .before .before .before .pre .1 .1, c .before .before .before .pre .1 .0)
-
-mul-l-2 : tie.Need-mul-l-2 Inv-loop μ-loop
-mul-l-2 c = omega (arith, c .before .before .before .pre .1 .1, c .before .before .before .pre .1 .0)
 
 shared-slice-read-l : tie.Need-shared-slice-read-l Inv-loop μ-loop
 shared-slice-read-l c = omega (arith, c .before .before .before .before .pre .1 .1, c .before .before .before .before .pre .1 .0)
@@ -66,17 +59,6 @@ pub sum-below-spec : {M : Type 1} → statement M
 sum-below-spec =
     tie.close
     (tie.spec
-    Inv-loop
-    μ-loop
-    loop-holds
-    mul-l
-    mul-l-2
-    shared-slice-read-l
-    returns
-    size-at-requires
-    add-size
-    signed-at-requires
-    add-k
-    loop-less
-    loop-again
-    returns-2)
+    Inv-loop μ-loop loop-holds (λ c. omega (arith, c .before .before .before .pre .1 .1, c .before .before .before .pre .1 .0))
+    (λ c. omega (arith, c .before .before .before .pre .1 .1, c .before .before .before .pre .1 .0)) shared-slice-read-l returns size-at-requires
+    add-size signed-at-requires add-k loop-less loop-again returns-2)

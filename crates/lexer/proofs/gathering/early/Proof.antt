@@ -1,10 +1,5 @@
 -- `early` meets its contract.
-use mathlib.Core.Path.{_≡_, refl, sym, ap, _∙_}
-use Prim.Native.Nat.{_+_, _-_, _*_, _≤_, _<_}
-use native.Mathlib.Omega.{arith}
-use lib.ListN.{length, length-set, length-drop}
-use denote.Ref.{now}
-use borrow.Author.Needs.{needs}
+use Prim.Native.Nat.{_-_}
 use borrow.Author.Tests.{lt-ltb, le-ltb}
 use Rattle.lexer.proofs.gathering.early.Statement.{statement}
 use Rattle.lexer.proofs.gathering.early.Tie as tie

@@ -1,11 +1,12 @@
 -- `gather` meets its contract. The loop's invariant: what is gathered, with what is left, is the whole.
-use mathlib.Core.Path.{_≡_, refl, sym, ap, _∙_}
-use Prim.Native.Nat.{_+_, _-_, _*_, _≤_, _<_}
+use mathlib.Core.Path.{_≡_, refl, _∙_}
+use Prim.Native.Nat.{_-_}
 use native.Mathlib.Omega.{arith}
-use lib.ListN.{length, length-set, length-drop}
+use lib.ListN.{length}
 use denote.Ref.{now}
 use borrow.Author.Needs.{needs}
 use Rattle.naming.specs.Named.{knownAt}
+use Rattle.spelling.specs.Names.{Book}
 use Rattle.lexer.specs.Gathers.{totalOf, bookIn, Gathers, Bounds}
 use Rattle.lexer.proofs.Ending.{nothing, few-yet, rooms-stay, on-step, whole-past, long-past, whole-end, long-end, fault-end}
 use Rattle.lexer.proofs.gathering.gather.Statement.{statement}
@@ -22,20 +23,32 @@ Inv-loop description places items text literals content tokens₀ rows₀ bytes�
 abbrev μ-loop : tie.MeasureT-loop
 μ-loop description places items text literals content tokens₀ rows₀ bytes₀ held₀ tokens rows bytes held = 2048 - held .past
 
+-- the book that is read by
+abbrev book : tie.Start Inv-loop μ-loop → Book
+book start = bookIn (knownAt (now (start .args .description)) (start .args .items) (now (start .args .places))) (start .args .literals) (start .args .content)
+    (now (start .args .rows)) (now (start .args .bytes))
+
+-- what a step started with; it leaves each output as long as it was lent
+abbrev first : tie.After-step Inv-loop μ-loop → tie.Start Inv-loop μ-loop
+first c = c .before .before .before .before .before .before .before .before .before .before .before .before .before
+
+still : (c : tie.After-step Inv-loop μ-loop) → (length (c .step .last .1 .1 .1 .1 .1 .0) ≡ length (now (first c .args .tokens)))
+    × (length (c .step .last .1 .1 .1 .1 .1 .1 .0) ≡ length (now (first c .args .rows)))
+    × (length (c .step .last .1 .1 .1 .1 .1 .1 .1 .0) ≡ length (now (first c .args .bytes)))
+still c =
+    let i = c .before .before .before .before .before .before .loop .inv in
+    (c .step .kept .1 .1 .1 .1 .1 .0 ∙ i .2, c .step .kept .1 .1 .1 .1 .1 .1 .0 ∙ i .3, c .step .kept .1 .1 .1 .1 .1 .1 .1 .0 ∙ i .4)
+
 loop-holds : tie.Need-loop-holds Inv-loop μ-loop
-loop-holds c = (
-  nothing (knownAt (now (c .before .before .before .before .before .before .args .description)) (c .before .before .before .before .before .before .args .items) (now
-      (c .before .before .before .before .before .before .args .places)))
-      (now (c .before .before .before .before .before .before .args .text)) (c .before .before .before .before .before .before .args .literals)
-      (c .before .before .before .before .before .before .args .content) _ _ _ (c .before .before .before .before .before .before .pre .2)
-      (c .before .before .before .before .before .before .pre .3) (c .before .before .before .before .before .before .pre .1),
-  few-yet (now (c .before .before .before .before .before .before .args .text)) (c .before .before .before .before .before .before .args .literals)
-      (c .before .before .before .before .before .before .args .content) (c .before .before .before .before .before .before .pre .2)
-      (c .before .before .before .before .before .before .pre .3),
-  refl,
-  refl,
-  refl,
-)
+loop-holds c =
+    let start = c .before .before .before .before .before .before in
+    let a = start .args in (
+      nothing (knownAt (now (a .description)) (a .items) (now (a .places))) (now (a .text)) (a .literals) (a .content) _ _ _ (start .pre .2) (start .pre .3) (start .pre .1),
+      few-yet (now (a .text)) (a .literals) (a .content) (start .pre .2) (start .pre .3),
+      refl,
+      refl,
+      refl,
+    )
 
 step-requires : tie.Need-step-requires Inv-loop μ-loop
 step-requires c κs =
@@ -49,177 +62,72 @@ step-requires c κs =
       },
     )
 
-enum-known-stepped : tie.Need-enum-known-stepped Inv-loop μ-loop
-enum-known-stepped c = search needs
-
 loop-less : tie.Need-loop-less Inv-loop μ-loop
 loop-less c =
-    let c9 = c .before .before .before .before .before .before .before .before .before in
-    let c13 = c9 .before .before .before .before in
-    let c22 = c13 .before .before .before .before .before .before .before .before .before in
-    let a = c22 .args in
+    let s = c .before .before .before .before .before .before .before .before .before in
+    let l = s .before .before .before .before .before .before .loop in
+    let start = first s in
     omega (
       arith,
-      on-step (bookIn (knownAt (now (a .description)) (a .items) (now (a .places))) (a .literals) (a .content) (now (a .rows)) (now (a .bytes)))
-          (now (a .text)) (c13 .before .before .loop .inv .0) (c13 .before .before .loop .inv .1) (c9 .step .result) (c9 .step .ensures) (c .before .stepped .given .1) .2,
-      c13 .if1 .taken,
+      on-step (book start) (now (start .args .text)) (l .inv .0) (l .inv .1) (s .step .result) (s .step .ensures) (c .before .stepped .given .1) .2,
+      s .before .before .before .before .if1 .taken,
     )
 
 loop-again : tie.Need-loop-again Inv-loop μ-loop
 loop-again c =
-    let c9 = c .before .before .before .before .before .before .before .before .before in
-    let c15 = c9 .before .before .before .before .before .before in
-    let c22 = c15 .before .before .before .before .before .before .before in
-    let a = c22 .args in
-    let i = c15 .loop .inv in
-    let s = on-step (bookIn (knownAt (now (a .description)) (a .items) (now (a .places))) (a .literals) (a .content) (now (a .rows)) (now (a .bytes)))
-    (now (a .text)) (c15 .loop .inv .0) (c15 .loop .inv .1) (c9 .step .result) (c9 .step .ensures) (c .before .stepped .given .1) in
-    (s .0, s .1, c9 .step .kept .1 .1 .1 .1 .1 .0 ∙ i .2, c9 .step .kept .1 .1 .1 .1 .1 .1 .0 ∙ i .3, c9 .step .kept .1 .1 .1 .1 .1 .1 .1 .0 ∙ i .4)
-
-enum-told : tie.Need-enum-told Inv-loop μ-loop
-enum-told c = search needs
-
-same-length : tie.Need-same-length Inv-loop μ-loop
-same-length c = c .before .before .before .before .before .before .before .before .before .step .kept .1 .1 .1 .1 .1 .0
-    ∙ c .before .before .before .before .before .before .before .before .before .before .before .before .before .before .before .loop .inv .2
-
-same-length-2 : tie.Need-same-length-2 Inv-loop μ-loop
-same-length-2 c = c .before .before .before .before .before .before .before .before .before .step .kept .1 .1 .1 .1 .1 .1 .0
-    ∙ c .before .before .before .before .before .before .before .before .before .before .before .before .before .before .before .loop .inv .3
-
-same-length-3 : tie.Need-same-length-3 Inv-loop μ-loop
-same-length-3 c = c .before .before .before .before .before .before .before .before .before .step .kept .1 .1 .1 .1 .1 .1 .1 .0
-    ∙ c .before .before .before .before .before .before .before .before .before .before .before .before .before .before .before .loop .inv .4
+    let s = c .before .before .before .before .before .before .before .before .before in
+    let l = s .before .before .before .before .before .before .loop in
+    let start = first s in
+    let on = on-step (book start) (now (start .args .text)) (l .inv .0) (l .inv .1) (s .step .result) (s .step .ensures) (c .before .stepped .given .1) in
+    (on .0, on .1, still s .0, still s .1, still s .2)
 
 returns : tie.Need-returns Inv-loop μ-loop
 returns c =
-    let c9 = c .before .before .before .before .before .before .before .before .before in
-    let c15 = c9 .before .before .before .before .before .before in
-    let c22 = c15 .before .before .before .before .before .before .before in
-    let a = c22 .args in
-    whole-end (bookIn (knownAt (now (a .description)) (a .items) (now (a .places))) (a .literals) (a .content) (now (a .rows)) (now (a .bytes))) (now
-    (a .text)) (c15 .loop .inv .0) (c15 .loop .inv .1) (c9 .step .result) (c9 .step .ensures) (c .before .enum-told .given .1) (c .if2 .taken)
-
-same-length-4 : tie.Need-same-length-4 Inv-loop μ-loop
-same-length-4 c = c .before .before .before .before .before .before .before .before .before .step .kept .1 .1 .1 .1 .1 .0
-    ∙ c .before .before .before .before .before .before .before .before .before .before .before .before .before .before .before .loop .inv .2
-
-same-length-5 : tie.Need-same-length-5 Inv-loop μ-loop
-same-length-5 c = c .before .before .before .before .before .before .before .before .before .step .kept .1 .1 .1 .1 .1 .1 .0
-    ∙ c .before .before .before .before .before .before .before .before .before .before .before .before .before .before .before .loop .inv .3
-
-same-length-6 : tie.Need-same-length-6 Inv-loop μ-loop
-same-length-6 c = c .before .before .before .before .before .before .before .before .before .step .kept .1 .1 .1 .1 .1 .1 .1 .0
-    ∙ c .before .before .before .before .before .before .before .before .before .before .before .before .before .before .before .loop .inv .4
+    let s = c .before .before .before .before .before .before .before .before .before in
+    let l = s .before .before .before .before .before .before .loop in
+    let start = first s in
+    whole-end (book start) (now (start .args .text)) (l .inv .0) (l .inv .1) (s .step .result) (s .step .ensures) (c .before .enum-told .given .1) (c .if2 .taken)
 
 returns-2 : tie.Need-returns-2 Inv-loop μ-loop
 returns-2 c =
-    let c9 = c .before .before .before .before .before .before .before .before .before in
-    let c15 = c9 .before .before .before .before .before .before in
-    let c22 = c15 .before .before .before .before .before .before .before in
-    let a = c22 .args in
-    long-end (bookIn (knownAt (now (a .description)) (a .items) (now (a .places))) (a .literals) (a .content) (now (a .rows)) (now (a .bytes))) (now
-    (a .text)) (c15 .loop .inv .0) (c15 .loop .inv .1) (c9 .step .result) (c9 .step .ensures) (c .before .enum-told .given .1) (c .if2 .left)
-
-enum-known-stepped-2 : tie.Need-enum-known-stepped-2 Inv-loop μ-loop
-enum-known-stepped-2 c = search needs
-
-early-requires : tie.Need-early-requires Inv-loop μ-loop
-early-requires c κs = search needs
-
-same-length-7 : tie.Need-same-length-7 Inv-loop μ-loop
-same-length-7 c = c .before .before .before .before .before .before .before .before .before .before .step .kept .1 .1 .1 .1 .1 .0
-    ∙ c .before .before .before .before .before .before .before .before .before .before .before .before .before .before .before .before .loop .inv .2
-
-same-length-8 : tie.Need-same-length-8 Inv-loop μ-loop
-same-length-8 c = c .before .before .before .before .before .before .before .before .before .before .step .kept .1 .1 .1 .1 .1 .1 .0
-    ∙ c .before .before .before .before .before .before .before .before .before .before .before .before .before .before .before .before .loop .inv .3
-
-same-length-9 : tie.Need-same-length-9 Inv-loop μ-loop
-same-length-9 c = c .before .before .before .before .before .before .before .before .before .before .step .kept .1 .1 .1 .1 .1 .1 .1 .0
-    ∙ c .before .before .before .before .before .before .before .before .before .before .before .before .before .before .before .before .loop .inv .4
+    let s = c .before .before .before .before .before .before .before .before .before in
+    let l = s .before .before .before .before .before .before .loop in
+    let start = first s in
+    long-end (book start) (now (start .args .text)) (l .inv .0) (l .inv .1) (s .step .result) (s .step .ensures) (c .before .enum-told .given .1) (c .if2 .left)
 
 returns-3 : tie.Need-returns-3 Inv-loop μ-loop
 returns-3 c =
-    let c10 = c .before .before .before .before .before .before .before .before .before .before in
-    let c16 = c10 .before .before .before .before .before .before in
-    let c23 = c16 .before .before .before .before .before .before .before in
-    let a = c23 .args in
-    fault-end (bookIn (knownAt (now (a .description)) (a .items) (now (a .places))) (a .literals) (a .content) (now (a .rows)) (now (a .bytes))) (now
-    (a .text)) (c16 .loop .inv .0) (c16 .loop .inv .1) (c10 .step .result) (c10 .step .ensures) (c .early .result) (c .before .before .stepped2 .given .1)
-    (c .early .ensures)
-
-same-length-10 : tie.Need-same-length-10 Inv-loop μ-loop
-same-length-10 c = c .before .before .before .loop .inv .2
-
-same-length-11 : tie.Need-same-length-11 Inv-loop μ-loop
-same-length-11 c = c .before .before .before .loop .inv .3
-
-same-length-12 : tie.Need-same-length-12 Inv-loop μ-loop
-same-length-12 c = c .before .before .before .loop .inv .4
+    let s = c .before .before .before .before .before .before .before .before .before .before in
+    let l = s .before .before .before .before .before .before .loop in
+    let start = first s in
+    fault-end (book start) (now (start .args .text)) (l .inv .0) (l .inv .1) (s .step .result) (s .step .ensures) (c .early .result)
+    (c .before .before .stepped2 .given .1) (c .early .ensures)
 
 returns-4 : tie.Need-returns-4 Inv-loop μ-loop
-returns-4 c = whole-past (bookIn (knownAt (now (c .before .before .before .before .before .before .before .before .before .before .args .description))
-    (c .before .before .before .before .before .before .before .before .before .before .args .items) (now
-    (c .before .before .before .before .before .before .before .before .before .before .args .places)))
-    (c .before .before .before .before .before .before .before .before .before .before .args .literals)
-    (c .before .before .before .before .before .before .before .before .before .before .args .content) (now
-    (c .before .before .before .before .before .before .before .before .before .before .args .rows)) (now
-    (c .before .before .before .before .before .before .before .before .before .before .args .bytes))) (now
-    (c .before .before .before .before .before .before .before .before .before .before .args .text)) (c .before .before .before .loop .inv .0)
-    (c .before .before .before .loop .inv .1) (c .before .if1 .left) (c .if3 .taken)
-
-same-length-13 : tie.Need-same-length-13 Inv-loop μ-loop
-same-length-13 c = c .before .before .before .loop .inv .2
-
-same-length-14 : tie.Need-same-length-14 Inv-loop μ-loop
-same-length-14 c = c .before .before .before .loop .inv .3
-
-same-length-15 : tie.Need-same-length-15 Inv-loop μ-loop
-same-length-15 c = c .before .before .before .loop .inv .4
+returns-4 c =
+    let l = c .before .before .before in
+    let start = l .before .before .before .before .before .before .before in
+    whole-past (book start) (now (start .args .text)) (l .loop .inv .0) (l .loop .inv .1) (c .before .if1 .left) (c .if3 .taken)
 
 returns-5 : tie.Need-returns-5 Inv-loop μ-loop
-returns-5 c = long-past (bookIn (knownAt (now (c .before .before .before .before .before .before .before .before .before .before .args .description))
-    (c .before .before .before .before .before .before .before .before .before .before .args .items) (now
-    (c .before .before .before .before .before .before .before .before .before .before .args .places)))
-    (c .before .before .before .before .before .before .before .before .before .before .args .literals)
-    (c .before .before .before .before .before .before .before .before .before .before .args .content) (now
-    (c .before .before .before .before .before .before .before .before .before .before .args .rows)) (now
-    (c .before .before .before .before .before .before .before .before .before .before .args .bytes))) (now
-    (c .before .before .before .before .before .before .before .before .before .before .args .text)) (c .before .before .before .loop .inv .0)
-    (c .before .before .before .loop .inv .1) (c .before .if1 .left) (c .if3 .left)
+returns-5 c =
+    let l = c .before .before .before in
+    let start = l .before .before .before .before .before .before .before in
+    long-past (book start) (now (start .args .text)) (l .loop .inv .0) (l .loop .inv .1) (c .before .if1 .left) (c .if3 .left)
 
 pub gather-spec : {M : Type 1} → statement M
 gather-spec =
     tie.close
     (tie.spec
-    Inv-loop
-    μ-loop
-    loop-holds
-    step-requires
-    enum-known-stepped
-    loop-less
-    loop-again
-    enum-told
-    same-length
-    same-length-2
-    same-length-3
-    returns
-    same-length-4
-    same-length-5
-    same-length-6
-    returns-2
-    enum-known-stepped-2
-    early-requires
-    same-length-7
-    same-length-8
-    same-length-9
-    returns-3
-    same-length-10
-    same-length-11
-    same-length-12
-    returns-4
-    same-length-13
-    same-length-14
-    same-length-15
-    returns-5)
+    Inv-loop μ-loop loop-holds step-requires (λ c. search needs) loop-less loop-again (λ c. search needs)
+    (λ c. still (c .before .before .before .before .before .before .before .before .before) .0)
+    (λ c. still (c .before .before .before .before .before .before .before .before .before) .1)
+    (λ c. still (c .before .before .before .before .before .before .before .before .before) .2) returns
+    (λ c. still (c .before .before .before .before .before .before .before .before .before) .0)
+    (λ c. still (c .before .before .before .before .before .before .before .before .before) .1)
+    (λ c. still (c .before .before .before .before .before .before .before .before .before) .2) returns-2 (λ c. search needs) (λ c κs. search needs)
+    (λ c. still (c .before .before .before .before .before .before .before .before .before .before) .0)
+    (λ c. still (c .before .before .before .before .before .before .before .before .before .before) .1)
+    (λ c. still (c .before .before .before .before .before .before .before .before .before .before) .2) returns-3 (λ c. c .before .before .before .loop .inv .2)
+    (λ c. c .before .before .before .loop .inv .3) (λ c. c .before .before .before .loop .inv .4) returns-4 (λ c. c .before .before .before .loop .inv .2)
+    (λ c. c .before .before .before .loop .inv .3) (λ c. c .before .before .before .loop .inv .4) returns-5)

@@ -1,23 +1,13 @@
 -- `step` meets its contract.
-use mathlib.Core.Path.{_≡_, refl, sym, ap, _∙_}
-use Prim.Native.Nat.{_+_, _-_, _*_, _≤_, _<_}
-use native.Mathlib.Omega.{arith}
-use lib.ListN.{length, length-set, length-drop}
+use Prim.Native.Nat.{_-_}
 use denote.Ref.{now}
 use borrow.Author.Needs.{needs}
 use Rattle.naming.specs.Named.{knownAt}
 use Rattle.splitter.proofs.Walking.{found-next}
 use Rattle.lexer.proofs.Meeting.{meets}
 use Rattle.lexer.proofs.Ending.{no-step}
-use borrow.Author.Needs.{needs}
 use Rattle.lexer.proofs.gathering.step.Statement.{statement}
 use Rattle.lexer.proofs.gathering.step.Tie as tie
-
-next-word-requires : tie.Need-next-word-requires
-next-word-requires c κs = c .before .before .before .before .before .before .pre .1 .bounds .within
-
-enum-known-next : tie.Need-enum-known-next
-enum-known-next c = search needs
 
 piece-at-requires : tie.Need-piece-at-requires
 piece-at-requires c κs = let f = (found-next (c .before .before .before .next-word .result) (c .before .next .given .0 .0) (c .before .next .given .0 .1 .0)
@@ -39,21 +29,6 @@ add-requires c κs = let f = (found-next (c .before .before .before .before .bef
           (c .before .before .before .piece-at .result) (f .0) (f .1) (f .3) (c .before .before .before .piece-at .ensures),
     )
 
-enum-told : tie.Need-enum-told
-enum-told c = search needs
-
-same-length : tie.Need-same-length
-same-length c = search needs
-
-same-length-2 : tie.Need-same-length-2
-same-length-2 c = search needs
-
-same-length-3 : tie.Need-same-length-3
-same-length-3 c = search needs
-
-returns : tie.Need-returns
-returns c = search needs
-
 returns-2 : tie.Need-returns-2
 returns-2 c = no-step (c .before .before .next-word .result) (c .before .before .next-word .ensures) (c .enum-told .given .1)
 
@@ -61,13 +36,5 @@ pub step-spec : {M : Type 1} → statement M
 step-spec =
     tie.close
     (tie.spec
-    next-word-requires
-    enum-known-next
-    piece-at-requires
-    add-requires
-    enum-told
-    same-length
-    same-length-2
-    same-length-3
-    returns
-    returns-2)
+    (λ c κs. c .before .before .before .before .before .before .pre .1 .bounds .within) (λ c. search needs) piece-at-requires add-requires
+    (λ c. search needs) (λ c. search needs) (λ c. search needs) (λ c. search needs) (λ c. search needs) returns-2)

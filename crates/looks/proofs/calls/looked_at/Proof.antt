@@ -8,24 +8,6 @@ use borrow.Author.Needs.{needs}
 use Rattle.looks.proofs.calls.looked_at.Statement.{statement}
 use Rattle.looks.proofs.calls.looked_at.Tie as tie
 
-slice-aggregate-prepare : tie.Need-slice-aggregate-prepare
-slice-aggregate-prepare c = search needs
-
-prepare-requires : tie.Need-prepare-requires
-prepare-requires c κs = search needs
-
-enum-known-prepared : tie.Need-enum-known-prepared
-enum-known-prepared c = search needs
-
-enum-known-prepared-2 : tie.Need-enum-known-prepared-2
-enum-known-prepared-2 c = search needs
-
-check-record-requires : tie.Need-check-record-requires
-check-record-requires c κs = search needs
-
-enum-known-held : tie.Need-enum-known-held
-enum-known-held c = search needs
-
 returns : tie.Need-returns
 returns c =
     let at-held = c .before in
@@ -33,9 +15,6 @@ returns c =
     let at-prepared = at-check-record .before .before in
     let at-prepare = at-prepared .before .before .before in
     looked-record-refused (at-prepare .prepare .ensures) (at-prepared .prepared2 .given .1) _ _ _ (sym (at-check-record .check-record .ensures) ∙ at-held .held .given .1)
-
-enum-told : tie.Need-enum-told
-enum-told c = search needs
 
 mul-end : tie.Need-mul-end
 mul-end c = omega (arith, few-prepared (c .before .before .before .before .before .before .before .prepare .ensures) (c .before .before .before .before .prepared2 .given .1))
@@ -60,9 +39,6 @@ list-reached-requires c κs =
 returns-2 : tie.Need-returns-2
 returns-2 c = looked-refused (c .before .before .before .before .prepare .ensures) (c .before .prepared .given .1) _ _ _
 
-same-length : tie.Need-same-length
-same-length c = search needs
-
 returns-3 : tie.Need-returns-3
 returns-3 c =
     let at-list-reached = c .before .before in
@@ -77,18 +53,5 @@ pub looked-at-spec : {M : Type 1} → statement M
 looked-at-spec =
     tie.close
     (tie.spec
-    slice-aggregate-prepare
-    prepare-requires
-    enum-known-prepared
-    enum-known-prepared-2
-    check-record-requires
-    enum-known-held
-    returns
-    enum-told
-    mul-end
-    array-share-prefix-plan
-    slice-aggregate-list-reached
-    list-reached-requires
-    returns-2
-    same-length
-    returns-3)
+    (λ c. search needs) (λ c κs. search needs) (λ c. search needs) (λ c. search needs) (λ c κs. search needs) (λ c. search needs) returns
+    (λ c. search needs) mul-end array-share-prefix-plan slice-aggregate-list-reached list-reached-requires returns-2 (λ c. search needs) returns-3)

@@ -5,23 +5,11 @@ use borrow.Author.Needs.{needs}
 use Rattle.looks.proofs.calls.looked_at_plan.Statement.{statement}
 use Rattle.looks.proofs.calls.looked_at_plan.Tie as tie
 
-check-run-requires : tie.Need-check-run-requires
-check-run-requires c κs = search needs
-
-enum-known-line : tie.Need-enum-known-line
-enum-known-line c = search needs
-
 returns : tie.Need-returns
 returns c = run-refused _ _ _ _ _ (sym (c .before .before .before .check-run .ensures) ∙ c .before .line .given .1)
 
-enum-told : tie.Need-enum-told
-enum-told c = search needs
-
 list-reached-requires : tie.Need-list-reached-requires
 list-reached-requires c κs = run-ready _ _ _ (sym (c .before .before .before .check-run .ensures) ∙ c .before .enum-told .given .1)
-
-same-length : tie.Need-same-length
-same-length c = search needs
 
 returns-2 : tie.Need-returns-2
 returns-2 c =
@@ -34,10 +22,4 @@ pub looked-at-plan-spec : {M : Type 1} → statement M
 looked-at-plan-spec =
     tie.close
     (tie.spec
-    check-run-requires
-    enum-known-line
-    returns
-    enum-told
-    list-reached-requires
-    same-length
-    returns-2)
+    (λ c κs. search needs) (λ c. search needs) returns (λ c. search needs) list-reached-requires (λ c. search needs) returns-2)

@@ -6,18 +6,6 @@ use borrow.Author.Needs.{needs}
 use Rattle.looks.proofs.calls.named_items.Statement.{statement}
 use Rattle.looks.proofs.calls.named_items.Tie as tie
 
-slice-aggregate-prepare : tie.Need-slice-aggregate-prepare
-slice-aggregate-prepare c = search needs
-
-prepare-requires : tie.Need-prepare-requires
-prepare-requires c κs = search needs
-
-enum-known-prepared : tie.Need-enum-known-prepared
-enum-known-prepared c = search needs
-
-enum-known-prepared-2 : tie.Need-enum-known-prepared-2
-enum-known-prepared-2 c = search needs
-
 mul-end : tie.Need-mul-end
 mul-end c = omega (arith, few-prepared (c .before .before .before .before .prepare .ensures) (c .before .prepared2 .given .1))
 
@@ -36,9 +24,6 @@ list-named-requires c κs =
 returns : tie.Need-returns
 returns c = named-refused (c .before .before .before .before .prepare .ensures) (c .before .prepared .given .1) _
 
-same-length : tie.Need-same-length
-same-length c = search needs
-
 returns-2 : tie.Need-returns-2
 returns-2 c =
     let at-list-named = c .before .before in
@@ -50,14 +35,5 @@ pub named-items-spec : {M : Type 1} → statement M
 named-items-spec =
     tie.close
     (tie.spec
-    slice-aggregate-prepare
-    prepare-requires
-    enum-known-prepared
-    enum-known-prepared-2
-    mul-end
-    array-share-prefix-plan
-    slice-aggregate-list-named
-    list-named-requires
-    returns
-    same-length
-    returns-2)
+    (λ c. search needs) (λ c κs. search needs) (λ c. search needs) (λ c. search needs) mul-end array-share-prefix-plan slice-aggregate-list-named
+    list-named-requires returns (λ c. search needs) returns-2)

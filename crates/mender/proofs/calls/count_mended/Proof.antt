@@ -1,17 +1,14 @@
-use Prim.Native.Nat.{ℕ, _-_, _+_, _≤_}
+use Prim.Native.Nat.{_-_}
 use native.Mathlib.Omega.{arith}
-use mathlib.Core.Path.{_≡_, refl, sym, ap, ap₂, _∙_}
-use mathlib.Core.List.{List}
-use lib.ListN.{length, length-append}
+use mathlib.Core.Path.{_≡_, refl, ap, _∙_}
+use lib.ListN.{length}
 use denote.Ref.{now}
 use Rattle.content.specs.declared.Row.{Row}
-use Rattle.tables.specs.Rows.{rowAt, rowCount, part}
-use Rattle.items.specs.Items.{partAt}
-use Rattle.mending.specs.Mend.{changesFrom, mendedItem, mendedAt, mendedRecord}
-use Rattle.mender.specs.Walks.{Next, Lying}
+use Rattle.mending.specs.Mend.{changesFrom, mendedRecord}
+use Rattle.mender.specs.Walks.{rowChanges}
 use Rattle.mending.proofs.Theorems.{facts}
 use Rattle.mender.proofs.Walking.{seen}
-use Rattle.mender.proofs.Stepping.{Walk, walk-start, walk-on, lying, count-step, seen-step, all-seen, ends-later}
+use Rattle.mender.proofs.Stepping.{Walk, walk-start, walk-past, less-left, lying, count-step, count-past, all-seen}
 use Rattle.mender.proofs.calls.count_mended.Statement.{statement}
 use Rattle.mender.proofs.calls.count_mended.Tie as tie
 
@@ -27,9 +24,6 @@ next-row-requires c κs = λ v h. facts (now (c .before .before .args .items)) (
 loop-holds : tie.Need-loop-holds Inv-loop μ-loop
 unfolding changesFrom
 loop-holds c = (walk-start (now (c .before .before .before .args .items)) (now (c .before .before .before .args .«record»)) (c .before .before .before .pre) _ (c .next-row .ensures), refl)
-
-row-at-requires : tie.Need-row-at-requires Inv-loop μ-loop
-row-at-requires c κs = omega arith
 
 count-row-requires : tie.Need-count-row-requires Inv-loop μ-loop
 count-row-requires c κs =
@@ -47,13 +41,9 @@ add-count c =
     omega (
       arith,
       l .inv .1,
-      (c .count-row .ensures
-          ∙ ap (λ (r : Row). length (changesFrom (r .offset) (part r content) (mendedItem (r .kind) (r .digits) (part r content)))) (c .before .row-at .ensures)),
+      c .count-row .ensures ∙ ap (λ (r : Row). length (rowChanges r content)) (c .before .row-at .ensures),
       count-step (now (a .items)) content (p) (l .inv .0) (c .before .before .loop-test .taken),
     )
-
-row-end-requires : tie.Need-row-end-requires Inv-loop μ-loop
-row-end-requires c κs = tt
 
 next-row-requires-2 : tie.Need-next-row-requires-2 Inv-loop μ-loop
 next-row-requires-2 c κs =
@@ -63,38 +53,18 @@ next-row-requires-2 c κs =
 
 loop-less : tie.Need-loop-less Inv-loop μ-loop
 loop-less c =
-    let a = c .before .before .before .before .before .before .before .before .before .args in
-    let items = now (a .items) in
-    let content = now (a .«record») in
-    let p = c .before .before .before .before .before .before .before .before .before .pre in
-    let l = c .before .before .before .before .before .loop in
-    let at-loop-test = c .before .before .before .before .loop-test in
-    let at-row-at = c .before .before .before .row-at in
-    omega (
-      arith,
-      (c .before .row-end .ensures ∙ ap (λ (r : Row). r .offset + r .size) (at-row-at .ensures)),
-      ends-later items content (p) (l .inv .0) (at-loop-test .taken),
-      walk-on items content (p) (l .inv .0) (at-loop-test .taken) _
-          (rw (c .before .row-end .ensures ∙ ap (λ (r : Row). r .offset + r .size) (at-row-at .ensures)) at (c .next-row2 .ensures)) .within,
-    )
+    let row = c .before .before .before in
+    less-left _ _ (row .before .before .before .before .before .before .pre) (row .before .before .loop .inv .0) (row .before .loop-test .taken) (row .row-at .ensures) (c .before .row-end .ensures)
 
 loop-again : tie.Need-loop-again Inv-loop μ-loop
 loop-again c =
-    let a = c .before .before .before .before .before .before .before .before .before .args in
-    let items = now (a .items) in
-    let content = now (a .«record») in
-    let p = c .before .before .before .before .before .before .before .before .before .pre in
-    let l = c .before .before .before .before .before .loop in
-    let at-loop-test = c .before .before .before .before .loop-test in
-    let at-row-at = c .before .before .before .row-at in
-    let q : c .before .row-end .result ≡ (rowAt items (l .v)) .offset + (rowAt items (l .v)) .size =
-    (c .before .row-end .ensures ∙ ap (λ (r : Row). r .offset + r .size) (at-row-at .ensures)) in (
-      rw q (walk-on items content (p) (l .inv .0) (at-loop-test .taken) (c .next-row2 .result) (rw q at (c .next-row2 .ensures))),
-      ap₂ _+_ (l .inv .1) (c .before .before .count-row .ensures
-          ∙ ap (λ (r : Row). length (changesFrom (r .offset) (part r content) (mendedItem (r .kind) (r .digits) (part r content)))) (at-row-at .ensures))
-          ∙ sym (ap length (seen-step items content (p) (l .inv .0) (at-loop-test .taken))
-          ∙ length-append (seen content (mendedRecord items content) (l .at)) (changesFrom ((rowAt items (l .v)) .offset) (partAt items (l .v) content) (mendedAt items content (l .v))))
-          ∙ ap (λ (n : ℕ). length (seen content (mendedRecord items content) n)) (sym q),
+    let row = c .before .before .before in
+    let p = row .before .before .before .before .before .before .pre in
+    let w = row .before .before .loop .inv .0 in
+    let taken = row .before .loop-test .taken in (
+      walk-past _ _ p w taken (row .row-at .ensures) (c .before .row-end .ensures) (c .next-row2 .ensures),
+      count-past _ _ p w taken (row .row-at .ensures) (c .before .row-end .ensures) (row .before .before .loop .inv .1)
+          (c .before .before .count-row .ensures ∙ ap (λ (r : Row). length (rowChanges r (now (row .before .before .before .before .before .before .args .«record»)))) (row .row-at .ensures)),
     )
 
 returns : tie.Need-returns Inv-loop μ-loop
@@ -107,15 +77,5 @@ pub count-mended-spec : {M : Type 1} → statement M
 count-mended-spec =
     tie.close
     (tie.spec
-    Inv-loop
-    μ-loop
-    next-row-requires
-    loop-holds
-    row-at-requires
-    count-row-requires
-    add-count
-    row-end-requires
-    next-row-requires-2
-    loop-less
-    loop-again
-    returns)
+    Inv-loop μ-loop next-row-requires loop-holds (λ c κs. omega arith) count-row-requires add-count (λ c κs. tt) next-row-requires-2 loop-less
+    loop-again returns)

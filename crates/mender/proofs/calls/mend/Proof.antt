@@ -13,35 +13,14 @@ use borrow.Author.Needs.{needs}
 use Rattle.mender.proofs.calls.mend.Statement.{statement}
 use Rattle.mender.proofs.calls.mend.Tie as tie
 
-check-mend-requires : tie.Need-check-mend-requires
-check-mend-requires c κs = search needs
-
-enum-known-line : tie.Need-enum-known-line
-enum-known-line c = search needs
-
-same-length : tie.Need-same-length
-same-length c = search needs
-
 returns : tie.Need-returns
 returns c =
     let a = c .before .before .before .before .before .before .before .before .args in
     let m = sym (stopped (now (a .items)) (now (a .«record»)) (now (a .list)) (sym (c .before .before .before .check-mend .ensures) ∙ c .before .line .given .1)) in
     (ap (λ (g : Mending). g .answer) m, (ap (λ (g : Mending). g .content) m, ap (λ (g : Mending). g .list) m))
 
-enum-told : tie.Need-enum-told
-enum-told c = search needs
-
 count-mended-requires : tie.Need-count-mended-requires
 count-mended-requires c κs = sym (c .before .before .before .check-mend .ensures) ∙ c .before .enum-told .given .1
-
-check-room-requires : tie.Need-check-room-requires
-check-room-requires c κs = search needs
-
-enum-known-room : tie.Need-enum-known-room
-enum-known-room c = search needs
-
-same-length-2 : tie.Need-same-length-2
-same-length-2 c = search needs
 
 returns-2 : tie.Need-returns-2
 returns-2 c =
@@ -52,9 +31,6 @@ returns-2 c =
     let m = sym (crowded (now (a .items)) (now (a .«record»)) (now (a .list)) lines room) in
     (ap (λ (g : Mending). g .answer) m, (ap (λ (g : Mending). g .content) m, ap (λ (g : Mending). g .list) m))
 
-enum-told-2 : tie.Need-enum-told-2
-enum-told-2 c = search needs
-
 write-mended-requires : tie.Need-write-mended-requires
 write-mended-requires c κs =
     let a = c .before .before .before .before .before .before .before .before .before .before .before .before .before .before .args in
@@ -63,12 +39,6 @@ write-mended-requires c κs =
       sym (c .before .before .before .before .before .before .before .before .before .check-mend .ensures) ∙ c .before .before .before .before .before .before .before .enum-told .given .1,
       room-fact (length (changes (now (a .items)) (now (a .«record»)))) (length (now (a .list))) room,
     )
-
-same-length-3 : tie.Need-same-length-3
-same-length-3 c = search needs
-
-same-length-4 : tie.Need-same-length-4
-same-length-4 c = search needs
 
 returns-3 : tie.Need-returns-3
 returns-3 c =
@@ -93,18 +63,5 @@ pub mend-spec : {M : Type 1} → statement M
 mend-spec =
     tie.close
     (tie.spec
-    check-mend-requires
-    enum-known-line
-    same-length
-    returns
-    enum-told
-    count-mended-requires
-    check-room-requires
-    enum-known-room
-    same-length-2
-    returns-2
-    enum-told-2
-    write-mended-requires
-    same-length-3
-    same-length-4
-    returns-3)
+    (λ c κs. search needs) (λ c. search needs) (λ c. search needs) returns (λ c. search needs) count-mended-requires (λ c κs. search needs)
+    (λ c. search needs) (λ c. search needs) returns-2 (λ c. search needs) write-mended-requires (λ c. search needs) (λ c. search needs) returns-3)

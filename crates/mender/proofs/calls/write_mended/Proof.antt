@@ -1,28 +1,28 @@
 use borrow.Rule.Slice.PartMut.{same-len-mid}
 use Prim.Native.Nat.{ℕ, _-_, _+_, _≤_}
 use native.Mathlib.Omega.{arith}
-use mathlib.Core.Path.{_≡_, refl, sym, ap, ap₂, _∙_}
+use mathlib.Core.Path.{_≡_, refl, sym, ap, _∙_}
 use mathlib.Core.List.{List, [], _++_}
-use lib.ListN.{length, drop, take, length-append, length-drop}
+use lib.ListN.{length, drop, take, length-drop}
 use denote.Ref.{now}
-use Rattle.content.specs.declared.Row.{Row}
-use Rattle.tables.specs.Rows.{rowAt, rowCount, part}
+use Rattle.tables.specs.Rows.{rowAt}
 use Rattle.items.specs.Items.{partAt}
-use Rattle.mending.specs.Mend.{changesFrom, changes, mendedItem, mendedAt, mendedRecord}
-use Rattle.mender.specs.Walks.{Next, Lying}
+use Rattle.mending.specs.Mend.{changesFrom, mendedAt, mendedRecord}
 use Rattle.mender.proofs.Nearing.{fits-from}
 use Rattle.mending.proofs.Theorems.{facts}
 use Rattle.mender.proofs.Walking.{half, seen}
 use Rattle.mender.proofs.Stepping.{
   Walk,
   walk-start,
-  walk-on,
+  walk-past,
+  less-left,
   count-step,
-  seen-step,
+  count-past,
+  seen-past,
+  half-past,
   all-seen,
   all-half,
   half-long,
-  ends-later,
   row-changes,
   row-mended,
   row-lying,
@@ -50,76 +50,28 @@ loop-holds c =
     let p = c .before .before .before .before .pre in
     (walk-start (now (a .items)) (now (a .«record»)) (p .0) _ (c .next-row .ensures), refl, refl, refl, refl)
 
-row-at-requires : tie.Need-row-at-requires Inv-loop μ-loop
-row-at-requires c κs = omega arith
+-- what is listed so far is short, and there is room for it
+listed : (c : tie.After-row-at Inv-loop μ-loop)
+    → (c .before .before .loop .count ≤ 400000) × (c .before .before .loop .count ≤ length (c .before .before .loop .list))
+listed c =
+    let a = c .before .before .before .before .before .before .before .args in
+    let items = now (a .items) in
+    let content = now (a .«record») in
+    let p = c .before .before .before .before .before .before .before .pre in
+    let at-loop = c .before .before .loop in
+    let taken = c .before .loop-test .taken in
+    let few = count-step items content (p .0) (at-loop .inv .0) taken in
+    let room = room-step items content (p .0) (at-loop .inv .0) taken in
+    (omega (arith, few, at-loop .inv .1), omega (arith, room, p .1, at-loop .inv .1, at-loop .inv .2))
 
 mul-mend-row : tie.Need-mul-mend-row Inv-loop μ-loop
-mul-mend-row c =
-    let a = c .before .before .before .before .before .before .before .before .args in
-    let items = now (a .items) in
-    let content = now (a .«record») in
-    let p = c .before .before .before .before .before .before .before .before .pre in
-    let at-loop = c .before .before .before .loop in
-    let at-loop-test = c .before .before .loop-test in
-    omega (
-      arith,
-      p .1,
-      at-loop .inv .1,
-      at-loop .inv .2,
-      count-step items content (p .0) (at-loop .inv .0) (at-loop-test .taken),
-      room-step items content (p .0) (at-loop .inv .0) (at-loop-test .taken),
-    )
+mul-mend-row c = omega (arith, listed (c .before))
 
 sub-mend-row : tie.Need-sub-mend-row Inv-loop μ-loop
-sub-mend-row c =
-    let a = c .before .before .before .before .before .before .before .before .args in
-    let items = now (a .items) in
-    let content = now (a .«record») in
-    let p = c .before .before .before .before .before .before .before .before .pre in
-    let at-loop = c .before .before .before .loop in
-    let at-loop-test = c .before .before .loop-test in
-    omega (
-      arith,
-      p .1,
-      at-loop .inv .1,
-      at-loop .inv .2,
-      count-step items content (p .0) (at-loop .inv .0) (at-loop-test .taken),
-      room-step items content (p .0) (at-loop .inv .0) (at-loop-test .taken),
-    )
+sub-mend-row c = listed (c .before) .1
 
 part-mend-row-start : tie.Need-part-mend-row-start Inv-loop μ-loop
-part-mend-row-start c =
-    let a = c .before .before .before .before .before .before .before .before .args in
-    let items = now (a .items) in
-    let content = now (a .«record») in
-    let p = c .before .before .before .before .before .before .before .before .pre in
-    let at-loop = c .before .before .before .loop in
-    let at-loop-test = c .before .before .loop-test in
-    omega (
-      arith,
-      p .1,
-      at-loop .inv .1,
-      at-loop .inv .2,
-      count-step items content (p .0) (at-loop .inv .0) (at-loop-test .taken),
-      room-step items content (p .0) (at-loop .inv .0) (at-loop-test .taken),
-    )
-
-part-mend-row-end : tie.Need-part-mend-row-end Inv-loop μ-loop
-part-mend-row-end c =
-    let a = c .before .before .before .before .before .before .before .before .args in
-    let items = now (a .items) in
-    let content = now (a .«record») in
-    let p = c .before .before .before .before .before .before .before .before .pre in
-    let at-loop = c .before .before .before .loop in
-    let at-loop-test = c .before .before .loop-test in
-    omega (
-      arith,
-      p .1,
-      at-loop .inv .1,
-      at-loop .inv .2,
-      count-step items content (p .0) (at-loop .inv .0) (at-loop-test .taken),
-      room-step items content (p .0) (at-loop .inv .0) (at-loop-test .taken),
-    )
+part-mend-row-start c = listed (c .before) .1
 
 mend-row-requires : tie.Need-mend-row-requires Inv-loop μ-loop
 mend-row-requires c κs =
@@ -161,9 +113,6 @@ add-count c =
       count-step items content (p .0) (at-loop .inv .0) (at-loop-test .taken),
     )
 
-row-end-requires : tie.Need-row-end-requires Inv-loop μ-loop
-row-end-requires c κs = tt
-
 next-row-requires-2 : tie.Need-next-row-requires-2 Inv-loop μ-loop
 next-row-requires-2 c κs =
     let a = c .before .before .before .before .before .before .before .before .before .before .before .before .before .before .before .args in
@@ -172,51 +121,33 @@ next-row-requires-2 c κs =
 
 loop-less : tie.Need-loop-less Inv-loop μ-loop
 loop-less c =
-    let a = c .before .before .before .before .before .before .before .before .before .before .before .before .before .before .before .before .args in
-    let items = now (a .items) in
-    let content = now (a .«record») in
-    let p = c .before .before .before .before .before .before .before .before .before .before .before .before .before .before .before .before .pre in
-    let at-loop = c .before .before .before .before .before .before .before .before .before .before .before .loop in
-    let at-loop-test = c .before .before .before .before .before .before .before .before .before .before .loop-test in
-    let at-row-at = c .before .before .before .before .before .before .before .before .before .row-at in
-    omega (
-      arith,
-      (c .before .row-end .ensures ∙ ap (λ (r : Row). r .offset + r .size) (at-row-at .ensures)),
-      ends-later items content (p .0) (at-loop .inv .0) (at-loop-test .taken),
-      walk-on items content (p .0) (at-loop .inv .0) (at-loop-test .taken) _
-          (rw (c .before .row-end .ensures ∙ ap (λ (r : Row). r .offset + r .size) (at-row-at .ensures)) at (c .next-row2 .ensures)) .within,
-    )
+    let row = c .before .before .before .before .before .before .before .before .before in
+    let start = row .before .before .before .before .before .before .before in
+    less-left _ _ (start .pre .0) (row .before .before .loop .inv .0) (row .before .loop-test .taken) (row .row-at .ensures) (c .before .row-end .ensures)
 
 loop-again : tie.Need-loop-again Inv-loop μ-loop
 loop-again c =
-    let a = c .before .before .before .before .before .before .before .before .before .before .before .before .before .before .before .before .args in
-    let items = now (a .items) in
-    let content = now (a .«record») in
-    let list = now (a .list) in
-    let p = c .before .before .before .before .before .before .before .before .before .before .before .before .before .before .before .before .pre in
-    let at-loop = c .before .before .before .before .before .before .before .before .before .before .before .loop in
-    let at-loop-test = c .before .before .before .before .before .before .before .before .before .before .loop-test in
-    let at-row-at = c .before .before .before .before .before .before .before .before .before .row-at in
-    let at-mend-row = c .before .before .before .before .before .before .mend-row in
-    let e4 = seen content (mendedRecord items content) (at-loop .at) in
-    let e3 = seen-step items content (p .0) (at-loop .inv .0) (at-loop-test .taken) in
-    let e2 = row-changes items content (p .0) (at-loop .inv .0) (at-loop-test .taken) (at-row-at .ensures) (at-loop .inv .3) in
-    let e1 = changesFrom ((rowAt items (at-loop .v)) .offset) (partAt items (at-loop .v) content) (mendedAt items content (at-loop .v)) in
-    let q : c .before .row-end .result ≡ (rowAt items (at-loop .v)) .offset + (rowAt items (at-loop .v)) .size =
-    (c .before .row-end .ensures ∙ ap (λ (r : Row). r .offset + r .size) (at-row-at .ensures)) in let n : at-mend-row .result ≡ length e1 = at-mend-row .ensures .0
-    ∙ ap length e2 in let count : at-loop .count + at-mend-row .result ≡ length (seen content (mendedRecord items content) (c .before .row-end .result)) = ap₂ _+_
-    (at-loop .inv .1) n ∙ sym (ap length e3 ∙ length-append e4 e1)
-    ∙ ap (λ (k : ℕ). length (seen content (mendedRecord items content) k)) (sym q) in (
-      rw q (walk-on items content (p .0) (at-loop .inv .0) (at-loop-test .taken) (c .next-row2 .result) (rw q at (c .next-row2 .ensures))),
-      count,
-      same-len-mid (at-loop .count) (length (at-loop .list) - at-loop .count) (at-loop .list) (at-mend-row .last .1 .1 .0) (c .before .before .before .list .given .0)
-          ∙ at-loop .inv .2,
-      at-mend-row .ensures .1 .1 ∙ row-mended items content (p .0) (at-loop .inv .0) (at-loop-test .taken) (at-row-at .ensures) (at-loop .inv .3)
-          ∙ ap (half content (mendedRecord items content)) (sym q),
-      list-step list (at-loop .list) e4 e1 (at-mend-row .last .1 .1 .0) (at-loop .count) (at-mend-row .result) (at-loop .inv .1) (at-loop .inv .4)
-          (omega (arith, p .1, at-loop .inv .1, room-step items content (p .0) (at-loop .inv .0) (at-loop-test .taken)))
-          (at-mend-row .ensures .1 .0 ∙ ap (λ (l : List ℕ). l ++ drop (at-mend-row .result) (take (length (at-loop .list) - at-loop .count) (drop (at-loop .count) (at-loop .list)))) e2)
-          ∙ ap (λ (l : List ℕ). l ++ drop (at-loop .count + at-mend-row .result) list) (sym e3 ∙ ap (seen content (mendedRecord items content)) (sym q)),
+    let row = c .before .before .before .before .before .before .before .before .before in
+    let start = row .before .before .before .before .before .before .before in
+    let items = now (start .args .items) in
+    let content = now (start .args .«record») in
+    let list = now (start .args .list) in
+    let p = start .pre .0 in
+    let l = row .before .before .loop in
+    let taken = row .before .loop-test .taken in
+    let read = row .row-at .ensures in
+    let end = c .before .row-end .ensures in
+    let mended = c .before .before .before .before .before .before .mend-row in
+    let before = seen content (mendedRecord items content) (l .at) in
+    let here = changesFrom ((rowAt items (l .v)) .offset) (partAt items (l .v) content) (mendedAt items content (l .v)) in
+    let told = row-changes items content p (l .inv .0) taken read (l .inv .3) in (
+      walk-past _ _ p (l .inv .0) taken read end (c .next-row2 .ensures),
+      count-past _ _ p (l .inv .0) taken read end (l .inv .1) (mended .ensures .0 ∙ ap length told),
+      same-len-mid (l .count) (length (l .list) - l .count) (l .list) (mended .last .1 .1 .0) (c .before .before .before .list .given .0) ∙ l .inv .2,
+      half-past _ _ p (l .inv .0) taken read end (mended .ensures .1 .1 ∙ row-mended items content p (l .inv .0) taken read (l .inv .3)),
+      list-step list (l .list) before here (mended .last .1 .1 .0) (l .count) (mended .result) (l .inv .1) (l .inv .4) (omega (arith, listed row, l .inv .2))
+          (mended .ensures .1 .0 ∙ ap (λ (x : List ℕ). x ++ drop (mended .result) (take (length (l .list) - l .count) (drop (l .count) (l .list)))) told)
+          ∙ ap (λ (x : List ℕ). x ++ drop (l .count + mended .result) list) (sym (seen-past _ _ p (l .inv .0) taken read end)),
     )
 
 same-length : tie.Need-same-length Inv-loop μ-loop
@@ -224,9 +155,6 @@ same-length c =
     let a = c .before .before .before .before .before .before .args in
     let p = c .before .before .before .before .before .before .pre in
     ap length (c .before .loop .inv .3) ∙ half-long (now (a .items)) (now (a .«record»)) (p .0) (c .before .loop .inv .0)
-
-same-length-2 : tie.Need-same-length-2 Inv-loop μ-loop
-same-length-2 c = c .before .loop .inv .2
 
 returns : tie.Need-returns Inv-loop μ-loop
 returns c =
@@ -247,21 +175,5 @@ pub write-mended-spec : {M : Type 1} → statement M
 write-mended-spec =
     tie.close
     (tie.spec
-    Inv-loop
-    μ-loop
-    next-row-requires
-    loop-holds
-    row-at-requires
-    mul-mend-row
-    sub-mend-row
-    part-mend-row-start
-    part-mend-row-end
-    mend-row-requires
-    add-count
-    row-end-requires
-    next-row-requires-2
-    loop-less
-    loop-again
-    same-length
-    same-length-2
-    returns)
+    Inv-loop μ-loop next-row-requires loop-holds (λ c κs. omega arith) mul-mend-row sub-mend-row part-mend-row-start (λ c. omega arith)
+    mend-row-requires add-count (λ c κs. tt) next-row-requires-2 loop-less loop-again same-length (λ c. c .before .loop .inv .2) returns)

@@ -1,17 +1,15 @@
 use Rattle.mender.proofs.Nearing.{prefix-fits}
-use Prim.Native.Nat.{ℕ, _≤_}
+use Prim.Native.Nat.{ℕ}
 use native.Mathlib.Omega.{arith}
-use mathlib.Core.Path.{_≡_, refl, sym, ap, _∙_}
+use mathlib.Core.Path.{sym, ap, _∙_}
 use mathlib.Core.List.{List}
-use lib.ListN.{length, take}
+use lib.ListN.{length}
 use lib.Seq.{length-take-le, take-at}
 use denote.Ref.{now}
-use Rattle.content.specs.declared.Row.{Row}
 use Rattle.tables.specs.Rows.{part}
 use Rattle.tables.proofs.Bytes.{part-length}
 use Rattle.tables.proofs.Lines.{passes, fails}
 use Rattle.mending.specs.Mend.{mendedItem, changesFrom}
-use Rattle.mender.specs.Walks.{Lying}
 use Rattle.mending.proofs.Fields.{mended-length}
 use Rattle.meters.proofs.Filling.{mended-skip}
 use Rattle.mending.proofs.Changes.{changes-none}
@@ -20,18 +18,12 @@ use borrow.Author.Needs.{needs}
 use Rattle.mender.proofs.rows.count_row.Statement.{statement}
 use Rattle.mender.proofs.rows.count_row.Tie as tie
 
-is-zoned-requires : tie.Need-is-zoned-requires
-is-zoned-requires c κs = search needs
-
 returns : tie.Need-returns
 returns c =
     let a = c .before .before .before .args in
     let P : List ℕ = part (a .row) (now (a .«record»)) in sym
     (ap (λ (l : List ℕ). length (changesFrom (a .row .offset) P l)) (sym (mended-skip (a .row .kind) (a .row .digits) P (fails (c .before .is-zoned .ensures) (c .if1 .taken))))
     ∙ ap length (changes-none (a .row .offset) P))
-
-row-part-requires : tie.Need-row-part-requires
-row-part-requires c κs = search needs
 
 array-borrow-prefix-mended : tie.Need-array-borrow-prefix-mended
 array-borrow-prefix-mended c =
@@ -87,9 +79,6 @@ slice-aggregate-count-changes c =
     (omega (arith, (ap length (at-row-part .ensures) ∙ part-length (a .row) content (p .lies)), p .some)) in
     sym (ap length (take-at (at-mended-into .last .1 .1 .0) _ (length (now (at-row-part .result))) e1) ∙ e1)
 
-long-requires : tie.Need-long-requires
-long-requires c κs = search needs
-
 count-changes-requires : tie.Need-count-changes-requires
 count-changes-requires c κs =
     let a = c .before .before .before .before .before .before .before .before .before .args in
@@ -123,14 +112,5 @@ pub count-row-spec : {M : Type 1} → statement M
 count-row-spec =
     tie.close
     (tie.spec
-    is-zoned-requires
-    returns
-    row-part-requires
-    array-borrow-prefix-mended
-    slice-aggregate-mended-into
-    mended-into-requires
-    array-share-prefix-mended
-    slice-aggregate-count-changes
-    long-requires
-    count-changes-requires
-    returns-2)
+    (λ c κs. search needs) returns (λ c κs. search needs) array-borrow-prefix-mended slice-aggregate-mended-into mended-into-requires
+    array-share-prefix-mended slice-aggregate-count-changes (λ c κs. search needs) count-changes-requires returns-2)

@@ -1,17 +1,15 @@
-use Prim.Native.Nat.{ℕ, _≤_}
+use Prim.Native.Nat.{ℕ}
 use native.Mathlib.Omega.{arith}
-use mathlib.Core.Path.{_≡_, refl, sym, ap, _∙_}
+use mathlib.Core.Path.{refl, sym, ap, _∙_}
 use mathlib.Core.List.{List, _++_}
-use lib.ListN.{length, take, drop}
+use lib.ListN.{length, drop}
 use lib.Seq.{length-take-le, take-at}
 use denote.Ref.{now}
-use Rattle.content.specs.declared.Row.{Row}
 use Rattle.tables.specs.Rows.{part}
 use Rattle.tables.proofs.Bytes.{part-length}
 use Rattle.tables.proofs.Lines.{passes, fails}
 use Rattle.items.specs.Items.{replaced}
-use Rattle.mending.specs.Mend.{mendedItem, changesFrom}
-use Rattle.mender.specs.Walks.{Lying}
+use Rattle.mending.specs.Mend.{mendedItem}
 use Rattle.items.proofs.Rewriting.{replaced-idle}
 use Rattle.mending.proofs.Fields.{mended-length}
 use Rattle.meters.proofs.Filling.{mended-skip}
@@ -21,9 +19,6 @@ use borrow.Author.Needs.{needs}
 use Rattle.mender.proofs.rows.mend_row.Statement.{statement}
 use Rattle.mender.proofs.rows.mend_row.Tie as tie
 
-is-zoned-requires : tie.Need-is-zoned-requires
-is-zoned-requires c κs = search needs
-
 returns : tie.Need-returns
 returns c =
     let a = c .before .before .before .before .args in
@@ -32,12 +27,6 @@ returns c =
     (mended-skip (a .row .kind) (a .row .digits) P (fails (c .before .is-zoned .ensures) (c .if1 .taken))) in let n = changes-of (refl {a = a .row .offset}) (refl {a = P}) s
     ∙ changes-none (a .row .offset) P in
     (sym (ap length n), (sym (ap (λ (l : List ℕ). l ++ now (a .list)) n), sym (ap (λ (l : List ℕ). replaced (a .row) l content) s ∙ replaced-idle (a .row) content)))
-
-long-requires : tie.Need-long-requires
-long-requires c κs = search needs
-
-row-part-requires : tie.Need-row-part-requires
-row-part-requires c κs = search needs
 
 array-borrow-prefix-mended : tie.Need-array-borrow-prefix-mended
 array-borrow-prefix-mended c =
@@ -63,9 +52,6 @@ mended-into-requires c κs =
           (omega (arith, at-long .ensures, (p .0 .few (passes (c .before .before .before .before .before .is-zoned .ensures) (c .before .before .before .before .if1 .left)))))
           ∙ at-long .ensures ∙ sym e1,
     )
-
-row-part-requires-2 : tie.Need-row-part-requires-2
-row-part-requires-2 c κs = search needs
 
 array-share-prefix-mended : tie.Need-array-share-prefix-mended
 array-share-prefix-mended c =
@@ -156,12 +142,6 @@ put-part-requires c κs =
     ∙ (ap length (at-row-part .ensures) ∙ part-length (a .row) content (p .0 .lies)) ∙ sym (at-long .ensures) in
     (ap length (take-at (at-mended-into .last .1 .1 .0) _ (at-long .result) e1) ∙ e1 ∙ at-long .ensures, p .0 .lies)
 
-same-length : tie.Need-same-length
-same-length c = search needs
-
-same-length-2 : tie.Need-same-length-2
-same-length-2 c = search needs
-
 returns-2 : tie.Need-returns-2
 returns-2 c =
     let start = c .before .before .before .before .before .before .before .before .before .before .before .before .before .before .before .before .before .before .before .before .before .before in
@@ -189,20 +169,6 @@ pub mend-row-spec : {M : Type 1} → statement M
 mend-row-spec =
     tie.close
     (tie.spec
-    is-zoned-requires
-    returns
-    long-requires
-    row-part-requires
-    array-borrow-prefix-mended
-    slice-aggregate-mended-into
-    mended-into-requires
-    row-part-requires-2
-    array-share-prefix-mended
-    slice-aggregate-list-changes
-    list-changes-requires
-    array-share-prefix-mended-2
-    slice-aggregate-put-part
-    put-part-requires
-    same-length
-    same-length-2
-    returns-2)
+    (λ c κs. search needs) returns (λ c κs. search needs) (λ c κs. search needs) array-borrow-prefix-mended slice-aggregate-mended-into
+    mended-into-requires (λ c κs. search needs) array-share-prefix-mended slice-aggregate-list-changes list-changes-requires
+    array-share-prefix-mended-2 slice-aggregate-put-part put-part-requires (λ c. search needs) (λ c. search needs) returns-2)

@@ -1,10 +1,9 @@
-use Prim.Native.Nat.{ℕ, _-_, _≤_}
+use Prim.Native.Nat.{_-_}
 use native.Mathlib.Omega.{arith}
-use mathlib.Core.Path.{_≡_, refl, sym, ap, _∙_}
-use mathlib.Core.Bool.{Bool, _&&_}
+use mathlib.Core.Path.{sym, ap, _∙_}
+use mathlib.Core.Bool.{_&&_}
 use mathlib.Core.Logic.{⊎-elim}
 use lib.Dec.{leb, ltb}
-use denote.Ref.{now}
 use Rattle.content.specs.declared.Row.{Row}
 use Rattle.items.specs.Items.{isElementary}
 use Rattle.mender.proofs.Nearing.{Nearest, nearest-start, nearest-hit, nearest-miss, nearest-end}
@@ -19,21 +18,6 @@ abbrev μ-loop : tie.MeasureT-loop
 
 loop-holds : tie.Need-loop-holds Inv-loop μ-loop
 loop-holds c = nearest-start _ _ _
-
-row-at-requires : tie.Need-row-at-requires Inv-loop μ-loop
-row-at-requires c κs = omega (arith, c .before .loop .inv .within)
-
-starts-between-requires : tie.Need-starts-between-requires Inv-loop μ-loop
-starts-between-requires c κs = tt
-
-long-requires : tie.Need-long-requires Inv-loop μ-loop
-long-requires c κs = tt
-
-add-v : tie.Need-add-v Inv-loop μ-loop
-add-v c = omega arith
-
-loop-less : tie.Need-loop-less Inv-loop μ-loop
-loop-less c = omega arith
 
 loop-again : tie.Need-loop-again Inv-loop μ-loop
 loop-again c =
@@ -53,13 +37,5 @@ pub next-row-spec : {M : Type 1} → statement M
 next-row-spec =
     tie.close
     (tie.spec
-    Inv-loop
-    μ-loop
-    loop-holds
-    row-at-requires
-    starts-between-requires
-    long-requires
-    add-v
-    loop-less
-    loop-again
-    returns)
+    Inv-loop μ-loop loop-holds (λ c κs. omega (arith, c .before .loop .inv .within)) (λ c κs. tt) (λ c κs. tt) (λ c. omega arith) (λ c. omega arith)
+    loop-again returns)

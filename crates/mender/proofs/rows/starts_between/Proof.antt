@@ -1,19 +1,10 @@
 use Prim.Native.Nat.{ℕ}
-use mathlib.Core.Path.{_≡_, sym, ap, ap₂, _∙_}
-use mathlib.Core.Bool.{Bool, not, _&&_}
+use mathlib.Core.Path.{ap, ap₂}
+use mathlib.Core.Bool.{not, _&&_}
 use lib.Dec.{leb, ltb}
 use borrow.Author.Needs.{needs}
 use Rattle.mender.proofs.rows.starts_between.Statement.{statement}
 use Rattle.mender.proofs.rows.starts_between.Tie as tie
-
-is-group-requires : tie.Need-is-group-requires
-is-group-requires c κs = search needs
-
-long-requires : tie.Need-long-requires
-long-requires c κs = search needs
-
-long-requires-2 : tie.Need-long-requires-2
-long-requires-2 c κs = search needs
 
 returns : tie.Need-returns
 returns c = ap₂ _&&_
@@ -21,4 +12,4 @@ returns c = ap₂ _&&_
     (ap (λ (n : ℕ). ltb n (c .before .before .before .args .before)) (c .long2 .ensures))
 
 pub starts-between-spec : {M : Type 1} → statement M
-starts-between-spec = tie.close (tie.spec is-group-requires long-requires long-requires-2 returns)
+starts-between-spec = tie.close (tie.spec (λ c κs. search needs) (λ c κs. search needs) (λ c κs. search needs) returns)

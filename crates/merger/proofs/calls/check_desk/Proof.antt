@@ -6,26 +6,11 @@ use borrow.Author.Needs.{needs}
 use Rattle.merger.proofs.calls.check_desk.Statement.{statement}
 use Rattle.merger.proofs.calls.check_desk.Tie as tie
 
-check-lent-requires : tie.Need-check-lent-requires
-check-lent-requires c κs = search needs
-
-enum-known-lent : tie.Need-enum-known-lent
-enum-known-lent c = search needs
-
 returns : tie.Need-returns
 returns c =
     let a = c .before .before .before .before .before .before .before .before .before .before .before .before .args in
     sym (lent-refuses (now (a .items)) (now (a .literals)) (now (a .bytes)) (now (a .names)) (now (a .plan)) (now (a .old)) (now (a .first)) (now (a .second))
     (sym (c .before .before .before .check-lent .ensures) ∙ c .before .lent .given .1))
-
-enum-told : tie.Need-enum-told
-enum-told c = search needs
-
-check-overlap-requires : tie.Need-check-overlap-requires
-check-overlap-requires c κs = search needs
-
-enum-known-overlap : tie.Need-enum-known-overlap
-enum-known-overlap c = search needs
 
 returns-2 : tie.Need-returns-2
 returns-2 c =
@@ -34,15 +19,6 @@ returns-2 c =
     sym (overlap-refuses (now (a .items)) (now (a .literals)) (now (a .bytes)) (now (a .names)) (now (a .plan)) (now (a .old)) (now (a .first)) (now (a .second)) lent
     (sym (c .before .before .before .check-overlap .ensures) ∙ c .before .overlap .given .1))
 
-enum-told-2 : tie.Need-enum-told-2
-enum-told-2 c = search needs
-
-check-lengths-requires : tie.Need-check-lengths-requires
-check-lengths-requires c κs = search needs
-
-enum-known-lengths : tie.Need-enum-known-lengths
-enum-known-lengths c = search needs
-
 returns-3 : tie.Need-returns-3
 returns-3 c =
     let a = c .before .before .before .before .before .before .before .before .before .before .before .before .before .before .before .before .before .before .args in
@@ -50,15 +26,6 @@ returns-3 c =
     let overlap = sym (c .before .before .before .before .before .before .check-overlap .ensures) ∙ c .before .before .before .before .enum-told2 .given .1 in
     sym (lengths-refuse (now (a .items)) (now (a .literals)) (now (a .bytes)) (now (a .names)) (now (a .plan)) (now (a .old)) (now (a .first)) (now (a .second)) lent overlap
     (sym (c .before .before .before .check-lengths .ensures) ∙ c .before .lengths .given .1))
-
-enum-told-3 : tie.Need-enum-told-3
-enum-told-3 c = search needs
-
-check-plan-requires : tie.Need-check-plan-requires
-check-plan-requires c κs = search needs
-
-enum-known-rows : tie.Need-enum-known-rows
-enum-known-rows c = search needs
 
 returns-4 : tie.Need-returns-4
 returns-4 c =
@@ -72,12 +39,6 @@ returns-4 c =
     let lengths = sym (c4 .before .before .check-lengths .ensures) ∙ c4 .enum-told3 .given .1 in
     sym (plan-refuses (now (a .items)) (now (a .literals)) (now (a .bytes)) (now (a .names)) (now (a .plan)) (now (a .old)) (now (a .first)) (now (a .second))
     lent overlap lengths (sym (c .before .before .before .check-plan .ensures) ∙ c .before .rows .given .1))
-
-enum-told-4 : tie.Need-enum-told-4
-enum-told-4 c = search needs
-
-check-record-requires : tie.Need-check-record-requires
-check-record-requires c κs = search needs
 
 returns-5 : tie.Need-returns-5
 returns-5 c =
@@ -97,21 +58,6 @@ pub check-desk-spec : {M : Type 1} → statement M
 check-desk-spec =
     tie.close
     (tie.spec
-    check-lent-requires
-    enum-known-lent
-    returns
-    enum-told
-    check-overlap-requires
-    enum-known-overlap
-    returns-2
-    enum-told-2
-    check-lengths-requires
-    enum-known-lengths
-    returns-3
-    enum-told-3
-    check-plan-requires
-    enum-known-rows
-    returns-4
-    enum-told-4
-    check-record-requires
-    returns-5)
+    (λ c κs. search needs) (λ c. search needs) returns (λ c. search needs) (λ c κs. search needs) (λ c. search needs) returns-2 (λ c. search needs)
+    (λ c κs. search needs) (λ c. search needs) returns-3 (λ c. search needs) (λ c κs. search needs) (λ c. search needs) returns-4
+    (λ c. search needs) (λ c κs. search needs) returns-5)

@@ -8,11 +8,8 @@ use Rattle.merger.proofs.calls.decide.Tie as tie
 returns : tie.Need-returns
 returns c = λ some. absurd (some (c .if1 .taken))
 
-run-requires : tie.Need-run-requires
-run-requires c κs = search needs
-
 returns-2 : tie.Need-returns-2
 returns-2 c = λ some. ap (λ (j : Judged). j .verdict) (c .run .ensures .0)
 
 pub decide-spec : {M : Type 1} → statement M
-decide-spec = tie.close (tie.spec returns run-requires returns-2)
+decide-spec = tie.close (tie.spec returns (λ c κs. search needs) returns-2)

@@ -9,12 +9,6 @@ use borrow.Author.Needs.{needs}
 use Rattle.merger.proofs.calls.merge.Statement.{statement}
 use Rattle.merger.proofs.calls.merge.Tie as tie
 
-check-desk-requires : tie.Need-check-desk-requires
-check-desk-requires c κs = search needs
-
-enum-known-desk : tie.Need-enum-known-desk
-enum-known-desk c = search needs
-
 returns : tie.Need-returns
 returns c =
     let a = c .before .before .before .before .before .before .before .before .before .before .before .before .before .before .args in
@@ -23,17 +17,11 @@ returns c =
     (runGives lent (now (a .plan)) (now (a .first)) (a .switches) .verdict) (now (a .merged)) (now (a .contested))
     (sym (c .before .before .before .check-desk .ensures) ∙ c .before .desk .given .1)
 
-enum-told : tie.Need-enum-told
-enum-told c = search needs
-
 count-apart-requires : tie.Need-count-apart-requires
 count-apart-requires c κs =
     let a = c .before .before .before .before .before .before .before .before .before .before .before .before .before .args in
     desk-ready (now (a .items)) (now (a .literals)) (now (a .bytes)) (now (a .names)) (now (a .plan)) (now (a .old)) (now (a .first)) (now (a .second))
     (sym (c .before .before .check-desk .ensures) ∙ c .enum-told .given .1)
-
-decide-requires : tie.Need-decide-requires
-decide-requires c κs = search needs
 
 merge-decided-requires : tie.Need-merge-decided-requires
 merge-decided-requires c κs =
@@ -45,12 +33,6 @@ merge-decided-requires c κs =
           (now (a .plan)) (now (a .old)) (now (a .first)) (now (a .second)) fine,
       c .before .before .before .count-apart .ensures,
     )
-
-same-length : tie.Need-same-length
-same-length c = search needs
-
-same-length-2 : tie.Need-same-length-2
-same-length-2 c = search needs
 
 returns-2 : tie.Need-returns-2
 returns-2 c =
@@ -72,13 +54,5 @@ pub merge-spec : {M : Type 1} → statement M
 merge-spec =
     tie.close
     (tie.spec
-    check-desk-requires
-    enum-known-desk
-    returns
-    enum-told
-    count-apart-requires
-    decide-requires
-    merge-decided-requires
-    same-length
-    same-length-2
-    returns-2)
+    (λ c κs. search needs) (λ c. search needs) returns (λ c. search needs) count-apart-requires (λ c κs. search needs) merge-decided-requires
+    (λ c. search needs) (λ c. search needs) returns-2)

@@ -1,6 +1,6 @@
 -- What the verdict leaves of the rows changed apart.
 use mathlib.Core.Path.{sym, ap, _∙_}
-use mathlib.Core.List.{List, _++_}
+use mathlib.Core.List.{_++_}
 use lib.ListN.{length, drop}
 use native.Mathlib.Omega.{arith}
 use denote.Ref.{now}
@@ -9,15 +9,6 @@ use Rattle.merging.specs.Merge.{copiesOf, contested}
 use borrow.Author.Needs.{needs}
 use Rattle.merger.proofs.calls.write_contested.Statement.{statement}
 use Rattle.merger.proofs.calls.write_contested.Tie as tie
-
-enum-told : tie.Need-enum-told
-enum-told c = search needs
-
-enum-told-2 : tie.Need-enum-told-2
-enum-told-2 c = search needs
-
-enum-told-3 : tie.Need-enum-told-3
-enum-told-3 c = search needs
 
 list-apart-requires : tie.Need-list-apart-requires
 list-apart-requires c κs =
@@ -38,9 +29,6 @@ returns-2 c =
     sym (ap (λ (w : Verdict). contested (copiesOf (now (a .items)) (now (a .old)) (now (a .first)) (now (a .second))) w
     ++ drop (length (contested (copiesOf (now (a .items)) (now (a .old)) (now (a .first)) (now (a .second))) w)) (now (a .list))) (c .enum-told2 .given .1))
 
-same-length : tie.Need-same-length
-same-length c = search needs
-
 returns-3 : tie.Need-returns-3
 returns-3 c =
     let a = c .before .before .before .before .before .before .before .before .before .before .before .args in
@@ -52,11 +40,4 @@ pub write-contested-spec : {M : Type 1} → statement M
 write-contested-spec =
     tie.close
     (tie.spec
-    enum-told
-    enum-told-2
-    enum-told-3
-    list-apart-requires
-    returns
-    returns-2
-    same-length
-    returns-3)
+    (λ c. search needs) (λ c. search needs) (λ c. search needs) list-apart-requires returns returns-2 (λ c. search needs) returns-3)

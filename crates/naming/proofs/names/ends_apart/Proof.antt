@@ -15,20 +15,12 @@ returns : tie.Need-returns
 returns c e = absurd (false≢true e)
 
 -- src/names.rt:24:10
-sub-result : tie.Need-sub-result
-sub-result c = search needs
 
 -- src/names.rt:24:5
-shared-slice-read-result : tie.Need-shared-slice-read-result
-shared-slice-read-result c = search needs
 
 -- src/names.rt:24:25
-sub-result-2 : tie.Need-sub-result-2
-sub-result-2 c = search needs
 
 -- src/names.rt:24:20
-shared-slice-read-result-2 : tie.Need-shared-slice-read-result-2
-shared-slice-read-result-2 c = search needs
 
 -- src/names.rt:16:1
 returns-2 : tie.Need-returns-2
@@ -38,12 +30,4 @@ returns-2 c e =
     byte-differs word rest (length word - 1) (omega (arith, c .before .before .if1 .left)) (eqb-false _ _ (not-true _ e))
 
 pub ends-apart-spec : {M : Type 1} → statement M
-ends-apart-spec =
-    tie.close
-    (tie.spec
-    returns
-    sub-result
-    shared-slice-read-result
-    sub-result-2
-    shared-slice-read-result-2
-    returns-2)
+ends-apart-spec = tie.close (tie.spec returns (λ c. search needs) (λ c. search needs) (λ c. search needs) (λ c. search needs) returns-2)

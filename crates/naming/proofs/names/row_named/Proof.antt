@@ -1,16 +1,11 @@
 -- `row_named` meets its contract.
-use mathlib.Core.Path.{_≡_, refl, sym, ap, _∙_}
-use Prim.Native.Nat.{_+_, _-_, _*_, _≤_, _<_}
+use Prim.Native.Nat.{_-_}
 use native.Mathlib.Omega.{arith}
-use lib.ListN.{length, getD, take, drop}
 use denote.Ref.{now}
 use borrow.Author.Needs.{needs}
 use Rattle.naming.proofs.Finding.{unknown, first-within, once-item, once-condition, twice}
 use Rattle.naming.proofs.names.row_named.Statement.{statement}
 use Rattle.naming.proofs.names.row_named.Tie as tie
-
-first-named-requires : tie.Need-first-named-requires
-first-named-requires c κs = search needs
 
 returns : tie.Need-returns
 returns c = unknown (now (c .before .before .before .before .before .args .description)) (now (c .before .before .before .before .before .args .places)) (now
@@ -84,12 +79,4 @@ pub row-named-spec : {M : Type 1} → statement M
 row-named-spec =
     tie.close
     (tie.spec
-    first-named-requires
-    returns
-    add-first-named
-    first-named-requires-2
-    returns-2
-    cast-t9
-    returns-3
-    cast-t10
-    returns-4)
+    (λ c κs. search needs) returns add-first-named first-named-requires-2 returns-2 cast-t9 returns-3 cast-t10 returns-4)

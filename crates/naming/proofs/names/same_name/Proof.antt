@@ -1,12 +1,10 @@
 -- `same_name` meets its contract. The loop's invariant: the first k bytes are the name's, so the rest decides.
-use mathlib.Core.Path.{_≡_, refl, sym, ap, _∙_}
-use mathlib.Core.Bool.{true, false}
-use Prim.Native.Nat.{_+_, _-_, _≤_, _<_}
+use mathlib.Core.Path.{_≡_, refl, sym, _∙_}
+use Prim.Native.Nat.{_-_, _≤_}
 use native.Mathlib.Omega.{arith}
-use lib.ListN.{length, getD, drop, length-drop, drop-of-length-le}
+use lib.ListN.{length, drop}
 use denote.Ref.{now}
 use borrow.Author.Needs.{needs}
-use borrow.Author.Tests.{not-true, not-false}
 use Rattle.description.specs.Grammar.{same}
 use Rattle.spelling.specs.Names.{leading}
 use Rattle.naming.proofs.Finding.{too-short, name-differs, name-goes-on, name-ends}
@@ -22,20 +20,8 @@ abbrev μ-loop : tie.MeasureT-loop
 returns : tie.Need-returns Inv-loop μ-loop
 returns c = too-short (now (c .before .before .before .args .word)) (now (c .before .before .before .args .rest)) (c .if1 .taken)
 
-ends-apart-requires : tie.Need-ends-apart-requires Inv-loop μ-loop
-ends-apart-requires c κs = omega (arith, c .if1 .left)
-
 returns-2 : tie.Need-returns-2 Inv-loop μ-loop
 returns-2 c = sym (c .before .ends-apart .ensures (c .if2 .taken))
-
-loop-holds : tie.Need-loop-holds Inv-loop μ-loop
-loop-holds c = (omega arith, omega arith, refl)
-
-shared-slice-read-if3 : tie.Need-shared-slice-read-if3 Inv-loop μ-loop
-shared-slice-read-if3 c = search needs
-
-shared-slice-read-if3-2 : tie.Need-shared-slice-read-if3-2 Inv-loop μ-loop
-shared-slice-read-if3-2 c = search needs
 
 returns-3 : tie.Need-returns-3 Inv-loop μ-loop
 returns-3 c =
@@ -44,24 +30,12 @@ returns-3 c =
     let there = name-differs (now (start .args .word)) (now (start .args .rest)) (l .k) (start .pre) (c .before .before .before .loop-test .taken) in
     sym (l .inv .2 ∙ there (omega (arith, l .inv .1)) (c .if3 .taken))
 
-add-k : tie.Need-add-k Inv-loop μ-loop
-add-k c = search needs
-
-loop-less : tie.Need-loop-less Inv-loop μ-loop
-loop-less c = search needs
-
 loop-again : tie.Need-loop-again Inv-loop μ-loop
 loop-again c =
     let l = c .before .before .before .before .loop in
     let start = c .before .before .before .before .before .before .before .before .before .before in
     let there = name-goes-on (now (start .args .word)) (now (start .args .rest)) (l .k) (start .pre) (c .before .before .before .loop-test .taken) in
     (omega arith, l .inv .1, l .inv .2 ∙ there (omega (arith, l .inv .1)) (c .if3 .left))
-
-byte-at-requires : tie.Need-byte-at-requires Inv-loop μ-loop
-byte-at-requires c κs = search needs
-
-is-name-byte-requires : tie.Need-is-name-byte-requires Inv-loop μ-loop
-is-name-byte-requires c κs = search needs
 
 returns-4 : tie.Need-returns-4 Inv-loop μ-loop
 returns-4 c =
@@ -74,18 +48,5 @@ pub same-name-spec : {M : Type 1} → statement M
 same-name-spec =
     tie.close
     (tie.spec
-    Inv-loop
-    μ-loop
-    returns
-    ends-apart-requires
-    returns-2
-    loop-holds
-    shared-slice-read-if3
-    shared-slice-read-if3-2
-    returns-3
-    add-k
-    loop-less
-    loop-again
-    byte-at-requires
-    is-name-byte-requires
-    returns-4)
+    Inv-loop μ-loop returns (λ c κs. omega (arith, c .if1 .left)) returns-2 (λ c. (omega arith, omega arith, refl)) (λ c. search needs)
+    (λ c. search needs) returns-3 (λ c. search needs) (λ c. search needs) loop-again (λ c κs. search needs) (λ c κs. search needs) returns-4)

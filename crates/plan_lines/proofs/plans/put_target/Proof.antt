@@ -1,17 +1,11 @@
 -- A verdict or a row.
-use mathlib.Core.Path.{_≡_, refl}
+use mathlib.Core.Path.{refl}
 use denote.Ref.{now}
 use Rattle.description.proofs.Bytes.{eqb-no}
 use Rattle.lines.proofs.Joining.{kept, joined}
 use Rattle.lines.proofs.Lining.{begun, with-text, with-number}
 use Rattle.plan_lines.proofs.plans.put_target.Statement.{statement}
 use Rattle.plan_lines.proofs.plans.put_target.Tie as tie
-
-slice-aggregate-put : tie.Need-slice-aggregate-put
-slice-aggregate-put c = refl
-
-put-requires : tie.Need-put-requires
-put-requires c κs = tt
 
 same-length : tie.Need-same-length
 same-length c = kept (c .before .before .put .ensures)
@@ -21,12 +15,6 @@ returns c =
     let back5 = c .before .before .before .before .before in
     let back7 = back5 .before .before in
     rw (back5 .if1 .taken) (with-text (begun (now (back7 .args .out)) (back7 .args .at)) (c .before .before .put .ensures))
-
-slice-aggregate-put-2 : tie.Need-slice-aggregate-put-2
-slice-aggregate-put-2 c = refl
-
-put-requires-2 : tie.Need-put-requires-2
-put-requires-2 c κs = tt
 
 same-length-2 : tie.Need-same-length-2
 same-length-2 c = kept (c .before .before .put2 .ensures)
@@ -38,15 +26,6 @@ returns-2 c =
     let back8 = back6 .before .before in
     rw (eqb-no (back8 .args .target) 65535 (back6 .if1 .left))
     (rw (back5 .if2 .taken) (with-text (begun (now (back8 .args .out)) (back8 .args .at)) (c .before .before .put2 .ensures)))
-
-slice-aggregate-put-3 : tie.Need-slice-aggregate-put-3
-slice-aggregate-put-3 c = refl
-
-put-requires-3 : tie.Need-put-requires-3
-put-requires-3 c κs = tt
-
-put-number-requires : tie.Need-put-number-requires
-put-number-requires c κs = tt
 
 same-length-3 : tie.Need-same-length-3
 same-length-3 c = kept (joined (c .before .before .before .before .before .before .put3 .ensures) (c .before .before .put-number .ensures .puts))
@@ -65,16 +44,5 @@ pub put-target-spec : {M : Type 1} → statement M
 put-target-spec =
     tie.close
     (tie.spec
-    slice-aggregate-put
-    put-requires
-    same-length
-    returns
-    slice-aggregate-put-2
-    put-requires-2
-    same-length-2
-    returns-2
-    slice-aggregate-put-3
-    put-requires-3
-    put-number-requires
-    same-length-3
-    returns-3)
+    (λ c. refl) (λ c κs. tt) same-length returns (λ c. refl) (λ c κs. tt) same-length-2 returns-2 (λ c. refl) (λ c κs. tt) (λ c κs. tt)
+    same-length-3 returns-3)

@@ -1,5 +1,4 @@
 -- `is_even` meets its contract.
-use mathlib.Core.Path.{refl}
 use borrow.Author.Needs.{needs}
 use Rattle.sweeps.proofs.Going.{nothing-fills, fills}
 use Rattle.sweeper.proofs.calls.is_even.Statement.{statement}
@@ -8,14 +7,8 @@ use Rattle.sweeper.proofs.calls.is_even.Tie as tie
 returns : tie.Need-returns
 returns c = nothing-fills (c .before .args .size) (c .before .args .bytes) (c .if1 .taken)
 
-rem-result : tie.Need-rem-result
-rem-result c = search needs
-
-div-result : tie.Need-div-result
-div-result c = search needs
-
 returns-2 : tie.Need-returns-2
 returns-2 c = fills (c .before .args .size) (c .before .args .bytes) (c .if1 .left)
 
 pub is-even-spec : {M : Type 1} → statement M
-is-even-spec = tie.close (tie.spec returns rem-result div-result returns-2)
+is-even-spec = tie.close (tie.spec returns (λ c. search needs) (λ c. search needs) returns-2)

@@ -1,5 +1,5 @@
 -- The refusals in their order, then each record's numbers.
-use mathlib.Core.Path.{_≡_, refl, sym, ap, _∙_}
+use mathlib.Core.Path.{sym, _∙_}
 use native.Mathlib.Omega.{arith}
 use lib.ListN.{length}
 use lib.Seq.{length-take-le}
@@ -12,12 +12,6 @@ use Rattle.sweeps.proofs.Lines.{held, unruly, uneven, empty, short, lacks-room,
 use Rattle.sweeper.proofs.calls.sweep.Statement.{statement}
 use Rattle.sweeper.proofs.calls.sweep.Tie as tie
 
-check-rules-requires : tie.Need-check-rules-requires
-check-rules-requires c κs = search needs
-
-enum-known-rules : tie.Need-enum-known-rules
-enum-known-rules c = search needs
-
 returns : tie.Need-returns
 returns c =
     let a = c .before .before .before .before .before .before .before .before .before .before .before .args in
@@ -25,12 +19,6 @@ returns c =
     let plan = now (a .plan) in
     let file = now (a .records) in
     unruly lent plan file (a .size) (a .switches) (now (a .answers)) (sym (c .before .before .before .check-rules .ensures) ∙ c .before .rules .given .1)
-
-enum-told : tie.Need-enum-told
-enum-told c = search needs
-
-is-even-requires : tie.Need-is-even-requires
-is-even-requires c κs = search needs
 
 returns-2 : tie.Need-returns-2
 returns-2 c =
@@ -57,12 +45,6 @@ slice-aggregate-check-record c =
     let bytes = length (now (a .records)) in
     sym (length-take-le size (now (a .records)) (one-fits size bytes (sym (c .before .before .before .is-even .ensures) ∙ not-false _ (c .before .before .if1 .left)) (c .before .if2 .left)))
 
-check-record-requires : tie.Need-check-record-requires
-check-record-requires c κs = search needs
-
-enum-known-held : tie.Need-enum-known-held
-enum-known-held c = search needs
-
 returns-4 : tie.Need-returns-4
 returns-4 c =
     let a = c .before .before .before .before .before .before .before .before .before .before .before .before .before .before .before .before .before .before .args in
@@ -73,9 +55,6 @@ returns-4 c =
     c .before .before .before .before .before .before .before .before .enum-told .given .1) (sym (c .before .before .before .before .before .before .before .is-even .ensures) ∙ not-false _
     (c .before .before .before .before .before .before .if1 .left)) (c .before .before .before .before .before .if2 .left) (sym (c .before .before .before .check-record .ensures) ∙
     c .before .held .given .1)
-
-enum-told-2 : tie.Need-enum-told-2
-enum-told-2 c = search needs
 
 div-count : tie.Need-div-count
 div-count c =
@@ -119,9 +98,6 @@ sweep-records-requires c κs =
       fits = omega (arith, c .before .if3 .left);
     }
 
-same-length : tie.Need-same-length
-same-length c = search needs
-
 returns-6 : tie.Need-returns-6
 returns-6 c =
     let a = c .before .before .before .before .before .before .before .before .before .before .before .before .before .before .before .before .before .before .before .before .before .before .args in
@@ -140,21 +116,6 @@ pub sweep-spec : {M : Type 1} → statement M
 sweep-spec =
     tie.close
     (tie.spec
-    check-rules-requires
-    enum-known-rules
-    returns
-    enum-told
-    is-even-requires
-    returns-2
-    returns-3
-    slice-aggregate-check-record
-    check-record-requires
-    enum-known-held
-    returns-4
-    enum-told-2
-    div-count
-    mul-count
-    returns-5
-    sweep-records-requires
-    same-length
-    returns-6)
+    (λ c κs. search needs) (λ c. search needs) returns (λ c. search needs) (λ c κs. search needs) returns-2 returns-3 slice-aggregate-check-record
+    (λ c κs. search needs) (λ c. search needs) returns-4 (λ c. search needs) div-count mul-count returns-5 sweep-records-requires
+    (λ c. search needs) returns-6)

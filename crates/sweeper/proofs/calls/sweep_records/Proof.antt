@@ -1,13 +1,14 @@
 -- One part after another.
-use mathlib.Core.Path.{_≡_, refl, sym, ap, _∙_}
+use mathlib.Core.Path.{_≡_, sym}
 use mathlib.Core.List.{List}
-use Prim.Native.Nat.{ℕ, _≤_}
+use Prim.Native.Nat.{ℕ}
 use native.Mathlib.Omega.{arith}
 use lib.ListN.{length}
 use denote.Ref.{now}
 use Rattle.tables.specs.declared.Judged.{Judged}
 use Rattle.tables.specs.Operands.{lendNames}
 use Rattle.rules.specs.Calls.{runGives}
+use Rattle.sweeps.specs.Parts.{Part}
 use Rattle.sweeps.proofs.Going.{Between, begins, part, goes-on, long, ends, filled}
 use Rattle.sweeper.proofs.calls.sweep_records.Statement.{statement}
 use Rattle.sweeper.proofs.calls.sweep_records.Tie as tie
@@ -19,133 +20,71 @@ Inv-loop items literals bytes names plan records size switches answers₀ left�
 abbrev μ-loop : tie.MeasureT-loop
 μ-loop items literals bytes names plan records size switches answers₀ left₀ from₀ out₀ answers left from out = left
 
-div-left : tie.Need-div-left Inv-loop μ-loop
-div-left c = omega (
-  arith,
-  filled (c .before .before .before .before .before .before .before .args .size) (length (now
-      (c .before .before .before .before .before .before .before .args .records))) (c .before .before .before .before .before .before .before .pre .sizes) .0,
-)
+abbrev run : tie.Start Inv-loop μ-loop → List ℕ → Judged
+run start content =
+    let a = start .args in
+    runGives (lendNames (now (a .items)) (now (a .literals)) (now (a .bytes)) (now (a .names))) (now (a .plan)) content (a .switches)
 
-loop-holds : tie.Need-loop-holds Inv-loop μ-loop
-loop-holds c = begins _ _ _ _
+-- the next part lies in the file, and its numbers have room
+abbrev first : tie.After-part-records Inv-loop μ-loop → tie.Start Inv-loop μ-loop
+first c = c .before .before .before .before .before .before .before .before .before .before
+
+next : (c : tie.After-part-records Inv-loop μ-loop) → Part (now (first c .args .records)) (first c .args .size) (c .before .before .loop .from)
+    (c .part-records .result) (c .before .before .loop .out) (length (c .before .before .loop .answers))
+next c =
+    let start = first c in
+    let a = start .args in
+    let told = c .part-records .ensures in
+    part (run start) (now (a .records)) (a .size) (now (a .answers)) (start .pre .sizes) (start .pre .fits) (c .before .before .loop .inv) (c .part-records .result)
+    (told .1) (told .0) (told .2)
+
+-- the numbers are as many as at first
+as-many : (c : tie.At-loop Inv-loop μ-loop) → length (c .loop .answers) ≡ length (now (c .before .before .before .before .before .before .before .before .args .answers))
+as-many c =
+    let start = c .before .before .before .before .before .before .before .before in
+    let a = start .args in
+    long (run start) (now (a .records)) (a .size) (now (a .answers)) (start .pre .sizes) (start .pre .fits) (c .loop .inv)
+
+div-left : tie.Need-div-left Inv-loop μ-loop
+div-left c =
+    let start = c .before .before .before .before .before .before .before in
+    omega (arith, filled (start .args .size) (length (now (start .args .records))) (start .pre .sizes) .0)
 
 part-records-requires : tie.Need-part-records-requires Inv-loop μ-loop
-part-records-requires c κs = omega (
-  arith,
-  filled (c .before .before .before .before .before .before .before .before .before .args .size) (length (now
-      (c .before .before .before .before .before .before .before .before .before .args .records))) (c .before .before .before .before .before .before .before .before .before .pre .sizes) .0,
-)
+part-records-requires c κs =
+    let start = c .before .before .before .before .before .before .before .before .before in
+    omega (arith, filled (start .args .size) (length (now (start .args .records))) (start .pre .sizes) .0)
 
 sweep-part-requires : tie.Need-sweep-part-requires Inv-loop μ-loop
-sweep-part-requires c κs =
-    let head = c .before .before .before in
-    let l = head .loop in
-    let start = head .before .before .before .before .before .before .before .before in
-    let a = start .args in
-    let run : List ℕ → Judged = λ content. runGives (lendNames (now (a .items)) (now (a .literals)) (now (a .bytes)) (now (a .names))) (now (a .plan)) content (a .switches) in (
-      rw (sym (long run (now (a .records)) (a .size) (now (a .answers)) (start .pre .sizes) (start .pre .fits) (l .inv))) at (start .pre),
-      part run (now (a .records)) (a .size) (now
-          (a .answers)) (start .pre .sizes) (start .pre .fits) (l .inv) (c .before .part-records .result) (c .before .part-records .ensures .1) (c .before .part-records .ensures .0)
-          (c .before .part-records .ensures .2),
-    )
-
-sub-left : tie.Need-sub-left Inv-loop μ-loop
-sub-left c = omega (arith, c .before .before .before .before .part-records .ensures .1)
-
-mul-from : tie.Need-mul-from Inv-loop μ-loop
-mul-from c =
-    let head = c .before .before .before .before .before .before in
-    let l = head .loop in
-    let start = head .before .before .before .before .before .before .before .before in
-    let a = start .args in
-    let run : List ℕ → Judged = λ content. runGives (lendNames (now (a .items)) (now (a .literals)) (now (a .bytes)) (now (a .names))) (now (a .plan)) content (a .switches) in
-    omega (
-      arith,
-      part run (now (a .records)) (a .size) (now (a .answers)) (start .pre .sizes) (start .pre .fits) (l .inv) (c .before .before .before .before .part-records .result)
-          (c .before .before .before .before .part-records .ensures .1) (c .before .before .before .before .part-records .ensures .0)
-          (c .before .before .before .before .part-records .ensures .2) .within,
-    )
-
-add-from : tie.Need-add-from Inv-loop μ-loop
-add-from c =
-    let head = c .before .before .before .before .before .before in
-    let l = head .loop in
-    let start = head .before .before .before .before .before .before .before .before in
-    let a = start .args in
-    let run : List ℕ → Judged = λ content. runGives (lendNames (now (a .items)) (now (a .literals)) (now (a .bytes)) (now (a .names))) (now (a .plan)) content (a .switches) in
-    omega (
-      arith,
-      part run (now (a .records)) (a .size) (now (a .answers)) (start .pre .sizes) (start .pre .fits) (l .inv) (c .before .before .before .before .part-records .result)
-          (c .before .before .before .before .part-records .ensures .1) (c .before .before .before .before .part-records .ensures .0)
-          (c .before .before .before .before .part-records .ensures .2) .within,
-    )
-
-mul-out : tie.Need-mul-out Inv-loop μ-loop
-mul-out c = omega (arith, c .before .before .before .before .part-records .ensures .2)
+sweep-part-requires c κs = (rw (sym (as-many (c .before .before .before))) at (first (c .before) .pre), next (c .before))
 
 add-out : tie.Need-add-out Inv-loop μ-loop
 add-out c =
-    let head = c .before .before .before .before .before .before in
-    let l = head .loop in
-    let start = head .before .before .before .before .before .before .before .before in
-    let a = start .args in
-    let run : List ℕ → Judged = λ content. runGives (lendNames (now (a .items)) (now (a .literals)) (now (a .bytes)) (now (a .names))) (now (a .plan)) content (a .switches) in
-    omega (
-      arith,
-      part run (now (a .records)) (a .size) (now (a .answers)) (start .pre .sizes) (start .pre .fits) (l .inv) (c .before .before .before .before .part-records .result)
-          (c .before .before .before .before .part-records .ensures .1) (c .before .before .before .before .part-records .ensures .0)
-          (c .before .before .before .before .part-records .ensures .2) .fits,
-      long run (now (a .records)) (a .size) (now (a .answers)) (start .pre .sizes) (start .pre .fits) (l .inv),
-      start .good .1 .1 .1 .1 .1 .1 .1 .1 .0 .0,
-    )
+    let p = c .before .before .before .before in
+    omega (arith, next p .fits, as-many (p .before .before), first p .good .1 .1 .1 .1 .1 .1 .1 .1 .0 .0)
 
 loop-less : tie.Need-loop-less Inv-loop μ-loop
 loop-less c = omega (arith, c .before .before .before .before .part-records .ensures .0, c .before .before .before .before .part-records .ensures .1)
 
 loop-again : tie.Need-loop-again Inv-loop μ-loop
 loop-again c =
-    let head = c .before .before .before .before .before .before in
-    let l = head .loop in
-    let start = head .before .before .before .before .before .before .before .before in
+    let p = c .before .before .before .before in
+    let start = first p in
     let a = start .args in
-    let run : List ℕ → Judged = λ content. runGives (lendNames (now (a .items)) (now (a .literals)) (now (a .bytes)) (now (a .names))) (now (a .plan)) content (a .switches) in
-    goes-on run (now (a .records)) (a .size) (now (a .answers)) (start .pre .sizes) (start .pre .fits) (l .inv) (c .before .before .before .before .part-records .result)
-    (c .before .before .before .before .part-records .ensures .1) (c .before .before .sweep-part .ensures)
-
-same-length : tie.Need-same-length Inv-loop μ-loop
-same-length c =
-    let head = c .before in
-    let l = head .loop in
-    let start = head .before .before .before .before .before .before .before .before in
-    let a = start .args in
-    let run : List ℕ → Judged = λ content. runGives (lendNames (now (a .items)) (now (a .literals)) (now (a .bytes)) (now (a .names))) (now (a .plan)) content (a .switches) in
-    long run (now (a .records)) (a .size) (now (a .answers)) (start .pre .sizes) (start .pre .fits) (l .inv)
+    goes-on (run start) (now (a .records)) (a .size) (now (a .answers)) (start .pre .sizes) (start .pre .fits) (p .before .before .loop .inv) (p .part-records .result)
+    (p .part-records .ensures .1) (c .before .before .sweep-part .ensures)
 
 returns : tie.Need-returns Inv-loop μ-loop
 returns c =
-    let head = c .before in
-    let l = head .loop in
-    let start = head .before .before .before .before .before .before .before .before in
+    let start = c .before .before .before .before .before .before .before .before .before in
     let a = start .args in
-    let run : List ℕ → Judged = λ content. runGives (lendNames (now (a .items)) (now (a .literals)) (now (a .bytes)) (now (a .names))) (now (a .plan)) content (a .switches) in
-    ends run (now (a .records)) (a .size) (now (a .answers)) (start .pre .sizes) (start .pre .fits) (l .inv) (omega (arith, c .loop-test .left))
+    ends (run start) (now (a .records)) (a .size) (now (a .answers)) (start .pre .sizes) (start .pre .fits) (c .before .loop .inv) (omega (arith, c .loop-test .left))
 
 pub sweep-records-spec : {M : Type 1} → statement M
 sweep-records-spec =
     tie.close
     (tie.spec
-    Inv-loop
-    μ-loop
-    div-left
-    loop-holds
-    part-records-requires
-    sweep-part-requires
-    sub-left
-    mul-from
-    add-from
-    mul-out
-    add-out
-    loop-less
-    loop-again
-    same-length
-    returns)
+    Inv-loop μ-loop div-left (λ c. begins _ _ _ _) part-records-requires sweep-part-requires
+    (λ c. omega (arith, c .before .before .before .before .part-records .ensures .1)) (λ c. omega (arith, next (c .before .before .before .before) .within))
+    (λ c. omega (arith, next (c .before .before .before .before) .within))
+    (λ c. omega (arith, c .before .before .before .before .part-records .ensures .2)) add-out loop-less loop-again (λ c. as-many (c .before)) returns)

@@ -1,10 +1,9 @@
 -- `common_length` meets its contract: from the laws of proofs/ and what its callees ensure. Assumes nothing.
-use Prim.Native.Nat.{_-_, _+_, _≤_}
+use Prim.Native.Nat.{_-_, _+_}
 use native.Mathlib.Omega.{arith}
-use mathlib.Core.Path.{_≡_, refl, sym, _∙_}
+use mathlib.Core.Path.{_≡_}
 use lib.ListN.{length, drop}
 use denote.Ref.{now}
-use borrow.Author.Needs.{needs}
 use Rattle.description.specs.Stages.{common}
 use Rattle.wanted_words.proofs.Laws.{common-short, common-more, common-other, common-end}
 use Rattle.wanted_words.proofs.literals.common_length.Statement.{statement}
@@ -16,29 +15,14 @@ Inv-loop word rest k₀ k = common word rest ≡ k + common (drop k word) (drop 
 abbrev μ-loop : tie.MeasureT-loop
 μ-loop word rest k₀ k = length word - k
 
-loop-holds : tie.Need-loop-holds Inv-loop μ-loop
-loop-holds c = omega arith
-
 returns : tie.Need-returns Inv-loop μ-loop
 returns c = common-short (now (c .before .before .before .args .word)) (now (c .before .before .before .args .rest)) (c .before .before .loop .k)
     (c .before .loop-test .taken) (c .if1 .taken) (c .before .before .loop .inv)
-
-shared-slice-read-if2 : tie.Need-shared-slice-read-if2 Inv-loop μ-loop
-shared-slice-read-if2 c = omega arith
-
-shared-slice-read-if2-2 : tie.Need-shared-slice-read-if2-2 Inv-loop μ-loop
-shared-slice-read-if2-2 c = omega arith
 
 returns-2 : tie.Need-returns-2 Inv-loop μ-loop
 returns-2 c = common-other (now (c .before .before .before .before .before .before .args .word)) (now (c .before .before .before .before .before .before .args .rest))
     (c .before .before .before .before .before .loop .k) (c .before .before .before .before .loop-test .taken) (c .before .before .before .if1 .left) (c .if2 .taken)
     (c .before .before .before .before .before .loop .inv)
-
-add-k : tie.Need-add-k Inv-loop μ-loop
-add-k c = omega arith
-
-loop-less : tie.Need-loop-less Inv-loop μ-loop
-loop-less c = omega arith
 
 loop-again : tie.Need-loop-again Inv-loop μ-loop
 loop-again c = common-more (now (c .before .before .before .before .before .before .args .word)) (now (c .before .before .before .before .before .before .args .rest))
@@ -52,14 +36,5 @@ pub common-length-spec : {M : Type 1} → statement M
 common-length-spec =
     tie.close
     (tie.spec
-    Inv-loop
-    μ-loop
-    loop-holds
-    returns
-    shared-slice-read-if2
-    shared-slice-read-if2-2
-    returns-2
-    add-k
-    loop-less
-    loop-again
+    Inv-loop μ-loop (λ c. omega arith) returns (λ c. omega arith) (λ c. omega arith) returns-2 (λ c. omega arith) (λ c. omega arith) loop-again
     returns-3)

@@ -1,10 +1,8 @@
 -- `name_reach` meets its contract: from the laws of proofs/ and what its callees ensure. Assumes nothing.
-use Prim.Native.Nat.{_-_, _+_, _≤_}
+use Prim.Native.Nat.{_-_}
 use native.Mathlib.Omega.{arith}
-use mathlib.Core.Path.{_≡_, refl, sym, ap, _∙_}
-use lib.ListN.{length, take, drop}
+use mathlib.Core.Path.{sym, _∙_}
 use denote.Ref.{now}
-use borrow.Author.Tests.{not-true, not-false}
 use Rattle.words.proofs.Reaches.{reach-none, reach-hyphen, reach-short, reach-29, reach-whole, reach-not}
 use lib.ListN.{length-take}
 use borrow.Author.Needs.{needs}
@@ -14,14 +12,8 @@ use Rattle.words.proofs.names.name_reach.Tie as tie
 returns : tie.Need-returns
 returns c = reach-none (now (c .before .before .args .rest)) (c .if1 .taken)
 
-shared-slice-read-if2 : tie.Need-shared-slice-read-if2
-shared-slice-read-if2 c = search needs
-
 returns-2 : tie.Need-returns-2
 returns-2 c = reach-hyphen (now (c .before .before .before .before .args .rest)) (c .if2 .taken)
-
-name-run-requires : tie.Need-name-run-requires
-name-run-requires c κs = search needs
 
 returns-3 : tie.Need-returns-3
 returns-3 c = reach-short (now (c .before .before .before .before .before .before .args .rest)) (c .before .name-run .result) (c .before .name-run .ensures)
@@ -33,9 +25,6 @@ returns-4 c = reach-29 (now (c .before .before .before .before .before .before .
 
 slice-aggregate-is-name : tie.Need-slice-aggregate-is-name
 slice-aggregate-is-name c = omega (arith, length-take 30 (now (c .before .before .before .before .before .before .before .before .args .rest)))
-
-is-name-requires : tie.Need-is-name-requires
-is-name-requires c κs = search needs
 
 returns-5 : tie.Need-returns-5
 returns-5 c = reach-whole (now (c .before .before .before .before .before .before .before .before .before .before .args .rest))
@@ -53,13 +42,5 @@ pub name-reach-spec : {M : Type 1} → statement M
 name-reach-spec =
     tie.close
     (tie.spec
-    returns
-    shared-slice-read-if2
-    returns-2
-    name-run-requires
-    returns-3
-    returns-4
-    slice-aggregate-is-name
-    is-name-requires
-    returns-5
+    returns (λ c. search needs) returns-2 (λ c κs. search needs) returns-3 returns-4 slice-aggregate-is-name (λ c κs. search needs) returns-5
     returns-6)

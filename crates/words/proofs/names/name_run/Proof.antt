@@ -1,8 +1,8 @@
 -- `name_run` meets its contract: from the laws of proofs/ and what its callees ensure. Assumes nothing.
-use Prim.Native.Nat.{_-_, _+_, _≤_}
+use Prim.Native.Nat.{_-_, _+_}
 use native.Mathlib.Omega.{arith}
-use mathlib.Core.Path.{_≡_, refl, sym, ap, _∙_}
-use lib.ListN.{length, take, drop}
+use mathlib.Core.Path.{_≡_, sym, _∙_}
+use lib.ListN.{drop}
 use denote.Ref.{now}
 use borrow.Author.Needs.{needs}
 use borrow.Author.Tests.{not-true, not-false}
@@ -24,23 +24,11 @@ returns : tie.Need-returns Inv-loop μ-loop
 returns c = run-short (now (c .before .before .before .before .args .rest)) (c .before .before .before .before .args .most) (c .before .before .loop .k)
     (c .before .loop-test .taken) (c .if1 .taken) (c .before .before .loop .inv)
 
-shared-slice-read-is-name-byte : tie.Need-shared-slice-read-is-name-byte Inv-loop μ-loop
-shared-slice-read-is-name-byte c = omega arith
-
-is-name-byte-requires : tie.Need-is-name-byte-requires Inv-loop μ-loop
-is-name-byte-requires c κs = search needs
-
 returns-2 : tie.Need-returns-2 Inv-loop μ-loop
 returns-2 c = run-other (now (c .before .before .before .before .before .before .before .args .rest))
     (c .before .before .before .before .before .before .before .args .most) (c .before .before .before .before .before .loop .k)
     (c .before .before .before .before .loop-test .taken) (c .before .before .before .if1 .left) (sym (c .before .is-name-byte .ensures) ∙ not-true _ (c .if2 .taken))
     (c .before .before .before .before .before .loop .inv)
-
-add-k : tie.Need-add-k Inv-loop μ-loop
-add-k c = omega arith
-
-loop-less : tie.Need-loop-less Inv-loop μ-loop
-loop-less c = omega arith
 
 loop-again : tie.Need-loop-again Inv-loop μ-loop
 loop-again c = run-more (now (c .before .before .before .before .before .before .before .args .rest))
@@ -55,14 +43,5 @@ pub name-run-spec : {M : Type 1} → statement M
 name-run-spec =
     tie.close
     (tie.spec
-    Inv-loop
-    μ-loop
-    loop-holds
-    returns
-    shared-slice-read-is-name-byte
-    is-name-byte-requires
-    returns-2
-    add-k
-    loop-less
-    loop-again
+    Inv-loop μ-loop loop-holds returns (λ c. omega arith) (λ c κs. search needs) returns-2 (λ c. omega arith) (λ c. omega arith) loop-again
     returns-3)

@@ -4,22 +4,13 @@ use denote.Ref.{now}
 use Rattle.tables.specs.Operands.{lendNames}
 use Rattle.names.proofs.Lines.{tables-refused, names-tried}
 use borrow.Author.Needs.{needs}
-use Rattle.merger.proofs.calls.check_lent.Statement.{statement}
-use Rattle.merger.proofs.calls.check_lent.Tie as tie
-
-check-tables-requires : tie.Need-check-tables-requires
-check-tables-requires c κs = search needs
-
-enum-known-tables : tie.Need-enum-known-tables
-enum-known-tables c = search needs
+use Rattle.preparer.proofs.lent.check_lent.Statement.{statement}
+use Rattle.preparer.proofs.lent.check_lent.Tie as tie
 
 returns : tie.Need-returns
 returns c =
     let a = c .before .before .before .before .before .before .before .before .args in
     sym (tables-refused (lendNames (now (a .items)) (now (a .literals)) (now (a .bytes)) (now (a .names))) (c .before .before .before .check-tables .ensures) (c .before .tables .given .1))
-
-enum-told : tie.Need-enum-told
-enum-told c = search needs
 
 check-names-requires : tie.Need-check-names-requires
 check-names-requires c κs = sym (c .before .before .check-tables .ensures) ∙ c .enum-told .given .1
@@ -32,12 +23,4 @@ returns-2 c =
     (c .before .enum-told .given .1) (c .check-names .ensures)
 
 pub check-lent-spec : {M : Type 1} → statement M
-check-lent-spec =
-    tie.close
-    (tie.spec
-    check-tables-requires
-    enum-known-tables
-    returns
-    enum-told
-    check-names-requires
-    returns-2)
+check-lent-spec = tie.close (tie.spec (λ c κs. search needs) (λ c. search needs) returns (λ c. search needs) check-names-requires returns-2)
