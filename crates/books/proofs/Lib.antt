@@ -1,3 +1,1 @@
-pub mod Describing
-pub mod Booked
 pub mod Giving

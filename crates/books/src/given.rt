@@ -11,7 +11,7 @@ use lexer::Gathered;
 use literal_bytes::copies::copy_bytes;
 
 // Numbers over the start of an output.
-pub(crate) fn copy_numbers(from: &[u32], to: &mut [u32])
+fn copy_numbers(from: &[u32], to: &mut [u32])
     requires { ⌜ length (now from) ≤ length (now to) ⌝ }
     ensures { λ _. ⌜ now (to .exit) ≡ writtenOver (now (from .entry)) (now (to .entry)) ⌝ }
 {

@@ -1,6 +1,5 @@
-// Conditions as printed: the types of the answers, a description read for its names and literals, and what is given where there is room.
+// Conditions as printed: the types of the answers, and what is given where there is room.
 
-pub mod names; // names and literals of a description
 pub mod given; // what is given where there is room
 
 use tables::Refusal;

@@ -5,9 +5,7 @@ use mathlib.Core.List.{List, [], _∷_, _++_}
 use Prim.Native.Nat.{ℕ, _+_, _-_, _≤_, _<_}
 use lib.Dec.{eqb}
 use lib.ListN.{length, getD, take, drop}
-use Rattle.content.specs.declared.Row as Rules
-use Rattle.description.specs.Grammar.{bytes, Row, row, Literal, literalRow, Value, single, range}
-use Rattle.description.specs.Limits.{ruled, barred}
+use Rattle.description.specs.Grammar.{bytes, Literal, Value, single, range}
 use Rattle.description.specs.Stages.{inked, literalAt, spelledAt, literalIn, isLiteral}
 use Rattle.description.specs.declared.Reached.{Reached}
 use Rattle.description.specs.declared.Reached.the-variants as Reached
@@ -16,8 +14,6 @@ use Rattle.description.specs.declared.Spelled.the-variants as Spelled
 use Rattle.condition_names.specs.declared.Found.{Found}
 use Rattle.condition_names.specs.declared.ValueRead.{ValueRead}
 use Rattle.condition_names.specs.declared.ValueRead.the-variants as ValueRead
-use Rattle.condition_names.specs.declared.Weighed.{Weighed}
-use Rattle.condition_names.specs.declared.Weighed.the-variants.{Barred, Single, Range}
 
 abbrev pub alone : ℕ → ℕ → Found
 alone p k = record { low = p; mid = k; high = p; end = k; range = false }
@@ -62,14 +58,3 @@ pub record Stands (text : List ℕ) (f : Found) : Type 0 where
   pub goes : f .high ≤ f .end
   pub ends : f .end ≤ length text
   pub high : isLiteral (take (f .end - f .high) (drop (f .high) text)) ≡ true
-
--- an item's row as the grammar has it
-abbrev pub shown : Rules.Row → Row
-shown r = row (r .kind) (r .offset) (r .size) (r .scale) (r .digits)
-
-abbrev pub rowsOf : Value → Weighed
-rowsOf (single x) = Single (ruled (literalRow 0 x))
-rowsOf (range x y) = Range (ruled (literalRow 0 x)) (ruled (literalRow 0 y))
-
-abbrev pub weighed : Rules.Row → Value → Weighed
-weighed item v = cond (barred (shown item) v) Barred (rowsOf v)

@@ -17,7 +17,7 @@ use Rattle.description.specs.Limits.{comparable, barred, anyBarred, overName, M
 use Rattle.description.specs.Stages.{inked, firstOver, ownRow, ownRows}
 use Rattle.description.proofs.Bytes.{apart, eqb-no}
 use Rattle.description.proofs.Firsts.{any-alike}
-use Rattle.condition_names.specs.Values.{shown}
+use Rattle.value_weights.specs.Weights.{shown}
 use Rattle.entries.specs.declared.Noted.{Noted}
 use Rattle.entries.specs.Entries.{cap, capNoted, contentOf, entryOf}
 use Rattle.name_entries.specs.Taking.{tally}

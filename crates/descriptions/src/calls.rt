@@ -3,6 +3,8 @@ ghost use mathlib.Core.Path.{_≡_};
 ghost use Prim.Native.Nat.{_≤_, min};
 ghost use lib.ListN.{length};
 ghost use Rattle.describing.specs.Calls.{ReadsWithin, SoonerBy, DescribedBy};
+ghost use Rattle.descriptions.specs.Parses.{Parses};
+use crate::Parsed;
 use content::Row;
 use describer::reading::read_entries;
 use describing::Described;
@@ -74,50 +76,23 @@ fn sooner_of(laid: Laid, names: Names) -> Laid
     }
 }
 
-// The same as `describe`, with room for the entries, the rows, and names with their literals.
-fn describe_with(
+// The entries of a text in lent buffers, and their rows.
+fn parse(
     text: &[u8],
     entries: &mut [u32],
     named: &mut [u32],
     spots: &mut [u32],
     notes: &mut [u32],
-    laid: &mut [u32],
     rows: &mut [u32],
-    places: &mut [u32],
-    names: &mut [u32],
-    name_places: &mut [u32],
-    literals: &mut [u32],
-    bytes: &mut [u8],
-) -> Described
+) -> Parsed
     requires { ⌜ (5747 ≤ length (now entries)) × ((1152 ≤ length (now named)) × ((64 ≤ length (now spots)) × (448 ≤ length (now notes)))) ⌝ }
-    requires { ⌜ 320 ≤ length (now laid) ⌝ }
-    ensures { λ r. ⌜ DescribedBy (now (text .entry)) (now (rows .entry)) (now (places .entry)) (now (names .entry)) (now («name_places» .entry)) (now (literals .entry)) (now (bytes .entry)) r (now (rows .exit)) (now (places .exit)) (now (names .exit)) (now («name_places» .exit)) (now (literals .exit)) (now (bytes .exit)) ⌝ }
+    requires { ⌜ 320 ≤ length (now rows) ⌝ }
+    ensures { λ r. ⌜ Parses (now (text .entry)) (now (entries .exit)) (now (named .exit)) (now (spots .exit)) (now (notes .exit)) (now (rows .exit)) r ⌝ }
 {
     let found = read_within(text, entries, named, spots, notes);
     let kept = found.names;
-    match sooner_of(lay_rows(entries, found.count, laid), kept) {
-        Laid::Over(p) => Described::Faulty(p),
-        Laid::Fine => {
-            if !found.whole {
-                return Described::Faulty(found.place);
-            }
-            give(
-                text,
-                laid,
-                entries,
-                named,
-                spots,
-                notes,
-                found,
-                rows,
-                places,
-                names,
-                name_places,
-                literals,
-                bytes,
-            )
-        }
-    }
+    let laid = sooner_of(lay_rows(entries, found.count, rows), kept);
+    Parsed { found, laid }
 }
 
 // Reads a record description into item rows, five numbers each, and the place of each row's name or
@@ -139,18 +114,37 @@ pub fn describe(
     let mut spots = [0u32; 64];
     let mut notes = [0u32; 448];
     let mut laid = [0u32; Row::TABLE];
-    describe_with(
+    let parsed = parse(
         text,
         &mut entries,
         &mut named,
         &mut spots,
         &mut notes,
         &mut laid,
-        rows,
-        places,
-        names,
-        name_places,
-        literals,
-        bytes,
-    )
+    );
+    let found = parsed.found;
+    let over = parsed.laid;
+    match over {
+        Laid::Over(p) => Described::Faulty(p),
+        Laid::Fine => {
+            if !found.whole {
+                return Described::Faulty(found.place);
+            }
+            give(
+                text,
+                &laid,
+                &entries,
+                &named,
+                &spots,
+                &notes,
+                found,
+                rows,
+                places,
+                names,
+                name_places,
+                literals,
+                bytes,
+            )
+        }
+    }
 }

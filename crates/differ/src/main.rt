@@ -29,6 +29,11 @@ const LITERAL_BYTES: usize = 4096;
 
 const OUTPUT: usize = 128;
 
+// Room for a record. Made here, so that what takes it need not look into it.
+fn room() -> [u8; RECORD] {
+    [0u8; RECORD]
+}
+
 fn list(items: &[u32], first: &[u8], second: &[u8]) {
     let mut output = [0u32; OUTPUT];
     let written = differ(items, first, second, &mut output);
@@ -36,13 +41,13 @@ fn list(items: &[u32], first: &[u8], second: &[u8]) {
 }
 
 fn list_second(items: &[u32], first: &[u8]) {
-    let mut second = [0u8; RECORD];
+    let mut second = room();
     let n = read_file(3, &mut second);
     list(items, first, front_bytes(&second, n));
 }
 
 fn list_first(items: &[u32]) {
-    let mut first = [0u8; RECORD];
+    let mut first = room();
     let n = read_file(2, &mut first);
     list_second(items, front_bytes(&first, n));
 }

@@ -9,6 +9,14 @@ pub enum Loaded {
     Failed,
 }
 
+// No item ends after byte 131,070; a part of a file, and the words of a rule, have the same room.
+const LARGE: usize = 131072;
+
+// Room for a record. Made here, so that what takes it need not look into it.
+pub(crate) fn large() -> [u8; LARGE] {
+    [0u8; LARGE]
+}
+
 // A number of a table as an index.
 pub(crate) fn wide(number: u32) -> usize {
     number as usize

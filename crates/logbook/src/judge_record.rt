@@ -1,5 +1,6 @@
 // judge: what a rule says of one record.
 use crate::files::Loaded;
+use crate::files::large;
 use crate::files::load;
 use crate::refusals::numbered;
 use crate::refusals::of_record;
@@ -11,9 +12,6 @@ use fronts::front_bytes;
 use libc::STDOUT_FILENO;
 use tables::Refusal;
 use tables::Verdict;
-
-// No item ends after byte 131,070.
-const RECORD: usize = 131072;
 
 // A refusal of a run: a stop on what an item holds, or a record that is too short.
 pub(crate) fn refused(
@@ -109,7 +107,7 @@ pub(crate) fn judge_record(
     plan: &[u32],
     switches: u8,
 ) -> u32 {
-    let mut record = [0u8; RECORD];
+    let mut record = large();
     let loaded = load(4, &mut record);
     match loaded {
         Loaded::Failed => 2,

@@ -2,6 +2,7 @@
 use crate::changes::change;
 use crate::changes::part;
 use crate::files::Loaded;
+use crate::files::large;
 use crate::files::load;
 use crate::files::wide;
 use crate::refusals::of_record;
@@ -11,9 +12,6 @@ use fronts::front;
 use fronts::front_bytes;
 use tables::Written;
 use tables::rows::row_at;
-
-// No item ends after byte 131,070.
-const RECORD: usize = 131072;
 
 const OUTPUT: usize = 128;
 
@@ -97,7 +95,7 @@ fn compared(description: &[u8], items: &[u32], places: &[u32], first: &[u8], sec
 }
 
 fn with_second(description: &[u8], items: &[u32], places: &[u32], first: &[u8]) -> u32 {
-    let mut second = [0u8; RECORD];
+    let mut second = large();
     let loaded = load(4, &mut second);
     match loaded {
         Loaded::Failed => 2,
@@ -106,7 +104,7 @@ fn with_second(description: &[u8], items: &[u32], places: &[u32], first: &[u8]) 
 }
 
 pub(crate) fn list_differences(description: &[u8], items: &[u32], places: &[u32]) -> u32 {
-    let mut first = [0u8; RECORD];
+    let mut first = large();
     let loaded = load(3, &mut first);
     match loaded {
         Loaded::Failed => 2,

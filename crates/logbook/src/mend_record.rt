@@ -3,6 +3,7 @@ use crate::changes::change;
 use crate::changes::part;
 use crate::files::Loaded;
 use crate::files::is_free;
+use crate::files::large;
 use crate::files::load;
 use crate::files::save;
 use crate::print::argument;
@@ -16,9 +17,6 @@ use mender::calls::mend;
 use tables::Written;
 use tables::rows::is_group;
 use tables::rows::row_at;
-
-// No item ends after byte 131,070.
-const RECORD: usize = 131072;
 
 // Three numbers for each of at most 19 bytes of at most 64 items.
 const CHANGES: usize = 3648;
@@ -82,7 +80,7 @@ fn mend_part(
 
 // The record twice: as it was, and to be mended.
 fn mend_copy(description: &[u8], items: &[u32], places: &[u32], old: &[u8]) -> u32 {
-    let mut record = [0u8; RECORD];
+    let mut record = large();
     let n = lines::text::put(&mut record, 0, old);
     if n <= record.len() {
         return mend_part(description, items, places, old, &mut record[..n]);
@@ -94,7 +92,7 @@ pub(crate) fn mend_record(description: &[u8], items: &[u32], places: &[u32]) -> 
     if !is_free(4) {
         return 2;
     }
-    let mut old = [0u8; RECORD];
+    let mut old = large();
     let loaded = load(3, &mut old);
     match loaded {
         Loaded::Failed => 2,

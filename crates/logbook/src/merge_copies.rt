@@ -3,6 +3,7 @@ use crate::changes::change;
 use crate::changes::part;
 use crate::files::Loaded;
 use crate::files::is_free;
+use crate::files::large;
 use crate::files::load;
 use crate::files::save;
 use crate::files::wide;
@@ -21,9 +22,6 @@ use merging::Merged;
 use tables::Verdict;
 use tables::rows::is_group;
 use tables::rows::row_at;
-
-// No item ends after byte 131,070.
-const RECORD: usize = 131072;
 
 const ROWS: usize = 64;
 
@@ -253,7 +251,7 @@ fn merge_loaded<'a>(
     second: &'a [u8],
     switches: u8,
 ) -> u32 {
-    let mut merged = [0u8; RECORD];
+    let mut merged = large();
     let mut list = [0u32; ROWS];
     let answer = merge(
         items,
@@ -303,7 +301,7 @@ fn with_second<'a>(
     first: &'a [u8],
     switches: u8,
 ) -> u32 {
-    let mut second = [0u8; RECORD];
+    let mut second = large();
     let loaded = load(6, &mut second);
     match loaded {
         Loaded::Failed => 2,
@@ -334,7 +332,7 @@ fn with_first<'a>(
     old: &'a [u8],
     switches: u8,
 ) -> u32 {
-    let mut first = [0u8; RECORD];
+    let mut first = large();
     let loaded = load(5, &mut first);
     match loaded {
         Loaded::Failed => 2,
@@ -366,7 +364,7 @@ pub(crate) fn merge_copies(
     if !is_free(7) {
         return 2;
     }
-    let mut old = [0u8; RECORD];
+    let mut old = large();
     let loaded = load(4, &mut old);
     match loaded {
         Loaded::Failed => 2,

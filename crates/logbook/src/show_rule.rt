@@ -1,4 +1,5 @@
 // rule: the rule as read, in full, as a plan, and the items that it may look at.
+use crate::files::large;
 use crate::files::wide;
 use crate::print::text;
 use crate::refusals::sentence;
@@ -17,9 +18,6 @@ use printouts::printing::print;
 use refusal_numbers::number_of;
 use tables::Written;
 
-// Words enough for 634 tokens, unless they repeat the longest literals.
-const WORDS: usize = 131072;
-
 const EXPANDED: usize = 634;
 
 // The words of one row, and its line.
@@ -29,9 +27,9 @@ const LINE: usize = 2304;
 
 const ROWS: usize = 64;
 
-// Tokens as a line of words.
+// Tokens as a line of words: there is room for those of 634 tokens, unless they repeat the longest literals.
 fn line(description: &[u8], literals: &[u32], bytes: &[u8], tokens: &[u32]) {
-    let mut words = [0u8; WORDS];
+    let mut words = large();
     let printed = print(description, literals, bytes, tokens, &mut words);
     if let Printed::Count(n) = printed {
         text(STDOUT_FILENO, front_bytes(&words, n));

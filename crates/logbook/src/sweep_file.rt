@@ -1,6 +1,7 @@
 // sweep: one rule over a file of entries of the description's length, read in parts that are whole entries.
 ghost use Prim.Native.Nat.{_≤_};
 use crate::files::at_end;
+use crate::files::large;
 use crate::files::open;
 use crate::files::wide;
 use crate::print::complaint;
@@ -333,7 +334,7 @@ fn one_part(
     wanted: usize,
     totals: Totals,
 ) -> Totals {
-    let mut records = [0u8; PART];
+    let mut records = large();
     let n = read_part(file, &mut records, wanted);
     let rest = rest_of(n, size);
     let swept = sweep_part(

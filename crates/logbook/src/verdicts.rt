@@ -22,45 +22,30 @@ const WORDS: usize = 2048;
 // With an item's name and what is said around them.
 const LINES: usize = 2304;
 
-// Whether a relation has an object: class and sign words have none.
-fn has_object(relation: u32) -> bool {
-    relation % NEGATED < NUMERIC
-}
-
-// A row's condition as tokens. A switch or a condition-name stands alone.
-fn row_tokens(row: PlanRow, tokens: &mut [u32; 4]) -> usize {
-    let word = FIRST_WORD + row.relation % NEGATED;
-    tokens[0] = row.subject;
-    if row.relation == 0 {
+// How many tokens a row's condition has. A switch or a condition-name stands alone; class and sign words have no object.
+fn token_count(relation: u32) -> usize {
+    if relation == 0 {
         return 1;
     }
-    if row.relation < NEGATED {
-        tokens[1] = word;
-        tokens[2] = row.object;
-        if has_object(row.relation) {
-            return 3;
-        }
+    if relation < NUMERIC {
+        return 3;
+    }
+    if relation < NEGATED {
         return 2;
     }
-    tokens[1] = NOT;
-    tokens[2] = word;
-    tokens[3] = row.object;
-    if has_object(row.relation) {
+    if relation % NEGATED < NUMERIC {
         return 4;
     }
     3
 }
 
-// The first tokens of four, in words.
-fn first_words(
-    description: &[u8],
-    literals: &[u32],
-    bytes: &[u8],
-    tokens: &[u32; 4],
-    n: usize,
-    out: &mut [u8],
-) -> usize {
-    words(description, literals, bytes, front(tokens, n), out)
+// These tokens, and others after them.
+fn row_tokens(row: PlanRow) -> [u32; 4] {
+    let word = FIRST_WORD + row.relation % NEGATED;
+    if row.relation < NEGATED {
+        return [row.subject, word, row.object, 0];
+    }
+    [row.subject, NOT, word, row.object]
 }
 
 // A row's condition in words; how many bytes they have.
@@ -71,9 +56,14 @@ pub(crate) fn condition(
     row: PlanRow,
     out: &mut [u8],
 ) -> usize {
-    let mut tokens = [0u32; 4];
-    let n = row_tokens(row, &mut tokens);
-    first_words(description, literals, bytes, &tokens, n, out)
+    let tokens = row_tokens(row);
+    words(
+        description,
+        literals,
+        bytes,
+        front(&tokens, token_count(row.relation)),
+        out,
+    )
 }
 
 // The condition in row k of a plan; nothing where there is no such row.

@@ -20,7 +20,8 @@ use Rattle.description.proofs.Stages.{reach-le}
 use Rattle.description.proofs.Phases.{onReached}
 use Rattle.text_bytes.proofs.Laws.{inked-le}
 use Rattle.description.proofs.Valued.{label-leads, value-leads}
-use Rattle.condition_names.specs.Values.{valueAt, valueOf, Stands, shown, weighed}
+use Rattle.condition_names.specs.Values.{valueAt, valueOf, Stands}
+use Rattle.value_weights.specs.Weights.{shown, weighed}
 use Rattle.condition_names.specs.declared.Found.{Found}
 use Rattle.condition_names.specs.declared.ValueRead.{ValueRead}
 use Rattle.condition_names.specs.declared.ValueRead.the-variants as ValueRead

@@ -18,10 +18,11 @@ use Rattle.description.specs.Stages.{isLiteral, literalIn}
 use Rattle.description.proofs.Bytes.{apart}
 use Rattle.literal_pairs.specs.Spelling.{literalOf, Written}
 use Rattle.literal_rows.proofs.Words.{written-small}
-use Rattle.condition_names.specs.Values.{alone, valueOf, Stands, shown, rowsOf, weighed}
+use Rattle.condition_names.specs.Values.{alone, valueOf, Stands}
+use Rattle.value_weights.specs.Weights.{shown, rowsOf, weighed}
 use Rattle.condition_names.specs.declared.Found.{Found}
-use Rattle.condition_names.specs.declared.Weighed.{Weighed}
-use Rattle.condition_names.specs.declared.Weighed.the-variants.{Barred, Single, Range}
+use Rattle.value_weights.specs.declared.Weighed.{Weighed}
+use Rattle.value_weights.specs.declared.Weighed.the-variants.{Barred, Single, Range}
 use Rattle.name_entries.specs.Taking.{noteNumbers, tally, Small, full, notesAfter, rowAfter, tallyAfter, wants, isBarred, Takes}
 use Rattle.name_entries.specs.Named.{Span, literalsIn, notesOf, Standing, pairNumbers, overValues, Noted, Left, Held}
 use Rattle.name_entries.specs.declared.Tally.{Tally}

@@ -10,8 +10,8 @@ use lib.ListN.{length}
 use lib.Seq.{sets}
 use Rattle.description.proofs.Bytes.{apart}
 use Rattle.condition_names.specs.declared.Found.{Found}
-use Rattle.condition_names.specs.declared.Weighed.{Weighed}
-use Rattle.condition_names.specs.declared.Weighed.the-variants.{Barred, Single, Range}
+use Rattle.value_weights.specs.declared.Weighed.{Weighed}
+use Rattle.value_weights.specs.declared.Weighed.the-variants.{Barred, Single, Range}
 use Rattle.content.specs.declared.Row as Rules
 use Rattle.name_entries.specs.Taking.{full, tally, noteNumbers, notesAfter, rowAfter, tallyAfter, wants, isBarred, Takes}
 use Rattle.name_entries.specs.declared.Tally.{Tally}

@@ -11,7 +11,7 @@ use Rattle.description.specs.Grammar.{Row, Literal, literalRow, Value, Pair, pa
 use Rattle.description.specs.Limits.{ruled, anyBarred}
 use Rattle.description.specs.Reader.{Naming, label, values, labelled, faulty}
 use Rattle.description.specs.Stages.{inked, joined, isLiteral, literalIn}
-use Rattle.condition_names.specs.Values.{shown}
+use Rattle.value_weights.specs.Weights.{shown}
 use Rattle.name_entries.specs.Taking.{noteNumbers}
 use Rattle.name_entries.specs.declared.Tally.{Tally}
 use Rattle.name_entries.specs.declared.NameRead.{NameRead}

@@ -11,8 +11,8 @@ use Rattle.description.specs.Grammar.{Row, Literal, literal, literalRow, Value,
 use Rattle.description.specs.Limits.{ruled, anyBarred}
 use Rattle.description.specs.Stages.{literalIn}
 use Rattle.condition_names.specs.declared.Found.{Found}
-use Rattle.condition_names.specs.declared.Weighed.{Weighed}
-use Rattle.condition_names.specs.declared.Weighed.the-variants.{Barred, Single, Range}
+use Rattle.value_weights.specs.declared.Weighed.{Weighed}
+use Rattle.value_weights.specs.declared.Weighed.the-variants.{Barred, Single, Range}
 use Rattle.name_entries.specs.declared.Tally.{Tally}
 use Rattle.tables.specs.Rows.{nameWidth}
 

@@ -10,9 +10,9 @@ use crate::notes::clear;
 use crate::taking::take_value;
 use condition_names::ValueRead;
 use condition_names::scan::value_at;
-use condition_names::weights::weigh;
 use content::Row;
 use description::Reached;
+use value_weights::weights::weigh;
 use wanted_words::literals::literal;
 use words::names::label_at;
 

@@ -5,15 +5,14 @@ ghost use mathlib.Core.List.{List};
 ghost use Prim.Native.Nat.{ℕ, _≤_};
 ghost use lib.ListN.{length};
 ghost use Rattle.description.specs.Grammar.{Value, Row};
-ghost use Rattle.condition_names.specs.Values.{Stands, valueOf, weighed, shown};
-ghost use Rattle.condition_names.specs.declared.Weighed.the-variants as Weighed;
+ghost use Rattle.value_weights.specs.declared.Weighed.the-variants as Weighed;
 ghost use Rattle.name_entries.specs.Taking.{Rooms, Small, Takes};
 use crate::Tally;
 use crate::notes::put_literal;
 use crate::notes::put_pair;
 use condition_names::Found;
-use condition_names::Weighed;
 use content::Row;
+use value_weights::Weighed;
 
 fn passed(tally: Tally) -> Tally
     ensures { λ r. ⌜ r .over ≡ true ⌝ }

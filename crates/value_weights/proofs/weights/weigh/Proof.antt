@@ -5,10 +5,10 @@ use denote.Ref.{now}
 use mathlib.Core.Path.{sym, ap, refl, _∙_}
 use native.Mathlib.Omega.{arith}
 use borrow.Author.Tests.{not-true, not-false}
-use Rattle.condition_names.proofs.Barring.{written-is, alone-apart, alone-fine, alone-unfit, value-barred, value-single}
+use Rattle.value_weights.proofs.Barring.{written-is, alone-apart, alone-fine, alone-unfit, value-barred, value-single}
 use borrow.Author.Needs.{needs}
-use Rattle.condition_names.proofs.weights.weigh.Statement.{statement}
-use Rattle.condition_names.proofs.weights.weigh.Tie as tie
+use Rattle.value_weights.proofs.weights.weigh.Statement.{statement}
+use Rattle.value_weights.proofs.weights.weigh.Tie as tie
 
 sub-literal-row : tie.Need-sub-literal-row
 sub-literal-row c = omega (arith, c .before .pre .starts)

@@ -22,9 +22,9 @@ use Rattle.layouts.specs.Layouts.{rowNumbers}
 use Rattle.describing.specs.declared.Described.{Described}
 use Rattle.describing.specs.declared.Described.the-variants.{Counts, Faulty, Room}
 use Rattle.describing.specs.Calls.{rowsOf, placesOf, namesOf, namePlacesOf, literalsOf, DescribedBy}
 use Rattle.books.specs.declared.Named.the-variants.{Given, Faulty as Unnamed}
 use Rattle.books.specs.Calls.{NamesFound, NamedBy}
-use Rattle.books.proofs.Describing.{numbers-length, front, few-items, few-conditions, few-rows, book-given}
+use Rattle.book_names.proofs.Describing.{numbers-length, front, few-items, few-conditions, few-rows, book-given}
 
 -- the same numbers, as both crates have them
 same-numbers : (rs : List Row) → rowNumbers rs ≡ numbers rs
@@ -119,7 +119,7 @@ module _ {text rows places names others literal-rows bytes : List ℕ} (r : Desc
 
   module _ {a n c k v b : ℕ} (q : r ≡ Counts a n c k v b) where
     pub few : (n ≤ 64) × (k ≤ 64) × (n ≤ length places-after) × (k ≤ length others-after)
-        × (length (take k others-after) ≤ length (take (length places-after - n) (drop n places-after)))
+        × (k ≤ length (take (length places-after - n) (drop n places-after)))
         × (n + length (take k others-after) ≤ length places-after)
     few =
         let T = told q in
@@ -140,10 +140,12 @@ module _ {text rows places names others literal-rows bytes : List ℕ} (r : Desc
     others-front : take k others-after ≡ namePlacesOf (told q .t)
     others-front = let T = told q in ap (take k) (T .others-are) ∙ front (namePlacesOf (T .t)) (drop (length (namePlacesOf (T .t))) others) k (T .conditions)
 
-    pub described-book : {back : List ℕ} → back ≡ writtenOver (take k others-after) (take (length places-after - n) (drop n places-after))
+    pub described-book : {back : List ℕ} → back ≡ take k others-after ++ drop k (take (length places-after - n) (drop n places-after))
         → NamedBy text (Given (record { items = n; places = n + k; literals = v / 5; bytes = b })) (putMid n (length places-after - n) places-after back) literals-after bytes-after
     described-book {back} u =
-        let w = bytes-over n (take k others-after) places-after back (few .5) u in
+        let part = take (length places-after - n) (drop n places-after) in
+        let v : back ≡ writtenOver (take k others-after) part = u ∙ ap (λ (m : ℕ). take k others-after ++ drop m part) (sym (length-take-le k others-after (few .3))) in
+        let w = bytes-over n (take k others-after) places-after back (few .5) v in
         let T = told q in
         let ps : List ℕ = placesOf (T .t) in
         let cs : List ℕ = namePlacesOf (T .t) in

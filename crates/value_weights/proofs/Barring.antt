@@ -15,9 +15,10 @@ use Rattle.description.proofs.Bytes.{apart}
 use Rattle.literal_words.specs.declared.Number.{Number}
 use Rattle.literal_words.specs.declared.Number.the-variants.{Is, Not}
 use Rattle.literal_pairs.specs.Spelling.{literalOf, rowFound, Written, unlikeRows}
-use Rattle.condition_names.specs.Values.{valueOf, shown, rowsOf, weighed}
+use Rattle.condition_names.specs.Values.{valueOf}
+use Rattle.value_weights.specs.Weights.{shown, rowsOf, weighed}
 use Rattle.condition_names.specs.declared.Found.{Found}
-use Rattle.condition_names.specs.declared.Weighed.the-variants.{Barred, Single, Range}
+use Rattle.value_weights.specs.declared.Weighed.the-variants.{Barred, Single, Range}
 
 module _ (x : Literal) (r : Rules.Row) (e : rowFound x ≡ Is r) where
   row-facts : (r ≡ ruled (literalRow 0 x)) × (unfit x ≡ false)

@@ -4,10 +4,10 @@ use Rattle.description.specs.Stages.{literalIn}
 use denote.Ref.{now}
 use mathlib.Core.Path.{sym, ap, refl, _∙_}
 use native.Mathlib.Omega.{arith}
-use Rattle.condition_names.proofs.Barring.{written-is, alone-unfit, high-apart, high-above, high-barred, value-range}
+use Rattle.value_weights.proofs.Barring.{written-is, alone-unfit, high-apart, high-above, high-barred, value-range}
 use borrow.Author.Needs.{needs}
-use Rattle.condition_names.proofs.weights.weigh_high.Statement.{statement}
-use Rattle.condition_names.proofs.weights.weigh_high.Tie as tie
+use Rattle.value_weights.proofs.weights.weigh_high.Statement.{statement}
+use Rattle.value_weights.proofs.weights.weigh_high.Tie as tie
 
 sub-literal-row : tie.Need-sub-literal-row
 sub-literal-row c = omega (arith, c .before .pre .0 .0 .goes)

@@ -2,13 +2,13 @@
 ghost use mathlib.Core.Path.{_≡_};
 ghost use Prim.Native.Nat.{_≤_};
 ghost use lib.ListN.{length};
 ghost use Rattle.books.specs.Calls.{NamedBy};
-use crate::Book;
-use crate::Named;
-use crate::given::copy_numbers;
+use books::Book;
+use books::Named;
 use content::Row;
 use describing::Described;
 use descriptions::calls::describe;
+use outputs::copies::copy_numbers;
 use tables::rows::NAME_TABLE;
 
 // The places of the names, or FILLER, of a description's rows, those of its conditions after them; and its literals.
@@ -30,7 +30,7 @@ pub fn book_of(description: &[u8], places: &mut [u32], rows: &mut [u32], bytes: 
     );
     match described {
         Described::Counts(_, n, _, k, v, b) => {
-            copy_numbers(&others[..k], &mut places[n..]);
+            copy_numbers(&others, k, &mut places[n..]);
             Named::Given(Book {
                 items: n,
                 places: n + k,

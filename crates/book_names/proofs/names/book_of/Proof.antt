@@ -6,9 +6,9 @@ use lib.ListN.{length, getD, take, drop}
 use denote.Ref.{now}
 use borrow.Author.Needs.{needs}
 use lib.Seq.{length-take-le}
-use Rattle.books.proofs.Booked.{few, described-book, described-faulty, never-room}
-use Rattle.books.proofs.names.book_of.Statement.{statement}
-use Rattle.books.proofs.names.book_of.Tie as tie
+use Rattle.book_names.proofs.Booked.{few, described-book, described-faulty, never-room}
+use Rattle.book_names.proofs.names.book_of.Statement.{statement}
+use Rattle.book_names.proofs.names.book_of.Tie as tie
 
 slice-aggregate-describe : tie.Need-slice-aggregate-describe
 slice-aggregate-describe c = search needs
@@ -25,21 +25,8 @@ describe-requires c κs = search needs
 enum-known-described : tie.Need-enum-known-described
 enum-known-described c = search needs
 
-array-share-prefix-others : tie.Need-array-share-prefix-others
-array-share-prefix-others c = (few (c .before .before .before .before .before .before .before .before .before .before .before .before .describe .result)
-    (c .before .before .before .before .before .before .before .before .before .before .before .before .describe .ensures) (omega arith)
-    (c .before .before .before .before .before .before .before .before .before .before .before .before .before .before .before .before .before .before .before .before .before .before .before .pre .0)
-    (omega arith) (omega arith)
-    (c .before .before .before .before .before .before .before .before .before .before .before .before .before .before .before .before .before .before .before .before .before .before .before .pre .1)
-    (c .before .before .before .before .before .before .before .before .before .before .before .before .before .before .before .before .before .before .before .before .before .before .before .pre .2)
-    (c .before .described .given .1)) .3
-
 slice-aggregate-copy-numbers : tie.Need-slice-aggregate-copy-numbers
-slice-aggregate-copy-numbers c =
-    let c13 = c .before .before .before .before .before .before .before .before .before .before .before .before .before in
-    let c24 = c13 .before .before .before .before .before .before .before .before .before .before .before in
-    let p = c24 .pre in
-    sym (length-take-le _ _ ((few (c13 .describe .result) (c13 .describe .ensures) (omega arith) (p .0) (omega arith) (omega arith) (p .1) (p .2) (c .before .before .described .given .1)) .3))
+slice-aggregate-copy-numbers c = search needs
 
 mul-copy-numbers : tie.Need-mul-copy-numbers
 mul-copy-numbers c =
@@ -72,7 +59,9 @@ copy-numbers-requires c κs =
     let c14 = c .before .before .before .before .before .before .before .before .before .before .before .before .before .before in
     let c25 = c14 .before .before .before .before .before .before .before .before .before .before .before in
     let p = c25 .pre in
-    (few (c14 .describe .result) (c14 .describe .ensures) (omega arith) (p .0) (omega arith) (omega arith) (p .1) (p .2) (c .before .before .before .described .given .1)) .4
+    let f = (few (c14 .describe .result) (c14 .describe .ensures) (omega arith) (p .0) (omega arith) (omega arith) (p .1) (p .2) (c .before .before .before .described .given .1))
+    in
+    (f .3, f .4)
 
 add-t31 : tie.Need-add-t31
 add-t31 c =
@@ -153,7 +142,6 @@ book-of-spec =
     slice-aggregate-describe-3
     describe-requires
     enum-known-described
-    array-share-prefix-others
     slice-aggregate-copy-numbers
     mul-copy-numbers
     sub-copy-numbers
