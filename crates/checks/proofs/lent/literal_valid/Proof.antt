@@ -38,9 +38,10 @@ only-digits-requires-2 c κs = search needs
 
 returns-3 : tie.Need-returns-3
 returns-3 c =
-    let start = c .before .before .before .before .before .before .before in
+    let c4 = c .before .before .before .before in
+    let start = c4 .before .before .before in
     let bytes = now (start .args .bytes) in
-    let five : start .args .row .kind ≡ 5 = eqb-true _ 5 (rw (ne-eqb _ 2 (c .before .before .before .before .before .if1 .left), ne-eqb _ 3 (c .before .before .before .before .if2 .left)) at (start .pre .0)) in
+    let five : start .args .row .kind ≡ 5 = eqb-true _ 5 (rw (ne-eqb _ 2 (c4 .before .if1 .left), ne-eqb _ 3 (c4 .if2 .left)) at (start .pre .0)) in
     rw (c .before .before .is-sign .ensures, c .only-digits2 .ensures, but-first bytes, five) (sym (valid-leading _ bytes (start .pre .1)))
 
 pub literal-valid-spec : {M : Type 1} → statement M

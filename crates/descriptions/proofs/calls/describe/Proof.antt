@@ -98,11 +98,12 @@ same-length-6 c = search needs
 
 returns-3 : tie.Need-returns-3
 returns-3 c =
-    let at-parse = c .before .before .before .before .before .before .before .before .before .before .before .before .before .before .before .before .before .before .before .before .before .before .before .before .before .before .before .before .before .before .before .before .before .before in
+    let c12 = c .before .before .before .before .before .before .before .before .before .before .before .before in
+    let at-whole = c12 .before .before .before .before .before .before .before .before .before .before .before .before in
+    let at-parse = at-whole .before .before .before .before .before .before .before .before .before .before in
     let start = at-parse .before .before .before .before .before .before .before .before .before .before .before .before .before in
     let p = at-parse .parse in
     let P = p .ensures in
-    let at-whole = c .before .before .before .before .before .before .before .before .before .before .before .before .before .before .before .before .before .before .before .before .before .before .before .before in
     answers-given (now (start .args .text)) (p .last .1 .0) _ _ _ (p .last .1 .1 .1 .1 .1 .0) (p .result .found) (P .read) (P .lays) (P .sooner)
     (at-whole .before .before .enum-told .given .1) (not-false _ (at-whole .if1 .left))
     (omega (arith, p .kept .1 .0)) (omega (arith, p .kept .1 .1 .1 .1 .1 .0)) (omega (arith, p .kept .1 .1 .0)) (omega (arith, p .kept .1 .1 .1 .0))

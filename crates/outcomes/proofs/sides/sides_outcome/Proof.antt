@@ -114,7 +114,8 @@ returns-3 c =
 checked-outcome-requires : tie.Need-checked-outcome-requires
 checked-outcome-requires c κs =
     let numbers = c .before .before .before in
-    (c .before .before .before .before .before .before .before .before .before .before .before .before .before .pre, sym (ap₂ _&&_ (numbers .before .before .is-numeric .ensures) (numbers .before .is-numeric2 .ensures)) ∙ numbers .if3 .left)
+    let start = numbers .before .before .before .before .before .before .before .before .before .before in
+    (start .pre, sym (ap₂ _&&_ (numbers .before .before .is-numeric .ensures) (numbers .before .is-numeric2 .ensures)) ∙ numbers .if3 .left)
 
 returns-4 : tie.Need-returns-4
 returns-4 c = search needs

@@ -32,5 +32,6 @@ pub copy-named-spec : {M : Type 1} → statement M
 copy-named-spec =
     tie.close
     (tie.spec
-    Inv-loop μ-loop (λ c. (omega arith, named-none (now (c .args .entries)) _)) (λ c. omega arith) (λ c. omega arith) (λ c. omega arith) (λ c. omega arith) (λ c. omega (arith, front-length (c .before .before .loop .inv .1)))
+    Inv-loop μ-loop (λ c. (omega arith, named-none (now (c .args .entries)) _)) (λ c. omega arith) (λ c. omega arith) (λ c. omega arith) (λ c. omega arith)
+    (λ c. omega (arith, front-length (c .before .before .loop .inv .1)))
     (λ c. omega (arith, front-length (c .before .before .loop .inv .1))) (λ c. omega arith) (λ c. omega arith) loop-again same-length returns)
