@@ -113,7 +113,7 @@ fn store_row(rows: &mut [u32], i: usize, row: ItemRow)
     rows[at + 4] = row.digits;
 }
 
-// The rows of n entries, up to the first that passes a limit.
+// The rows of n entries, up to the first that passes a limit. Free: what `rows` holds beyond them, and all of it where one does.
 pub fn lay_rows(entries: &[u32], n: usize, rows: &mut [u32]) -> Laid
     requires { ⌜ (n ≤ 820) × ((n * 7 ≤ length (now entries)) × (320 ≤ length (now rows))) ⌝ }
     ensures { λ r. ⌜ LaidOut (now (entries .entry)) n r (now (rows .exit)) ⌝ }

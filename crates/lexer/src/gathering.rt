@@ -58,7 +58,8 @@ fn early(number: u32, place: usize) -> Lexed
     Lexed::Fault(15, 2048)
 }
 
-// The first `literals` rows and `content` bytes are the description's: the text's go on from there.
+// The first `literals` rows and `content` bytes are the description's: the text's go on from there. Free: what
+// the buffers hold beyond what is counted, and all of it where the text is refused.
 pub fn gather(
     description: &[u8],
     places: &[u32],

@@ -91,7 +91,7 @@ fn store_name(
     places[i] = named as u32;
 }
 
-// The level 88 entry at p, of the last of `count` entries.
+// The level 88 entry at p, of the last of `count` entries. `row` is for its pairs. Free: what it holds afterwards.
 pub fn name_step(
     text: &[u8],
     p: usize,
