@@ -28,6 +28,7 @@ use Rattle.storing.specs.Reads.{readingOf, ReadBy}
 use Rattle.layouts.specs.declared.Laid.{Laid}
 use Rattle.layouts.specs.declared.Laid.the-variants.{Over, Fine}
 use Rattle.layouts.specs.Layouts.{firstOver, entriesIn, rowNumbers, overPlace, LaidOut}
+use Rattle.layouts.proofs.Laying.{all-laid}
 use Rattle.layouts.proofs.Capping.{first-caps, rows-same, first-marks}
 use Rattle.name_entries.specs.Taking.{tally}
 use Rattle.name_entries.specs.declared.Tally.{Tally}
@@ -154,7 +155,7 @@ judged-faulty : (w : Bool) (d : Parts) (p : ℕ) → w ≡ false → least (mark
 judged-faulty w d p h k = rw (h, k)
 
 -- The answer.
-module _ (text flat named spots notes laid : List ℕ) (r : Found) (R : ReadsWithin text flat named spots notes r) {x z : Laid} (L : LaidOut flat (r .count) x laid)
+module _ (text flat named spots notes laid : List ℕ) (r : Found) (R : ReadsWithin text flat named spots notes r) {x z : Laid} {before : List ℕ} (L : LaidOut flat (r .count) x before laid)
     (B : SoonerBy x (r .names) z) where
   abbrev ys : List Noted
   ys = R .exact
@@ -227,7 +228,7 @@ module _ (text flat named spots notes laid : List ℕ) (r : Found) (R : ReadsWit
     rowsAre : rowsOf t ≡ take (r .count * 5) laid
     rowsAre =
         let f : layout 0 (map entryOf ys) ≡ layout 0 (entriesIn flat 0 (r .count)) = rows-same 0 0 ys (R .scaled) none-over ∙ ap (layout 0) (sym entries-are) in
-        ap rowNumbers f ∙ sym (L .laid item-fine)
+        ap rowNumbers f ∙ sym (all-laid flat (r .count) L item-fine)
 
     placesAre : placesOf t ≡ map namedOf (notedFrom flat 0 (r .count))
     placesAre = by ys ∙ ap (map namedOf) (sym (R .held))
