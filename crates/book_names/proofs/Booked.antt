@@ -148,12 +148,11 @@ module _ {text rows places names others literal-rows bytes : List ℕ} (r : Desc
         let x : n ≡ length (T .t .entries) = T .items ∙ length-map placeOfName (T .t .entries) in
         let y : k ≡ length (T .t .conditions) = T .conditions ∙ length-map nameOf (T .t .conditions) in
         let z : v / 5 ≡ length (T .t .literals) = omega (arith, T .row-numbers, numbers-length (T .t .literals)) in
-        rw (T .e)
         record {
-          answered = rw (x, y, z, T .byte-count);
-          placesWritten = F .holds ∙ ap (λ (m : ℕ). ps ++ cs ++ drop m places) (F .size);
-          rowsWritten = T .rowsAre;
-          bytesWritten = T .bytesAre;
+          answered = rw (T .e, ← x, ← y, ← z, ← T .byte-count);
+          placesWritten = rw (T .e) (F .holds ∙ ap (λ (m : ℕ). ps ++ cs ++ drop m places) (F .size));
+          rowsWritten = rw (T .e) (T .rowsAre);
+          bytesWritten = rw (T .e) (T .bytesAre);
         }
 
   pub described-faulty : {p : ℕ} → r ≡ Faulty p → NamedBy text places literal-rows bytes (Unnamed p) places-after literals-after bytes-after
