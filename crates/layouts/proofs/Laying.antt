@@ -248,13 +248,13 @@ module _ (flat : List ℕ) (n : ℕ) where
         }
 
 -- Where no entry is over a limit, every row is written.
-all-within : (n : ℕ) (es : List Entry) (rs : List Row) → length rs ≡ length es → firstOver n es rs ≡ none → rowsWithin n rs ≡ rs
+all-within : (n : ℕ) (xs : List Entry) (rs : List Row) → length rs ≡ length xs → firstOver n xs rs ≡ none → rowsWithin n rs ≡ rs
 unfolding firstOver rowsWithin
-all-within n es [] h e = refl
+all-within n xs [] h e = refl
 all-within n [] (r ∷ rs) h e = absurd (omega arith)
-all-within n (x ∷ es) (r ∷ rs) h e = by (over n r) e (all-within (suc n) es rs (omega arith))
+all-within n (x ∷ xs) (r ∷ rs) h e = by (over n r) e (all-within (suc n) xs rs (omega arith))
   where
-    by : (t : Bool) → cond t (some (x .place)) (firstOver (suc n) es rs) ≡ none → (firstOver (suc n) es rs ≡ none → rowsWithin (suc n) rs ≡ rs) →
+    by : (t : Bool) → cond t (some (x .place)) (firstOver (suc n) xs rs) ≡ none → (firstOver (suc n) xs rs ≡ none → rowsWithin (suc n) rs ≡ rs) →
         cond t [] (r ∷ rowsWithin (suc n) rs) ≡ r ∷ rs
     by true e f = let z : _≡_ {A = ℕ} 0 1 = cc in absurd (omega arith)
     by false e f = ap (λ (l : List Row). r ∷ l) (f e)
@@ -262,8 +262,8 @@ all-within n (x ∷ es) (r ∷ rs) h e = by (over n r) e (all-within (suc n) es 
 pub all-laid : (flat : List ℕ) (n : ℕ) {r : Laid} {before after : List ℕ} → LaidOut flat n r before after → r ≡ Fine →
     take (n * 5) after ≡ rowNumbers (layout 0 (entriesIn flat 0 n))
 all-laid flat n L e =
-    let es = entriesIn flat 0 n in
-    let rs = layout 0 es in
-    let m : length es ≡ n = omega (arith, length-map (notedFrom flat 0 (n - 0)) entryOf, noted-length flat 0 (n - 0)) in
-    let k : rowsWithin 0 rs ≡ rs = all-within 0 es rs (layout-length 0 es) (L .limit ∙ ap overPlace e) in
-    rw (L .written, k) (take-at (rowNumbers rs) _ (n * 5) (omega (arith, numbers-length rs, layout-length 0 es)))
+    let xs = entriesIn flat 0 n in
+    let rs = layout 0 xs in
+    let m : length xs ≡ n = omega (arith, length-map (notedFrom flat 0 (n - 0)) entryOf, noted-length flat 0 (n - 0)) in
+    let k : rowsWithin 0 rs ≡ rs = all-within 0 xs rs (layout-length 0 xs) (L .limit ∙ ap overPlace e) in
+    rw (L .written, k) (take-at (rowNumbers rs) _ (n * 5) (omega (arith, numbers-length rs, layout-length 0 xs)))
