@@ -8,7 +8,7 @@ use lib.Seq.{take-at, drop-at, take-append-seam, length-take-le}
 use Rattle.description.specs.Grammar.{Entry, Condition, Row, Table, Literal as Told, literalsOf, literalRows}
 use Rattle.description.specs.Limits.{Outcome, table, refusal, describe}
 use Rattle.description.proofs.Keeping.{within}
-use Rattle.spelling.specs.Names.{namesAt, Known, knownBy, knownOf, numbers}
+use Rattle.spelling.specs.Names.{namesAt, knownBy, knownOf, numbers}
 use Rattle.spelling.proofs.Describing.{length-map, fewBytes}
 use Rattle.naming.specs.Named.{Listed, knownAt}
 use Rattle.literal_bytes.specs.Written.{writtenOver}

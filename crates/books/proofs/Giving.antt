@@ -1,14 +1,13 @@
 -- What is read, given where there is room.
-use mathlib.Core.Path.{_≡_, refl, sym, ap, ap₂, _∙_, subst}
-use mathlib.Core.Bool.{Bool, true, false, cond, not, _&&_}
-use mathlib.Core.List.{List, [], _∷_, _++_}
-use Prim.Native.Nat.{ℕ, suc, _+_, _*_, _≤_, _<_}
+use mathlib.Core.Path.{_≡_, refl, sym, ap, _∙_, subst}
+use mathlib.Core.Bool.{Bool, true, false, cond, _&&_}
+use mathlib.Core.List.{List, []}
+use Prim.Native.Nat.{ℕ, _*_, _≤_, _<_}
 use native.Mathlib.Omega.{arith}
 use lib.Dec.{eqb, leb}
-use lib.ListN.{length, take, drop}
+use lib.ListN.{length, take}
 use borrow.Author.Tests.{le-leb, lt-leb}
-use Rattle.spelling.specs.Keywords.{Piece}
-use Rattle.spelling.specs.Reading.{pieces, Found, none, refusal, faultOf, tokensFrom, rowsFrom, bytesOf, Reading, read, refused, result, reading, readAfter, readCondition}
+use Rattle.spelling.specs.Reading.{Reading, refused, reading, readAfter, readCondition}
 use Rattle.description.specs.Limits.{Outcome}
 use Rattle.spelling.specs.Names.{Book, bookOf}
 use Rattle.naming.specs.Named.{knownAt}
@@ -16,7 +15,7 @@ use Rattle.literal_bytes.specs.Written.{writtenOver}
 use Rattle.lexer.specs.declared.Gathered.{Gathered}
 use Rattle.lexer.specs.declared.Lexed.{Lexed}
 use Rattle.lexer.specs.declared.Lexed.the-variants.{Whole, Fault}
-use Rattle.lexer.specs.Gathers.{bookIn, Holds, Lexes}
+use Rattle.lexer.specs.Gathers.{bookIn, Lexes}
 use Rattle.books.specs.declared.Recognized.{Recognized}
 use Rattle.books.specs.declared.Recognized.the-variants.{Counts, Description, Word, Name, TokenCount, Room}
 use Rattle.books.specs.declared.Book.{Book as Found-book}

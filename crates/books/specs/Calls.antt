@@ -1,11 +1,10 @@
 -- Document 02, e): the calls' whole answers and their outputs.
 use mathlib.Core.Path.{_≡_}
-use mathlib.Core.Bool.{Bool, true, false, cond, _&&_}
+use mathlib.Core.Bool.{cond, _&&_}
 use mathlib.Core.List.{List, [], _++_, map}
 use Prim.Native.Nat.{ℕ, _+_, _≤_}
 use lib.Dec.{eqb, leb}
 use lib.ListN.{length, drop}
-use Rattle.tables.specs.declared.Refusal.{Refusal}
 use Rattle.tables.specs.declared.Refusal.the-variants.{LiteralTable, LiteralRow, TokenCount as WrongCount, Token, Room as Short}
 use Rattle.tables.specs.declared.Check.the-variants.{Sound}
 use Rattle.tables.specs.Operands.{lend}
@@ -123,8 +122,7 @@ pub record PrintedAs (print : Print) (before : List ℕ) (r : Printed) (after : 
   pub answered : r ≡ printAnswer print (length before)
   pub written : after ≡ lineOut r (lineOf print) before
 
--- What private functions promise. Of a description: how many there are of items' names, of all names, of literals and of literal bytes; or
--- the place of 14
+-- What private functions promise. What a description has: how many items, names, literals and literal bytes; or the place of 14
 abbrev pub namedAs : Outcome → Named
 namedAs (table t) =
     Given (record {
@@ -140,15 +138,17 @@ abbrev pub placesIn : Outcome → List ℕ
 placesIn (table t) = map (λ (e : Entry). e .named) (t .entries) ++ map (λ (c : Condition). c .named) (t .conditions)
 placesIn (refusal p) = []
 
+-- the numbers of its literal rows
 abbrev pub literalsIn : Outcome → List ℕ
 literalsIn (table t) = numbers (t .literals)
 literalsIn (refusal p) = []
 
+-- and its literal bytes
 abbrev pub bytesIn : Outcome → List ℕ
 bytesIn (table t) = t .bytes
 bytesIn (refusal p) = []
 
--- The whole answer, and each list over the start of a lent buffer: the rest stays as it was, where the description is refused all of it.
+-- The whole answer, and each list over the start of a lent buffer. The rest stays as it was: all of it, where the description is refused.
 pub record NamedBy (description places rows bytes : List ℕ) (r : Named) (placesAfter rowsAfter bytesAfter : List ℕ) : Type 0 where
   pub answered : r ≡ namedAs (describe description)
   pub placesWritten : placesAfter ≡ writtenOver (placesIn (describe description)) places

@@ -1,13 +1,13 @@
 -- Refusals of the printer, in their order.
 use mathlib.Core.Path.{_≡_, refl, sym, ap, ap₂, _∙_, subst}
-use mathlib.Core.Bool.{Bool, true, false, cond, not, _&&_, _||_}
-use mathlib.Core.List.{List, [], _∷_, _++_, map}
-use Prim.Native.Nat.{ℕ, zero, suc, _+_, _-_, _/_, _%_, _≤_, _<_}
+use mathlib.Core.Bool.{Bool, true, false, cond, _&&_}
+use mathlib.Core.List.{List, [], _∷_}
+use Prim.Native.Nat.{ℕ, zero, suc, _+_, _-_, _/_, _≤_, _<_}
 use native.Mathlib.Omega.{arith}
 use native.Mathlib.Decide.{ℕ-discrete}
 use lib.Dec.{eqb, leb, ltb}
-use lib.ListN.{length, getD, take, drop}
-use borrow.Author.Tests.{leb-true, lt-ltb, le-ltb, le-leb, lt-leb, ltb-true, ltb-false, eq-eqb, not-true}
+use lib.ListN.{length, getD, take}
+use borrow.Author.Tests.{leb-true, lt-ltb, le-ltb, le-leb, lt-leb, ltb-true, ltb-false}
 use Rattle.tables.specs.declared.Refusal.{Refusal}
 use Rattle.tables.specs.declared.Refusal.the-variants.{LiteralTable, LiteralRow, TokenCount as WrongCount, Token, Room as Short}
 use Rattle.tables.specs.declared.Check.{Check}
@@ -17,10 +17,10 @@ use Rattle.tables.specs.Operands.{lend}
 use Rattle.tables.specs.Refusals.{number, place, firstFailing, firstOf, unless}
 use Rattle.tables.specs.Tables.{lengthSound, literalSound, tableLines, literalTableCheck, literalRowCheck, tokenCountCheck}
 use Rattle.description.specs.Limits.{Outcome}
-use Rattle.spelling.specs.Names.{Known, knownOf}
-use Rattle.naming.specs.Named.{Listed, knownAt}
+use Rattle.spelling.specs.Names.{Known}
+use Rattle.naming.specs.Named.{knownAt}
 use Rattle.spelling.specs.Reading.{Found, none, refusal, before}
-use Rattle.spelling.specs.Printing.{Print, text, refused, found, firstToken, printable, hasName, printed, printFault, printResult, printing, printAfter, printCondition}
+use Rattle.spelling.specs.Printing.{Print, text, refused, found, firstToken, printable, hasName, printed, printResult, printing, printAfter, printCondition}
 use Rattle.naming.proofs.Finding.{items-length, conditions-length}
 use Rattle.printer.proofs.Wording.{item-row, condition-there}
 use Rattle.printable.specs.Passing.{passing, mayPrint, AllThere}
@@ -31,7 +31,7 @@ use Rattle.books.specs.declared.Printed.the-variants.{Count, Description, Refus
 use Rattle.books.specs.declared.Named.{Named}
 use Rattle.books.specs.declared.Book.{Book}
 use Rattle.books.specs.declared.Named.the-variants.{Given, Faulty}
-use Rattle.books.specs.Calls.{unprintedAs, lineOut, PrintedAs, Sized, Prepared, NamedBy}
+use Rattle.books.specs.Calls.{unprintedAs, lineOut, PrintedAs, Sized, NamedBy}
 use Rattle.books.proofs.Finding.{book-found, book-refused}
 
 one-more : (a b : ℕ) → ltb (suc a) (suc b) ≡ ltb a b
