@@ -66,19 +66,20 @@ module _ (t r b tokens literals content : List ℕ) (n v k : ℕ) (en : n ≡ le
             rw (counted-so, en, ev, ek) record { answered = rw (first, second, a); tokensWritten = p; literalsWritten = q; contentWritten = s }
 
 -- what was gathered is the reading
-module _ {book : Book} {text tokens rows bytes : List ℕ} (x : Lexed) (L : Lexes book text x tokens rows bytes) where
+module _ {book : Book} {text tokens₀ rows₀ bytes₀ tokens rows bytes : List ℕ} (x : Lexed)
+    (L : Lexes book text tokens₀ rows₀ bytes₀ x tokens rows bytes) where
   pub whole-sizes : {g : Gathered} → x ≡ Whole g → (g .tokens ≤ 2048) × (g .literals ≤ 64) × (g .bytes ≤ 6144)
-  whole-sizes e = let H = subst (λ (y : Lexed). Lexes book text y tokens rows bytes) e L .gives in (H .fewTokens, H .fewLiterals, H .fewBytes)
+  whole-sizes e = let H = subst (λ (y : Lexed). Lexes book text tokens₀ rows₀ bytes₀ y tokens rows bytes) e L .gives in (H .fewTokens, H .fewLiterals, H .fewBytes)
 
   pub whole-reading : {g : Gathered} → x ≡ Whole g → counted (take (g .tokens) tokens) (take (g .literals * 5) rows) (take (g .bytes) bytes) ≡ reading book text
   unfolding reading
   whole-reading e =
-      let H = subst (λ (y : Lexed). Lexes book text y tokens rows bytes) e L .gives in
+      let H = subst (λ (y : Lexed). Lexes book text tokens₀ rows₀ bytes₀ y tokens rows bytes) e L .gives in
       rw (H .faultless, ← (H .tokensAre), ← (H .rowsAre), ← (H .bytesAre))
 
   pub fault-reading : {number place : ℕ} → x ≡ Fault number place → refused number place ≡ reading book text
   unfolding reading
-  fault-reading e = let f = subst (λ (y : Lexed). Lexes book text y tokens rows bytes) e L .gives in rw f
+  fault-reading e = let f = subst (λ (y : Lexed). Lexes book text tokens₀ rows₀ bytes₀ y tokens rows bytes) e L .gives .faulty in rw f
 
 -- a refusal changes no output
 kept : (p q s : Bool) (place : ℕ) (out before : List ℕ)
