@@ -26,6 +26,7 @@ use Rattle.value_weights.specs.declared.Weighed.the-variants.{Barred, Single, R
 use Rattle.name_entries.specs.Taking.{noteNumbers, tally, Small, full, notesAfter, rowAfter, tallyAfter, wants, isBarred, Takes}
 use Rattle.name_entries.specs.Named.{Span, literalsIn, notesOf, Standing, pairNumbers, overValues, Noted, Left, Held}
 use Rattle.name_entries.specs.declared.Tally.{Tally}
+use Rattle.name_entries.proofs.Taken.{Room, room-of}
 
 -- Lists that grow at their ends.
 pub literals-append : (vs ws : List Value) → literals (vs ++ ws) ≡ literals vs ++ literals ws
@@ -407,12 +408,8 @@ module _ (text : List ℕ) (item : Rules.Row) (start : Bool) (ss : List Span) (v
       or-no true b e = apart refl e
       or-no false b e = (refl, e)
 
-      parts : (t .over ≡ false) × (t .values < 8) × (t .literals + wants (weighed item w) ≤ 64)
-      parts =
-          let a = or-no (isBarred (weighed item w)) (full t (wants (weighed item w))) none in
-          let b = or-no (t .over) (leb 8 (t .values) || ltb 64 (t .literals + wants (weighed item w))) (a .1) in
-          let c = or-no (leb 8 (t .values)) (ltb 64 (t .literals + wants (weighed item w))) (b .1) in
-          (b .0, leb-false 8 (t .values) (c .0), ltb-false 64 (t .literals + wants (weighed item w)) (c .1))
+      parts : Room t (wants (weighed item w))
+      parts = room-of t (wants (weighed item w)) (or-no (isBarred (weighed item w)) (full t (wants (weighed item w))) none .1)
 
       by : (x : Bool) → barred (shown item) w ≡ x → (y : Bool) → f .range ≡ y →
           Left text ss (vs ++ w ∷ []) (tallyAfter (weighed item w) t) (rowAfter (weighed item w) t row) (notesAfter (weighed item w) f t notes)
@@ -423,14 +420,14 @@ module _ (text : List ℕ) (item : Rules.Row) (start : Bool) (ss : List Span) (v
           let u : w ≡ range (literalIn text (f .low) (f .mid)) (literalIn text (f .high) (f .end)) = rw j in
           let q : weighed item w ≡ rowsOf (range (literalIn text (f .low) (f .mid)) (literalIn text (f .high) (f .end))) = rw (i, u) in
           let m = subst (λ (x : Value). Small (rowsOf x)) u (small-value text item f s i) in
-          let c : t .literals + 2 ≤ 64 = rw q at (parts .2) in
-          rw q (left-range text item ss vs t row notes f s (h .left (parts .0)) j (parts .1) c n (m .0) (m .1))
+          let c : t .literals + 2 ≤ 64 = rw q at (parts .literals) in
+          rw q (left-range text item ss vs t row notes f s (h .left (parts .«open»)) j (parts .values) c n (m .0) (m .1))
       by false i false j =
           let u : w ≡ single (literalIn text (f .low) (f .mid)) = rw j in
           let q : weighed item w ≡ rowsOf (single (literalIn text (f .low) (f .mid))) = rw (i, u) in
           let m = subst (λ (x : Value). Small (rowsOf x)) u (small-value text item f s i) in
-          let c : t .literals + 1 ≤ 64 = rw q at (parts .2) in
-          rw q (left-single text item ss vs t row notes f s (h .left (parts .0)) j (parts .1) c n m)
+          let c : t .literals + 1 ≤ 64 = rw q at (parts .literals) in
+          rw q (left-single text item ss vs t row notes f s (h .left (parts .«open»)) j (parts .values) c n m)
 
   pub held-more : Held text item start ss (vs ++ w ∷ []) r row-after notes-after
   held-more = record { over = over-more; left = left-more }

@@ -68,6 +68,7 @@ pub record Takes (w : Weighed) (f : Found) (t : Tally) (row notes : List ℕ) (r
   pub tallied : r .over ≡ false → r ≡ tallyAfter w t
   pub paired : r .over ≡ false → rowLeft ≡ rowAfter w t row
   pub noted : r .over ≡ false → notesLeft ≡ notesAfter w f t notes
+  pub passed : r .over ≡ true → (rowLeft ≡ row) × (notesLeft ≡ notes)
 
 -- no literal has more than 256 bytes
 abbrev pub Small : Weighed → Type 0

@@ -47,8 +47,7 @@ fn read_values(
     }
 }
 
-// The entry whose level number ends at n: its name, VALUE and its values. `row` is for their pairs. Free: what it and `notes` hold
-// where the entry is not whole or passes a limit.
+// The entry whose level number ends at n: its name, VALUE and its values. `row` is for their pairs.
 pub fn read_name(
     text: &[u8],
     n: usize,

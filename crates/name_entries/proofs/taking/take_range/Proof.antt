@@ -18,7 +18,7 @@ passed-requires c κs = search needs
 returns : tie.Need-returns
 returns c =
     let p7 = c .before .before .before .before .before .before .before in
-    range-over (p7 .args .low) (p7 .args .high) (p7 .args .found) (p7 .args .tally) (now (p7 .args .row)) (now (p7 .args .notes)) _ _ _
+    range-over (p7 .args .low) (p7 .args .high) (p7 .args .found) (p7 .args .tally) (now (p7 .args .row)) (now (p7 .args .notes)) _
     (c .passed .ensures) (c .before .if1 .taken)
 
 wide-requires : tie.Need-wide-requires
