@@ -268,8 +268,8 @@ module _ (text flat stack rows places notes : List ℕ) (depth waiting count at 
           pub name-beyond : {flat₀ stack₀ rows₀ places₀ notes₀ nrow : List ℕ} → Beyond (found count true 0 s) flat₀ stack₀ rows₀ places₀ notes₀ flat stack rows places notes nrow →
               length nrow′ ≡ 18 → Beyond (found count true 0 r′) flat₀ stack₀ rows₀ places₀ notes₀ flat stack rows′ places′ notes′ nrow′
           name-beyond B l =
-              beyond-step p flat (N .by .3) (literals-more (G .kept) p count flat y (N .values) r′ rows′ places′ notes′ nrow′ own there
-              (omega (arith, map-length (G .exact), G .counted)) (omega (arith, map-length (G .exact), G .counted, some-item)) w (N .by .3)) B l
+              beyond-step B p flat (N .by .3) (literals-more (G .kept) p count flat y (N .values) r′ rows′ places′ notes′ nrow′ own there
+              (omega (arith, map-length (G .exact), G .counted)) (omega (arith, map-length (G .exact), G .counted, some-item)) w (N .by .3)) l
 
           pub name-stops : parted (drop k text) ≡ false → {z : Found} → z ≡ found count false k r′ → Reads text flat rows′ places′ notes′ z
           name-stops b q =
@@ -444,7 +444,7 @@ module _ (text flat stack rows places notes : List ℕ) (depth waiting count at 
 
       pub item-beyond : {flat₀ stack₀ rows₀ places₀ notes₀ nrow : List ℕ} → Beyond (found count true 0 s) flat₀ stack₀ rows₀ places₀ notes₀ flat stack rows places notes nrow →
           Beyond (found (count + 1) true 0 s) flat₀ stack₀ rows₀ places₀ notes₀ after (pushed stack n (x .level)) rows places notes nrow
-      item-beyond B = beyond-item x n (omega (arith, X .near .0, G .deep)) B
+      item-beyond B = beyond-item B x n (omega (arith, X .near .0, G .deep))
 
       pub further : (at < k) × (k ≤ length text)
       further = (omega (arith, X .ends .0, e), X .ends .1)

@@ -27,7 +27,7 @@ use Rattle.name_entries.proofs.Holding.{in-append, in-length, numbers-length, t
 use Rattle.noting.specs.Stored.{notedAt}
 use Rattle.storing.specs.Naming.{itemRow, names, startOf, passedBy, rowNumbers, nameNumbers, nameOf, limitOf, Items, Stores, Kept, NameStored, NotStored, Stepped}
 use Rattle.storing.specs.declared.Names.{Names}
-use Rattle.storing.proofs.Stored.{all-stored, stored-alike, stored-passed}
+use Rattle.storing.proofs.Stored.{all-stored, stored-alike, passed-over, passed-count, stored-passed}
 
 -- Lists that grow at their ends.
 marks-append : (n k : ℕ) (rs : List Row) (cs : List Condition) (c : Condition) →
@@ -291,7 +291,7 @@ module _ {text : List ℕ} {es : List Entry} {cs : List Condition} {s : Names} {
         }
 
   stores-more : Stores text (take (r .count) (cs ++ c ∷ [])) r rows-after places-after notes-after
-  stores-more = by (t .tallied .over) refl (s .over) refl
+  stores-more = by (t .tallied .over) refl
     where
       few : s .count ≤ length cs
       few = omega (arith, k .stores .counted, length-take (s .count) cs)
@@ -302,20 +302,18 @@ module _ {text : List ℕ} {es : List Entry} {cs : List Condition} {s : Names} {
           let n = t .passed j in
           rw (take-append-le (s .count) cs (c ∷ []) few, n .named, n .placed) (stored-alike (n .spared .counted) (k .stores))
 
-      by : (b : Bool) → t .tallied .over ≡ b → (a : Bool) → s .over ≡ a → Stores text (take (r .count) (cs ++ c ∷ [])) r rows-after places-after notes-after
-      by true j true i = rw (t .is, j, i) (same j)
-      by true j false i = rw (t .is, j, i) (stored-passed p (same j))
-      by false j a i =
+      by : (b : Bool) → t .tallied .over ≡ b → Stores text (take (r .count) (cs ++ c ∷ [])) r rows-after places-after notes-after
+      by true j = rw (t .is, j, passed-count s p) (stored-passed s p (same j))
+      by false j =
           let n : take (s .count + 1) (cs ++ c ∷ []) ≡ cs ++ c ∷ [] = take-all (s .count + 1) (cs ++ c ∷ []) (omega (arith, k .all (fine-before j), length-append cs (c ∷ []))) in
           rw (t .is, j, n) (made j)
 
   all-more : r .over ≡ false → r .count ≡ length (cs ++ c ∷ [])
-  all-more e = by (t .tallied .over) refl (s .over) refl
+  all-more e = by (t .tallied .over) refl
     where
-      by : (b : Bool) → t .tallied .over ≡ b → (a : Bool) → s .over ≡ a → r .count ≡ length (cs ++ c ∷ [])
-      by true j true i = apart i (rw (t .is, j, i) at e)
-      by true j false i = apart refl (rw (t .is, j, i) at e)
-      by false j a i = rw (t .is, j) (omega (arith, k .all (fine-before j), length-append cs (c ∷ [])))
+      by : (b : Bool) → t .tallied .over ≡ b → r .count ≡ length (cs ++ c ∷ [])
+      by true j = apart (passed-over s p) (rw (t .is, j) at e)
+      by false j = rw (t .is, j) (omega (arith, k .all (fine-before j), length-append cs (c ∷ [])))
 
   pub kept-more : Kept text es (cs ++ c ∷ []) r rows-after places-after notes-after
   kept-more = record { limit = limit-more; stores = stores-more; all = all-more; items = items-append (length es) cs c (k .items) (omega arith) }

@@ -1,6 +1,6 @@
 -- What is not counted stays as it was.
 use mathlib.Core.Path.{_≡_, refl, sym, ap, _∙_}
-use mathlib.Core.Bool.{Bool, true, false, cond}
+use mathlib.Core.Bool.{Bool, true, false}
 use mathlib.Core.List.{List}
 use Prim.Native.Nat.{ℕ, zero, suc, _+_, _*_, _-_, _≤_, _<_}
 use native.Mathlib.Omega.{arith}
@@ -12,16 +12,17 @@ use Rattle.description.proofs.Bytes.{apart}
 use Rattle.entries.specs.declared.Noted.{Noted}
 use Rattle.name_entries.proofs.Cells.{sets-after, drop-further}
 use Rattle.noting.specs.Stored.{numbersOf, pushed}
-use Rattle.storing.specs.Naming.{names, passedBy, NameStored, NotStored, Stepped}
+use Rattle.storing.specs.Naming.{names, NotStored, Stepped}
 use Rattle.storing.specs.Reads.{Beyond}
 use Rattle.storing.specs.declared.Found.{Found}
 use Rattle.storing.specs.declared.Names.{Names}
+use Rattle.storing.proofs.Stored.{passed-over, passed-count}
 
 abbrev pub found : ℕ → Bool → ℕ → Names → Found
 found n w p s = record { count = n; whole = w; place = p; names = s }
 
 pub beyond-first : {flat stack rows places notes row : List ℕ} → length row ≡ 18 → Beyond (found 0 true 0 (names false 0 0 0 0)) flat stack rows places notes flat stack rows places notes row
-beyond-first l = record { entries = refl; groups = refl; names = refl; places = refl; notes = refl; literals = λ _ _. refl; row = l }
+beyond-first l = record { entries = refl; groups = refl; names = refl; placed = refl; noted = refl; literals = λ _ _. refl; row = l }
 
 module _ {count : ℕ} {s : Names} {flat₀ stack₀ rows₀ places₀ notes₀ flat stack rows places notes row : List ℕ}
     (B : Beyond (found count true 0 s) flat₀ stack₀ rows₀ places₀ notes₀ flat stack rows places notes row) where
@@ -29,7 +30,7 @@ module _ {count : ℕ} {s : Names} {flat₀ stack₀ rows₀ places₀ notes₀ 
   pub beyond-as : {w : Bool} {p : ℕ} {r : Found} → r ≡ found count w p s → Beyond r flat₀ stack₀ rows₀ places₀ notes₀ flat stack rows places notes row
   beyond-as q =
       rw q
-      (record { entries = B .entries; groups = B .groups; names = B .names; places = B .places; notes = B .notes; literals = λ _ o. B .literals refl o; row = B .row })
+      (record { entries = B .entries; groups = B .groups; names = B .names; placed = B .placed; noted = B .noted; literals = λ _ o. B .literals refl o; row = B .row })
 
   -- an item's entry more
   pub beyond-item : (x : Noted) (n : ℕ) → n ≤ count + 1 →
@@ -39,8 +40,8 @@ module _ {count : ℕ} {s : Names} {flat₀ stack₀ rows₀ places₀ notes₀ 
         entries = sets-after (numbersOf x) flat (count * 7) ((count + 1) * 7) (omega arith) ∙ drop-further flat flat₀ (count * 7) ((count + 1) * 7) (omega arith) (B .entries);
         groups = by n l;
         names = B .names;
-        places = B .places;
-        notes = B .notes;
+        placed = B .placed;
+        noted = B .noted;
         literals = B .literals;
         row = B .row;
       }
@@ -58,8 +59,8 @@ module _ {count : ℕ} {s : Names} {flat₀ stack₀ rows₀ places₀ notes₀ 
           entries = rw c (B .entries);
           groups = rw c (B .groups);
           names = rw (e, n .named) (B .names);
-          places = rw (e, n .placed) (B .places);
-          notes = n .spared .beyond ∙ B .notes;
+          placed = rw (e, n .placed) (B .placed);
+          noted = n .spared .beyond ∙ B .noted;
           literals = λ w f. apart (o w) f;
           row = n .spared .wide;
         }
@@ -74,14 +75,6 @@ module _ {count : ℕ} {s : Names} {flat₀ stack₀ rows₀ places₀ notes₀ 
       pub beyond-step : Beyond (found count true 0 r) flat₀ stack₀ rows₀ places₀ notes₀ flat stack rows′ places′ notes′ row′
       beyond-step = by (t .tallied .over) refl
         where
-          passed : (a : Bool) → (cond a s (names true p (s .count) (s .literals) (s .bytes)) .count ≡ s .count)
-          passed true = refl
-          passed false = refl
-
-          over : (a : Bool) → s .over ≡ a → cond a s (names true p (s .count) (s .literals) (s .bytes)) .over ≡ true
-          over true e = e
-          over false e = refl
-
           stored : (o : t .tallied .over ≡ false) →
               Beyond (found count true 0 (names false 0 (s .count + 1) (t .tallied .literals) (t .tallied .bytes))) flat₀ stack₀ rows₀ places₀ notes₀ flat stack rows′ places′ notes′ row′
           stored o =
@@ -90,13 +83,15 @@ module _ {count : ℕ} {s : Names} {flat₀ stack₀ rows₀ places₀ notes₀ 
               record {
                 entries = B .entries;
                 groups = B .groups;
-                names = rw (n .stored) (sets-after row′ rows (s .count * 18) ((s .count + 1) * 18) (omega (arith, l)) ∙ drop-further rows rows₀ (s .count * 18) ((s .count + 1) * 18) (omega arith) (B .names));
-                places = rw (n .placed) (drop-set-lt (s .count + 1) places (s .count) (inked text (p + 2)) (omega arith) ∙ drop-further places places₀ (s .count) (s .count + 1) (omega arith) (B .places));
-                notes = drop-further notes′ notes (t .tallied .literals * 7) 448 (omega (arith, k .2)) (t .beyond o) ∙ B .notes;
+                names = rw (n .stored) (sets-after row′ rows (s .count * 18) ((s .count + 1) * 18) (omega (arith, l))
+                    ∙ drop-further rows rows₀ (s .count * 18) ((s .count + 1) * 18) (omega arith) (B .names));
+                placed = rw (n .placed) (drop-set-lt (s .count + 1) places (s .count) (inked text (p + 2)) (omega arith)
+                    ∙ drop-further places places₀ (s .count) (s .count + 1) (omega arith) (B .placed));
+                noted = drop-further notes′ notes (t .tallied .literals * 7) 448 (omega (arith, k .2)) (t .beyond o) ∙ B .noted;
                 literals = λ _ _. t .beyond o ∙ drop-further notes notes₀ (s .literals * 7) (t .tallied .literals * 7) (omega (arith, k .1)) (B .literals refl (k .0));
                 row = l;
               }
 
           by : (b : Bool) → t .tallied .over ≡ b → Beyond (found count true 0 r) flat₀ stack₀ rows₀ places₀ notes₀ flat stack rows′ places′ notes′ row′
-          by true o = rw (t .is, o) (beyond-none refl (passed (s .over)) (t .passed o) (λ _. over (s .over) refl))
+          by true o = rw (t .is, o) (beyond-none refl (passed-count s p) (t .passed o) (λ _. passed-over s p))
           by false o = rw (t .is, o) (stored o)

@@ -39,7 +39,7 @@ pub record Beyond (r : Found) (flat stack rows places notes flatLeft stackLeft r
   pub entries : drop (r .count * 7) flatLeft ≡ drop (r .count * 7) flat
   pub groups : drop (r .count) stackLeft ≡ drop (r .count) stack
   pub names : drop (r .names .count * nameWidth) rowsLeft ≡ drop (r .names .count * nameWidth) rows
-  pub places : drop (r .names .count) placesLeft ≡ drop (r .names .count) places
-  pub notes : drop 448 notesLeft ≡ drop 448 notes
+  pub placed : drop (r .names .count) placesLeft ≡ drop (r .names .count) places
+  pub noted : drop 448 notesLeft ≡ drop 448 notes
   pub literals : r .whole ≡ true → r .names .over ≡ false → drop (r .names .literals * 7) notesLeft ≡ drop (r .names .literals * 7) notes
   pub row : length rowLeft ≡ nameWidth
