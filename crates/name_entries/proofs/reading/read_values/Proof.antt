@@ -119,7 +119,7 @@ same-length-3 c =
     p4 .loop .inv .rest .spared .wide ∙ sym (ap length (p8 .pre .1 .zeros))
 
 same-length-4 : tie.Need-same-length-4 Inv-loop μ-loop
-same-length-4 c = c .before .before .before .before .loop .inv .rest .spared .long
+same-length-4 c = search needs
 
 returns-2 : tie.Need-returns-2 Inv-loop μ-loop
 returns-2 c = going-fault (c .before .before .before .before .loop .inv) (sym (c .before .k .given .1) ∙ c .before .before .before .value-at .ensures)
