@@ -66,10 +66,10 @@ returns c =
     let p2 = c .before .before in
     let p3 = p2 .before in
     let p11 = p3 .before .before .before .before .before .before .before .before in (
-    over (now (p11 .args .text)) (p3 .loop .entries) (p3 .loop .stack) (p3 .loop .names) (p3 .loop .places) (p3 .loop .notes) (p3 .loop .depth)
-    (p3 .loop .waiting) (p3 .loop .count) (p3 .loop .at) (p3 .loop .kept) (p3 .loop .inv .0) (p11 .pre .0 .0) (p2 .next-ink .ensures)
-    (c .before .if1 .taken) (c .found .ensures),
-    beyond-as (p3 .loop .inv .7) (c .found .ensures),
+      over (now (p11 .args .text)) (p3 .loop .entries) (p3 .loop .stack) (p3 .loop .names) (p3 .loop .places) (p3 .loop .notes) (p3 .loop .depth)
+          (p3 .loop .waiting) (p3 .loop .count) (p3 .loop .at) (p3 .loop .kept) (p3 .loop .inv .0) (p11 .pre .0 .0) (p2 .next-ink .ensures)
+          (c .before .if1 .taken) (c .found .ensures),
+      beyond-as (p3 .loop .inv .7) (c .found .ensures),
     )
 
 entry-at-requires : tie.Need-entry-at-requires Inv-loop μ-loop
@@ -120,10 +120,10 @@ returns-2 c =
     let p7 = p6 .before in
     let p8 = p7 .before in
     let p16 = p8 .before .before .before .before .before .before .before .before in (
-    faults (now (p16 .args .text)) (p8 .loop .entries) (p8 .loop .stack) (p8 .loop .names) (p8 .loop .places) (p8 .loop .notes) (p8 .loop .depth)
-    (p8 .loop .waiting) (p8 .loop .count) (p8 .loop .at) (p8 .loop .kept) (p8 .loop .inv .0) (p16 .pre .0 .0) (p7 .next-ink .ensures) (p6 .if1 .left)
-    (p4 .entry-at .ensures) (p2 .k .given .1) (c .found2 .ensures),
-    beyond-as (p8 .loop .inv .7) (c .found2 .ensures),
+      faults (now (p16 .args .text)) (p8 .loop .entries) (p8 .loop .stack) (p8 .loop .names) (p8 .loop .places) (p8 .loop .notes) (p8 .loop .depth)
+          (p8 .loop .waiting) (p8 .loop .count) (p8 .loop .at) (p8 .loop .kept) (p8 .loop .inv .0) (p16 .pre .0 .0) (p7 .next-ink .ensures) (p6 .if1 .left)
+          (p4 .entry-at .ensures) (p2 .k .given .1) (c .found2 .ensures),
+      beyond-as (p8 .loop .inv .7) (c .found2 .ensures),
     )
 
 enum-told : tie.Need-enum-told Inv-loop μ-loop
@@ -209,14 +209,14 @@ returns-3 c =
       omega (arith, p34 .pre .1 .0, p26 .loop .inv .3),
       omega (arith, p34 .pre .1 .1 .0, p26 .loop .inv .4),
     ) in (
-    name-stops (now (p34 .args .text)) (p26 .loop .entries) (p26 .loop .stack) (p26 .loop .names) (p26 .loop .places) (p26 .loop .notes)
-    (p26 .loop .depth) (p26 .loop .waiting) (p26 .loop .count) (p26 .loop .at) (p26 .loop .kept) (p26 .loop .inv .0) (p34 .pre .0 .0)
-    (p25 .next-ink .ensures) (p24 .if1 .left) (p22 .entry-at .ensures) (p20 .enum-told .given .1) w (step-as (p14 .name-step .ensures) (p4 .next .given .1))
-    (sym (p2 .parted-at .ensures) ∙ not-true _ (c .before .if2 .taken)) (c .found3 .ensures),
-    beyond-as (name-beyond (now (p34 .args .text)) (p26 .loop .entries) (p26 .loop .stack) (p26 .loop .names) (p26 .loop .places) (p26 .loop .notes)
-    (p26 .loop .depth) (p26 .loop .waiting) (p26 .loop .count) (p26 .loop .at) (p26 .loop .kept) (p26 .loop .inv .0) (p34 .pre .0 .0)
-    (p25 .next-ink .ensures) (p24 .if1 .left) (p22 .entry-at .ensures) (p20 .enum-told .given .1) w (step-as (p14 .name-step .ensures) (p4 .next .given .1))
-    (p26 .loop .inv .7) (p14 .name-step .kept .1 .1 .1 .1 .1 .1 .1 .1 .0 ∙ p26 .loop .inv .6 ∙ p34 .pre .1 .1 .1 .1)) (c .found3 .ensures),
+      name-stops (now (p34 .args .text)) (p26 .loop .entries) (p26 .loop .stack) (p26 .loop .names) (p26 .loop .places) (p26 .loop .notes)
+          (p26 .loop .depth) (p26 .loop .waiting) (p26 .loop .count) (p26 .loop .at) (p26 .loop .kept) (p26 .loop .inv .0) (p34 .pre .0 .0)
+          (p25 .next-ink .ensures) (p24 .if1 .left) (p22 .entry-at .ensures) (p20 .enum-told .given .1) w (step-as (p14 .name-step .ensures) (p4 .next .given .1))
+          (sym (p2 .parted-at .ensures) ∙ not-true _ (c .before .if2 .taken)) (c .found3 .ensures),
+      beyond-as (name-beyond (now (p34 .args .text)) (p26 .loop .entries) (p26 .loop .stack) (p26 .loop .names) (p26 .loop .places) (p26 .loop .notes)
+          (p26 .loop .depth) (p26 .loop .waiting) (p26 .loop .count) (p26 .loop .at) (p26 .loop .kept) (p26 .loop .inv .0) (p34 .pre .0 .0)
+          (p25 .next-ink .ensures) (p24 .if1 .left) (p22 .entry-at .ensures) (p20 .enum-told .given .1) w (step-as (p14 .name-step .ensures) (p4 .next .given .1))
+          (p26 .loop .inv .7) (p14 .name-step .kept .1 .1 .1 .1 .1 .1 .1 .1 .0 ∙ p26 .loop .inv .6 ∙ p34 .pre .1 .1 .1 .1)) (c .found3 .ensures),
     )
 
 loop-less : tie.Need-loop-less Inv-loop μ-loop
@@ -329,10 +329,10 @@ returns-4 c =
     let p24 = p23 .before in
     let p32 = p24 .before .before .before .before .before .before .before .before in
     let n = step-as (p12 .name-step .ensures) (p2 .k2 .given .1) in (
-    name-fault (now (p32 .args .text)) (p24 .loop .entries) (p24 .loop .stack) (p24 .loop .names) (p24 .loop .places) (p24 .loop .notes)
-    (p24 .loop .depth) (p24 .loop .waiting) (p24 .loop .count) (p24 .loop .at) (p24 .loop .kept) (p24 .loop .inv .0) (p32 .pre .0 .0)
-    (p23 .next-ink .ensures) (p22 .if1 .left) (p20 .entry-at .ensures) (p18 .enum-told .given .1) n (c .found4 .ensures),
-    beyond-fault (p24 .loop .inv .7) (c .found4 .ensures) (n .by .1),
+      name-fault (now (p32 .args .text)) (p24 .loop .entries) (p24 .loop .stack) (p24 .loop .names) (p24 .loop .places) (p24 .loop .notes)
+          (p24 .loop .depth) (p24 .loop .waiting) (p24 .loop .count) (p24 .loop .at) (p24 .loop .kept) (p24 .loop .inv .0) (p32 .pre .0 .0)
+          (p23 .next-ink .ensures) (p22 .if1 .left) (p20 .entry-at .ensures) (p18 .enum-told .given .1) n (c .found4 .ensures),
+      beyond-fault (p24 .loop .inv .7) (c .found4 .ensures) (n .by .1),
     )
 
 enum-known-x : tie.Need-enum-known-x Inv-loop μ-loop
@@ -438,13 +438,13 @@ returns-5 c =
     let p19 = p18 .before in
     let p27 = p19 .before .before .before .before .before .before .before .before in
     let m : 5747 ≤ length (p19 .loop .entries) = omega (arith, p27 .pre .0 .1 .0, p19 .loop .inv .1) in (
-    rw (p10 .store .ensures) (stops (now (p27 .args .text)) (p19 .loop .entries) (p19 .loop .stack) (p19 .loop .names) (p19 .loop .places)
-    (p19 .loop .notes) (p19 .loop .depth) (p19 .loop .waiting) (p19 .loop .count) (p19 .loop .at) (p19 .loop .kept) (p19 .loop .inv .0)
-    (p27 .pre .0 .0) (p18 .next-ink .ensures) (p17 .if1 .left) (p15 .entry-at .ensures) (p13 .x .given .1) m
-    (sym (p2 .parted-at2 .ensures) ∙ not-true _ (c .before .if3 .taken)) (c .found5 .ensures)),
-    rw (p10 .store .ensures, p6 .push .ensures) (beyond-as (item-beyond (now (p27 .args .text)) (p19 .loop .entries) (p19 .loop .stack) (p19 .loop .names) (p19 .loop .places)
-    (p19 .loop .notes) (p19 .loop .depth) (p19 .loop .waiting) (p19 .loop .count) (p19 .loop .at) (p19 .loop .kept) (p19 .loop .inv .0)
-    (p27 .pre .0 .0) (p18 .next-ink .ensures) (p17 .if1 .left) (p15 .entry-at .ensures) (p13 .x .given .1) m (p19 .loop .inv .7)) (c .found5 .ensures)),
+      rw (p10 .store .ensures) (stops (now (p27 .args .text)) (p19 .loop .entries) (p19 .loop .stack) (p19 .loop .names) (p19 .loop .places)
+          (p19 .loop .notes) (p19 .loop .depth) (p19 .loop .waiting) (p19 .loop .count) (p19 .loop .at) (p19 .loop .kept) (p19 .loop .inv .0)
+          (p27 .pre .0 .0) (p18 .next-ink .ensures) (p17 .if1 .left) (p15 .entry-at .ensures) (p13 .x .given .1) m
+          (sym (p2 .parted-at2 .ensures) ∙ not-true _ (c .before .if3 .taken)) (c .found5 .ensures)),
+      rw (p10 .store .ensures, p6 .push .ensures) (beyond-as (item-beyond (now (p27 .args .text)) (p19 .loop .entries) (p19 .loop .stack) (p19 .loop .names) (p19 .loop .places)
+          (p19 .loop .notes) (p19 .loop .depth) (p19 .loop .waiting) (p19 .loop .count) (p19 .loop .at) (p19 .loop .kept) (p19 .loop .inv .0)
+          (p27 .pre .0 .0) (p18 .next-ink .ensures) (p17 .if1 .left) (p15 .entry-at .ensures) (p13 .x .given .1) m (p19 .loop .inv .7)) (c .found5 .ensures)),
     )
 
 loop-less-2 : tie.Need-loop-less-2 Inv-loop μ-loop
