@@ -8,7 +8,8 @@ use lib.ListN.{length}
 use borrow.Author.Needs.{needs}
 use borrow.Author.Tests.{not-true, not-false}
 use Rattle.text_bytes.proofs.Laws.{inked-le}
-use Rattle.describer.proofs.Going.{Going, begins, over, faults, fits, fits-stack, level-fits, stops, goes-on, further, name-ready, name-stops, name-goes, name-further, name-fault, name-beyond, item-beyond, step-as}
+use Rattle.describer.proofs.Going.{Going, begins, over, faults, fits, fits-stack, level-fits, stops, goes-on, further}
+use Rattle.describer.proofs.Going.{name-ready, name-stops, name-goes, name-further, name-fault, name-beyond, item-beyond, step-as}
 use Rattle.describer.proofs.Past.{found, beyond-first, beyond-as, beyond-fault}
 use Rattle.storing.specs.Reads.{Beyond}
 use Rattle.describer.proofs.reading.read_entries.Statement.{statement}

@@ -106,8 +106,8 @@ returns c =
     let p11 = p9 .before .before in
     let p12 = p11 .before in
     let p16 = p12 .before .before .before .before in
-    going-ended (p12 .loop .inv) (omega (arith, p12 .loop .inv .rest .spared .long, p16 .pre .1 .long)) (same-weight (sym (p7 .weigh2 .ensures)) (p4 .take-value2 .ensures)) (sym (p9 .found2 .given .1) ∙
-    p11 .value-at .ensures)
+    going-ended (p12 .loop .inv) (omega (arith, p12 .loop .inv .rest .spared .long, p16 .pre .1 .long))
+    (same-weight (sym (p7 .weigh2 .ensures)) (p4 .take-value2 .ensures)) (sym (p9 .found2 .given .1) ∙ p11 .value-at .ensures)
 
 enum-known-k : tie.Need-enum-known-k Inv-loop μ-loop
 enum-known-k c = search needs
