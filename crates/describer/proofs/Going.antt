@@ -1,19 +1,19 @@
 -- Reading entry by entry: what is known between entries, and how each turn goes.
 use mathlib.Core.Path.{_≡_, refl, sym, ap, subst, _∙_}
 use mathlib.Core.Bool.{Bool, true, false, cond, _&&_, _||_}
-use mathlib.Core.Option.{Option, none, some}
+use mathlib.Core.Option.{some}
 use mathlib.Core.List.{List, [], _∷_, _++_, map}
 use Prim.Native.Nat.{ℕ, zero, suc, _+_, _*_, _-_, _≤_, _<_}
 use native.Mathlib.Omega.{arith}
 use native.Mathlib.Numerals.{add-one}
-use borrow.Author.Tests.{lt-ltb, ltb-true}
+use borrow.Author.Tests.{ltb-true}
 use lib.Dec.{eqb, ltb}
-use lib.ListN.{length, getD, set, take, drop, length-set, length-append, List·getD-map}
-use lib.Seq.{sets, length-sets}
-use Rattle.description.specs.Grammar.{Entry, Row, row, Value, Condition, condition}
-use Rattle.description.specs.Reader.{Groups, enters, beginsLevel, awaiting, inside, level, label, Parts, parts, hasItem, ends, State, Reading, read, faulty, readText}
+use lib.ListN.{length, getD, take, drop, length-set, length-append, List·getD-map}
+use lib.Seq.{sets}
+use Rattle.description.specs.Grammar.{Entry, row, Condition, condition}
+use Rattle.description.specs.Reader.{Groups, enters, beginsLevel, awaiting, inside, level, label, Parts, parts, hasItem, ends, read, faulty, readText}
 use Rattle.description.specs.Stages.{inked, onward, parted, joined, clausesAt, nameAt, leveled, ownRow, ownRows}
-use Rattle.description.proofs.Bytes.{apart, eqb-no}
+use Rattle.description.proofs.Bytes.{eqb-no}
 use Rattle.description.proofs.Takes.{naming}
 use Rattle.description.proofs.Opening.{shut, level-ends}
 use Rattle.levels.specs.Stack.{opened, groupsOf, enteredBy, topped}

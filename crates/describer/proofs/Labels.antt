@@ -1,17 +1,17 @@
 -- One level 88 entry more, and one entry of an item more: what the buffers hold.
-use mathlib.Core.Path.{_≡_, refl, sym, ap, subst, _∙_}
-use mathlib.Core.Bool.{Bool, true, false, cond, not, _&&_, _||_}
+use mathlib.Core.Path.{_≡_, refl, sym, ap, _∙_}
+use mathlib.Core.Bool.{Bool, true, false, cond, not, _||_}
 use mathlib.Core.Option.{Option, none, some}
 use mathlib.Core.List.{List, [], _∷_, _++_, map, append-assoc}
-use Prim.Native.Nat.{ℕ, zero, suc, _+_, _*_, _-_, _≤_, _<_, min}
+use Prim.Native.Nat.{ℕ, suc, _+_, _*_, _-_, _≤_, _<_}
 use native.Mathlib.Omega.{arith}
 use native.Mathlib.Numerals.{add-one}
-use borrow.Author.Tests.{leb-true, leb-false, ltb-false, eqb-true, eqb-false}
+use borrow.Author.Tests.{leb-false, eqb-true, eqb-false}
 use lib.Dec.{eqb, leb, ltb}
-use lib.ListN.{length, getD, take, drop, set, replicate, length-append, length-replicate, length-take, List·getD-append}
+use lib.ListN.{length, getD, take, drop, replicate, length-append, length-replicate, length-take, List·getD-append}
 use lib.Seq.{sets, take-all, take-append-le, take-suc-set}
 use Rattle.content.specs.declared.Row as Rules
-use Rattle.description.specs.Grammar.{Entry, Content, group, item, Row, row, Literal, Value, single, range, Condition, condition, Pair, NameRow}
+use Rattle.description.specs.Grammar.{Entry, group, item, Row, row, Literal, Value, single, range, Condition, condition, NameRow}
 use Rattle.description.specs.Grammar.{nameRow, pairs, literals, nameRows, literalsOf, literalBytes}
 use Rattle.description.specs.Limits.{comparable, barred, anyBarred, overName, Mark, mark, nameMarks}
 use Rattle.description.specs.Stages.{inked, firstOver, ownRow, ownRows}
@@ -19,13 +19,11 @@ use Rattle.description.proofs.Bytes.{apart, eqb-no}
 use Rattle.description.proofs.Firsts.{any-alike}
 use Rattle.value_weights.specs.Weights.{shown}
 use Rattle.entries.specs.declared.Noted.{Noted}
-use Rattle.entries.specs.Entries.{cap, capNoted, contentOf, entryOf}
-use Rattle.name_entries.specs.Taking.{tally}
-use Rattle.name_entries.specs.Named.{Span, literalsIn, notesOf, pairNumbers, overValues, Left, Held, Noted as NotesHold}
-use Rattle.name_entries.specs.declared.Tally.{Tally}
+use Rattle.entries.specs.Entries.{cap, capNoted, entryOf}
+use Rattle.name_entries.specs.Named.{literalsIn, notesOf, pairNumbers, Left, Held, Noted as NotesHold}
 use Rattle.name_entries.proofs.Holding.{in-append, in-length, numbers-length, taken-next}
 use Rattle.noting.specs.Stored.{notedAt}
-use Rattle.storing.specs.Naming.{itemRow, names, startOf, passedBy, rowNumbers, nameNumbers, nameOf, limitOf, Items, Stores, Kept, NameStored, NotStored, Stepped}
+use Rattle.storing.specs.Naming.{itemRow, names, startOf, passedBy, rowNumbers, nameNumbers, nameOf, limitOf, Items, Stores, Kept, NameStored, Stepped}
 use Rattle.storing.specs.declared.Names.{Names}
 use Rattle.storing.proofs.Stored.{all-stored, stored-alike, passed-over, passed-count, stored-passed}
 

@@ -1,8 +1,8 @@
 -- What is not counted stays as it was.
-use mathlib.Core.Path.{_≡_, refl, sym, ap, _∙_}
+use mathlib.Core.Path.{_≡_, refl, _∙_}
 use mathlib.Core.Bool.{Bool, true, false}
 use mathlib.Core.List.{List}
-use Prim.Native.Nat.{ℕ, zero, suc, _+_, _*_, _-_, _≤_, _<_}
+use Prim.Native.Nat.{ℕ, zero, suc, _+_, _*_, _-_, _≤_}
 use native.Mathlib.Omega.{arith}
 use lib.ListN.{length, drop}
 use lib.Seq.{sets, drop-set-lt}
@@ -10,7 +10,7 @@ use Rattle.description.specs.Grammar.{Value}
 use Rattle.description.specs.Stages.{inked}
 use Rattle.description.proofs.Bytes.{apart}
 use Rattle.entries.specs.declared.Noted.{Noted}
-use Rattle.name_entries.proofs.Cells.{sets-after, drop-further}
+use Rattle.value_notes.proofs.Cells.{sets-after, drop-further}
 use Rattle.noting.specs.Stored.{numbersOf, pushed}
 use Rattle.storing.specs.Naming.{names, NotStored, Stepped}
 use Rattle.storing.specs.Reads.{Beyond}

@@ -40,7 +40,7 @@ fn found(count: usize, whole: bool, place: usize, names: Names) -> Found
 }
 
 // The entries of a text of at most 4,096 bytes: items in seven numbers each, names in eighteen, the places
-// of these, literals in seven. `stack` is for the open groups, `row` for a name's pairs.
+// of these, literals in seven. `stack` is for the open groups, `row` for a name's pairs. What is free afterwards: `Beyond`.
 pub fn read_entries(
     text: &[u8],
     entries: &mut [u32],

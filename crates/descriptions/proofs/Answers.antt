@@ -30,8 +30,8 @@ use Rattle.layouts.specs.declared.Laid.{Laid}
 use Rattle.layouts.specs.declared.Laid.the-variants.{Over, Fine}
 use Rattle.layouts.specs.Layouts.{firstOver, entriesIn, rowNumbers, overPlace, LaidOut}
 use Rattle.layouts.proofs.Capping.{first-caps, rows-same, first-marks}
-use Rattle.name_entries.specs.Taking.{tally}
-use Rattle.name_entries.specs.declared.Tally.{Tally}
+use Rattle.value_notes.specs.Taking.{tally}
+use Rattle.value_notes.specs.declared.Tally.{Tally}
 use Rattle.outputs.specs.Noted.{namedOf, rowsFrom, bytesFrom}
 use Rattle.outputs.proofs.Copying.{named-length, rows-length}
 use Rattle.outputs.proofs.Noting.{rows-noted, bytes-noted, words-noted}

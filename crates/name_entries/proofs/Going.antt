@@ -3,7 +3,7 @@ use mathlib.Core.Path.{_≡_, refl, sym, ap, subst, _∙_}
 use mathlib.Core.Bool.{Bool, true, false, cond, _||_}
 use mathlib.Core.Option.{none}
 use mathlib.Core.List.{List, [], _∷_, _++_, append-nil}
-use Prim.Native.Nat.{ℕ, _+_, _*_, _-_, _≤_, _<_}
+use Prim.Native.Nat.{ℕ, _+_, _-_, _≤_, _<_}
 use native.Mathlib.Omega.{arith}
 use borrow.Author.Tests.{le-ltb}
 use lib.Dec.{eqb, ltb}
@@ -11,11 +11,10 @@ use lib.ListN.{length, take, drop, replicate, length-drop}
 use Rattle.content.specs.declared.Row as Rules
 use Rattle.description.specs.Grammar.{bytes, Value, pairs, literals}
 use Rattle.description.specs.Limits.{anyBarred}
-use Rattle.description.specs.Reader.{isName, beginsName, Naming, label, value, values, labelled, faulty}
-use Rattle.description.specs.Stages.{inked, reach, joined, literalAt, nameReach, labelAt}
+use Rattle.description.specs.Reader.{isName, beginsName, Naming, label, value, values}
+use Rattle.description.specs.Stages.{inked, joined, literalAt, nameReach, labelAt}
 use Rattle.description.specs.declared.Reached.{Reached}
 use Rattle.description.specs.declared.Reached.the-variants as Reached
-use Rattle.description.proofs.Bytes.{apart}
 use Rattle.description.proofs.Stages.{reach-le}
 use Rattle.description.proofs.Phases.{onReached}
 use Rattle.text_bytes.proofs.Laws.{inked-le}
@@ -26,9 +25,9 @@ use Rattle.condition_names.specs.declared.Found.{Found}
 use Rattle.condition_names.specs.declared.ValueRead.{ValueRead}
 use Rattle.condition_names.specs.declared.ValueRead.the-variants as ValueRead
 use Rattle.condition_names.proofs.Leads.{onRead, value-leads-on, Goes, value-goes}
-use Rattle.name_entries.specs.Taking.{Rooms, Takes}
-use Rattle.name_entries.specs.Named.{Span, literalsIn, pairNumbers, overValues, Noted, Left, Begun, Ready, Held, ReadAs, HeldBy, ValuesBy, LabelledAs, NamedBy}
-use Rattle.name_entries.specs.declared.Tally.{Tally}
+use Rattle.value_notes.specs.Taking.{Rooms, Takes}
+use Rattle.name_entries.specs.Named.{Span, literalsIn, pairNumbers, overValues, Noted, Left, Begun, Ready, Held, ValuesBy, NamedBy}
+use Rattle.value_notes.specs.declared.Tally.{Tally}
 use Rattle.name_entries.specs.declared.NameRead.{NameRead}
 use Rattle.name_entries.specs.declared.NameRead.the-variants.{Whole, Fault}
 use Rattle.name_entries.proofs.Holding.{held-more}

@@ -1,32 +1,30 @@
 -- One value more: what is stored of it, and whether a limit is passed.
 use mathlib.Core.Path.{_≡_, refl, sym, ap, subst, _∙_}
-use mathlib.Core.Logic.{_⊎_, inl, inr}
-use mathlib.Core.Bool.{Bool, true, false, cond, not, _&&_, _||_}
-use mathlib.Core.Option.{Option, none, some}
-use mathlib.Core.List.{List, [], _∷_, _++_, append-nil, append-assoc}
-use Prim.Native.Nat.{ℕ, zero, suc, _+_, _*_, _-_, _≤_, _<_}
+use mathlib.Core.Bool.{Bool, true, false, cond, not, _||_}
+use mathlib.Core.Option.{none}
+use mathlib.Core.List.{List, [], _∷_, _++_, append-assoc}
+use Prim.Native.Nat.{ℕ, suc, _+_, _*_, _-_, _≤_, _<_}
 use native.Mathlib.Omega.{arith}
-use borrow.Author.Tests.{leb-true, leb-false, ltb-true, ltb-false, le-leb, lt-leb, lt-ltb, le-ltb}
+use borrow.Author.Tests.{leb-true, leb-false, ltb-true, lt-ltb, le-ltb}
 use lib.Dec.{leb, ltb}
-use lib.ListN.{length, take, drop, replicate, length-append, length-replicate, replicate-append-replicate}
-use lib.Seq.{sets, sets-eq, length-sets, drop-append-add, take-append-add, take-append-le, take-append-seam, take-at, length-take-le}
+use lib.ListN.{length, take, drop, replicate, length-append}
+use lib.Seq.{sets, sets-eq, length-sets, drop-append-add, take-at, length-take-le}
 use Rattle.content.specs.declared.Row as Rules
 use Rattle.tables.specs.Rows.{rowSound}
 use Rattle.description.specs.Grammar.{Row, Literal, literalRow, Value, single, range, Pair, pair, pairs, literals, literalBytes}
-use Rattle.description.specs.Limits.{ruled, unfit, barredAlone, barred, anyBarred}
+use Rattle.description.specs.Limits.{ruled, barredAlone, barred, anyBarred}
 use Rattle.description.specs.Stages.{isLiteral, literalIn}
 use Rattle.description.proofs.Bytes.{apart}
-use Rattle.literal_pairs.specs.Spelling.{literalOf, Written}
+use Rattle.literal_pairs.specs.Spelling.{literalOf}
 use Rattle.literal_rows.proofs.Words.{written-small}
-use Rattle.condition_names.specs.Values.{alone, valueOf, Stands}
+use Rattle.condition_names.specs.Values.{valueOf, Stands}
 use Rattle.value_weights.specs.Weights.{shown, rowsOf, weighed}
 use Rattle.condition_names.specs.declared.Found.{Found}
-use Rattle.value_weights.specs.declared.Weighed.{Weighed}
 use Rattle.value_weights.specs.declared.Weighed.the-variants.{Barred, Single, Range}
-use Rattle.name_entries.specs.Taking.{noteNumbers, tally, Small, full, notesAfter, rowAfter, tallyAfter, wants, isBarred, Takes}
-use Rattle.name_entries.specs.Named.{Span, literalsIn, notesOf, Standing, pairNumbers, overValues, Noted, Left, Held}
-use Rattle.name_entries.specs.declared.Tally.{Tally}
-use Rattle.name_entries.proofs.Taken.{Room, room-of}
+use Rattle.value_notes.specs.Taking.{noteNumbers, Small, full, notesAfter, rowAfter, tallyAfter, wants, isBarred, Takes}
+use Rattle.name_entries.specs.Named.{Span, literalsIn, notesOf, Standing, pairNumbers, overValues, Left, Held}
+use Rattle.value_notes.specs.declared.Tally.{Tally}
+use Rattle.value_notes.proofs.Taken.{Room, room-of}
 
 -- Lists that grow at their ends.
 pub literals-append : (vs ws : List Value) → literals (vs ++ ws) ≡ literals vs ++ literals ws

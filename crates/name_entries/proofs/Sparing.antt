@@ -10,11 +10,11 @@ use Rattle.description.proofs.Bytes.{apart}
 use Rattle.condition_names.specs.declared.Found.{Found}
 use Rattle.value_weights.specs.declared.Weighed.{Weighed}
 use Rattle.value_weights.specs.declared.Weighed.the-variants.{Barred, Single, Range}
-use Rattle.name_entries.specs.Taking.{noteNumbers, full, notesAfter, rowAfter, tallyAfter, wants, isBarred, Takes}
+use Rattle.value_notes.specs.Taking.{noteNumbers, full, notesAfter, rowAfter, tallyAfter, wants, isBarred, Takes}
 use Rattle.name_entries.specs.Named.{Spared}
-use Rattle.name_entries.specs.declared.Tally.{Tally}
-use Rattle.name_entries.proofs.Taken.{Room, room-of}
-use Rattle.name_entries.proofs.Cells.{sets-before, sets-after, drop-further}
+use Rattle.value_notes.specs.declared.Tally.{Tally}
+use Rattle.value_notes.proofs.Taken.{room-of}
+use Rattle.value_notes.proofs.Cells.{sets-before, sets-after, drop-further}
 
 -- notes from the k-th literal to the m-th are new
 pub record Fresh (k m : ℕ) (before now : List ℕ) : Type 0 where
@@ -78,5 +78,5 @@ module _ {k : ℕ} {before : List ℕ} {t : Tally} {row notes : List ℕ} (R : R
             record { spared = stored (t .values * 2) (t .literals ∷ (t .literals + 1) ∷ []) f2 (m .literals); fresh = λ _. f2 }
 
         by : (b : Bool) → r .over ≡ b → Rest k before r row-after notes-after
-        by true e = rw (T .passed e .0, T .passed e .1) (record { spared = R .spared; fresh = λ o. apart e o })
+        by true e = rw (T .passed e .1, T .passed e .2) (record { spared = R .spared; fresh = λ o. apart e o })
         by false e = rw (T .tallied e, T .paired e, T .noted e) (taken w (sym (T .over) ∙ e))

@@ -1,10 +1,10 @@
 -- Level 88 entries as the code reads them: what a whole entry leaves in the buffers.
 use mathlib.Core.Path.{_≡_}
-use mathlib.Core.Bool.{Bool, true, false, cond, _||_}
+use mathlib.Core.Bool.{Bool, true, false, _||_}
 use mathlib.Core.Option.{none}
-use mathlib.Core.List.{List, [], _∷_, _++_, map}
-use Prim.Native.Nat.{ℕ, zero, suc, _+_, _*_, _-_, _≤_, _<_}
-use lib.Dec.{leb, ltb}
+use mathlib.Core.List.{List, [], _∷_, _++_}
+use Prim.Native.Nat.{ℕ, _+_, _*_, _-_, _≤_, _<_}
+use lib.Dec.{ltb}
 use lib.ListN.{length, take, drop, replicate}
 use Rattle.content.specs.declared.Row as Rules
 use Rattle.description.specs.Grammar.{Row, Literal, literalRow, Value, Pair, pairs, literals, literalBytes}
@@ -12,8 +12,8 @@ use Rattle.description.specs.Limits.{ruled, anyBarred}
 use Rattle.description.specs.Reader.{Naming, label, values, labelled, faulty}
 use Rattle.description.specs.Stages.{inked, joined, isLiteral, literalIn}
 use Rattle.value_weights.specs.Weights.{shown}
-use Rattle.name_entries.specs.Taking.{noteNumbers}
-use Rattle.name_entries.specs.declared.Tally.{Tally}
+use Rattle.value_notes.specs.Taking.{noteNumbers}
+use Rattle.value_notes.specs.declared.Tally.{Tally}
 use Rattle.name_entries.specs.declared.NameRead.{NameRead}
 use Rattle.name_entries.specs.declared.NameRead.the-variants.{Whole, Fault}
 use Rattle.tables.specs.Rows.{nameWidth}

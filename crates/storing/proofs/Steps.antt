@@ -1,23 +1,20 @@
 -- A level 88 entry as the code takes it.
-use mathlib.Core.Path.{_≡_, refl, sym, ap, subst, _∙_}
+use mathlib.Core.Path.{_≡_, refl, sym, _∙_}
 use mathlib.Core.Bool.{Bool, true, false, cond, _||_}
-use mathlib.Core.List.{List, [], _∷_, _++_}
-use Prim.Native.Nat.{ℕ, _+_, _*_, _-_, _≤_, _<_}
-use native.Mathlib.Omega.{arith}
+use mathlib.Core.List.{List}
+use Prim.Native.Nat.{ℕ, _+_, _-_, _≤_, _<_}
 use borrow.Author.Tests.{leb-false}
 use lib.Dec.{leb}
-use lib.ListN.{length}
 use Rattle.content.specs.declared.Row as Rules
-use Rattle.description.specs.Reader.{Naming}
 use Rattle.description.specs.Stages.{inked}
 use Rattle.description.proofs.Bytes.{apart}
-use Rattle.name_entries.specs.Taking.{tally}
-use Rattle.name_entries.specs.Named.{Span, Ready, Left, Held, NamedBy, Noted as NotesHold}
-use Rattle.name_entries.specs.declared.Tally.{Tally}
+use Rattle.value_notes.specs.Taking.{tally}
+use Rattle.name_entries.specs.Named.{Span, Ready, NamedBy, Noted as NotesHold}
+use Rattle.value_notes.specs.declared.Tally.{Tally}
 use Rattle.name_entries.specs.declared.NameRead.{NameRead}
 use Rattle.name_entries.specs.declared.NameRead.the-variants.{Whole, Fault}
 use Rattle.noting.specs.Stored.{notedAt}
-use Rattle.storing.specs.Naming.{itemRow, names, startOf, passedBy, NameReady, NameStored, NotStored, Stepped, NameBy}
+use Rattle.storing.specs.Naming.{itemRow, names, startOf, passedBy, NameReady, NameStored, NotStored, NameBy}
 use Rattle.storing.specs.declared.Names.{Names}
 use Rattle.storing.specs.declared.NameStep.the-variants.{Read, Fault as Faulty}
 

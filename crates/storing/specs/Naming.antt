@@ -3,19 +3,19 @@ use mathlib.Core.Path.{_≡_}
 use mathlib.Core.Bool.{Bool, true, false, cond, _||_}
 use mathlib.Core.Option.{Option, none, some}
 use mathlib.Core.List.{List, [], _∷_, _++_, map}
-use Prim.Native.Nat.{ℕ, zero, suc, _+_, _*_, _-_, _≤_, _<_}
+use Prim.Native.Nat.{ℕ, _+_, _*_, _-_, _≤_, _<_}
 use lib.Dec.{leb}
 use lib.ListN.{length, take, drop, set, replicate}
 use lib.Seq.{sets}
 use Rattle.content.specs.declared.Row as Rules
-use Rattle.description.specs.Grammar.{Entry, Value, Condition, condition, NameRow, Pair, nameRows, literals, literalsOf}
+use Rattle.description.specs.Grammar.{Entry, Value, Condition, NameRow, nameRows, literals, literalsOf}
 use Rattle.description.specs.Limits.{nameMarks}
 use Rattle.description.specs.Reader.{Naming, label, labelled, faulty}
 use Rattle.description.specs.Stages.{inked, joined, firstOver, ownRows}
 use Rattle.entries.specs.declared.Noted.{Noted}
-use Rattle.name_entries.specs.Taking.{tally}
+use Rattle.value_notes.specs.Taking.{tally}
 use Rattle.name_entries.specs.Named.{Span, literalsIn, pairNumbers, Held, Spared, Noted as NotesHold}
-use Rattle.name_entries.specs.declared.Tally.{Tally}
+use Rattle.value_notes.specs.declared.Tally.{Tally}
 use Rattle.noting.specs.Stored.{notedAt}
 use Rattle.storing.specs.declared.Names.{Names}
 use Rattle.storing.specs.declared.NameStep.{NameStep}

@@ -4,9 +4,9 @@ use mathlib.Core.Bool.{Bool, true, false}
 use mathlib.Core.List.{List, map}
 use Prim.Native.Nat.{ℕ, _*_, _≤_}
 use lib.ListN.{length, take, drop}
-use Rattle.description.specs.Grammar.{Entry, Condition}
+use Rattle.description.specs.Grammar.{Condition}
 use Rattle.description.specs.Limits.{nameMarks}
-use Rattle.description.specs.Reader.{Parts, parts, tableOf, Reading, read, faulty, readText}
+use Rattle.description.specs.Reader.{Parts, parts, tableOf, Reading, read, faulty}
 use Rattle.description.specs.Stages.{firstOver, ownRows}
 use Rattle.entries.specs.declared.Noted.{Noted}
 use Rattle.entries.specs.Entries.{capNoted, entryOf}

@@ -11,10 +11,10 @@ use crate::NameStep;
 use crate::Names;
 use content::Row;
 use name_entries::NameRead;
-use name_entries::Tally;
 use name_entries::reading::read_name;
 use tables::rows::NAME_WIDTH;
 use text_bytes::blanks::next_ink;
+use value_notes::Tally;
 
 // What entry i tells of its row.
 fn item_row(entries: &[u32], i: usize) -> Row
@@ -91,7 +91,8 @@ fn store_name(
     places[i] = named as u32;
 }
 
-// The level 88 entry at p, of the last of `count` entries. `row` is for its pairs.
+// The level 88 entry at p, of the last of `count` entries. `row` is for its pairs. What is free of it
+// and of `notes` afterwards: `NotStored`.
 pub fn name_step(
     text: &[u8],
     p: usize,

@@ -2,10 +2,7 @@
 use denote.Ref.{now}
 use native.Mathlib.Omega.{arith}
 use borrow.Author.Needs.{needs}
-use lib.ListN.{length-set}
-use Prim.Native.Nat.{_*_, _+_}
-use mathlib.Core.Path.{refl, sym, ap, _∙_}
-use lib.Seq.{length-sets}
+use mathlib.Core.Path.{sym, ap, _∙_}
 use Prim.Native.Nat.{ℕ}
 use lib.ListN.{replicate}
 use Rattle.description.specs.Grammar.{bytes}

@@ -2,15 +2,12 @@
 use denote.Ref.{now}
 use native.Mathlib.Omega.{arith}
 use borrow.Author.Needs.{needs}
-use lib.ListN.{length-set}
-use Prim.Native.Nat.{_*_, _+_}
-use mathlib.Core.Path.{refl, sym, ap, _∙_}
-use lib.Seq.{length-sets}
+use mathlib.Core.Path.{sym, ap, _∙_}
 use mathlib.Core.Path.{subst}
 use Prim.Native.Nat.{_-_}
 use lib.ListN.{length}
-use Rattle.name_entries.specs.Taking.{Small}
-use Rattle.name_entries.proofs.Taken.{same-weight}
+use Rattle.value_notes.specs.Taking.{Small}
+use Rattle.value_notes.proofs.Taken.{same-weight}
 use Rattle.name_entries.proofs.Holding.{small-weighed}
 use Rattle.name_entries.proofs.Going.{Going, going-first, stands, stands-ended, rooms, going-more, going-ended, going-fault}
 use Rattle.name_entries.proofs.reading.read_values.Statement.{statement}

@@ -1,9 +1,8 @@
 -- `name_step` meets its contract: from the laws of proofs/ and what its callees ensure. Assumes nothing.
 use denote.Ref.{now}
 use native.Mathlib.Omega.{arith}
-use lib.ListN.{length, length-set}
-use Prim.Native.Nat.{_*_, _+_, _-_}
-use mathlib.Core.Path.{refl, sym, ap, _∙_}
+use Prim.Native.Nat.{_+_, _-_}
+use mathlib.Core.Path.{refl, _∙_}
 use Rattle.text_bytes.proofs.Laws.{inked-le}
 use Rattle.storing.proofs.Steps.{ready, below, named-step, named-over, named-fault}
 use borrow.Author.Needs.{needs}

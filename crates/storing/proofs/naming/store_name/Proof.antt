@@ -1,10 +1,8 @@
 -- `store_name` meets its contract: from the laws of proofs/ and what its callees ensure. Assumes nothing.
 use Rattle.storing.proofs.Rows.{two-first}
 use denote.Ref.{now}
-use native.Mathlib.Omega.{arith}
-use lib.ListN.{length, length-set}
-use Prim.Native.Nat.{_*_, _+_, _-_}
-use mathlib.Core.Path.{refl, sym, ap, _∙_}
+use Prim.Native.Nat.{_-_}
+use mathlib.Core.Path.{refl}
 use borrow.Author.Needs.{needs}
 use Rattle.storing.proofs.naming.store_name.Statement.{statement}
 use Rattle.storing.proofs.naming.store_name.Tie as tie

@@ -1,16 +1,10 @@
 -- `take_value` meets its contract: from the laws of proofs/ and what its callees ensure. Assumes nothing.
-use Rattle.name_entries.proofs.Taken.{barred-over, same-weight}
-use denote.Ref.{now}
-use native.Mathlib.Omega.{arith}
-use lib.ListN.{length-set}
-use Prim.Native.Nat.{_*_, _+_}
-use mathlib.Core.Path.{refl, sym, ap, _∙_}
-use lib.Seq.{length-sets}
+use Rattle.value_notes.proofs.Taken.{barred-over, same-weight}
 use mathlib.Core.Path.{subst}
-use Rattle.name_entries.specs.Taking.{Small}
+use Rattle.value_notes.specs.Taking.{Small}
 use borrow.Author.Needs.{needs}
-use Rattle.name_entries.proofs.taking.take_value.Statement.{statement}
-use Rattle.name_entries.proofs.taking.take_value.Tie as tie
+use Rattle.value_notes.proofs.taking.take_value.Statement.{statement}
+use Rattle.value_notes.proofs.taking.take_value.Tie as tie
 
 enum-told : tie.Need-enum-told
 enum-told c = search needs

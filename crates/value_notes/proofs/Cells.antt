@@ -1,13 +1,13 @@
 -- Numbers set one after another.
 use mathlib.Core.Path.{_≡_, refl, sym, ap, _∙_}
 use mathlib.Core.List.{List, [], _∷_, _++_, append-nil}
-use Prim.Native.Nat.{ℕ, zero, suc, _+_, _*_, _-_, _≤_, _<_}
+use Prim.Native.Nat.{ℕ, suc, _+_, _-_, _≤_, _<_}
 use native.Mathlib.Omega.{arith}
 use native.Mathlib.Numerals.{add-one}
 use lib.ListN.{length, take, drop, set, replicate, length-replicate, length-append, length-drop, replicate-append-replicate, drop-of-length-le}
 use lib.Seq.{sets, drop-cons, drop-drop, set-at, append-snoc, take-set-le, drop-set-lt}
 use Rattle.content.specs.declared.Row as Rules
-use Rattle.name_entries.specs.Taking.{noteNumbers}
+use Rattle.value_notes.specs.Taking.{noteNumbers}
 
 pub two-set : (l : List ℕ) (a x y : ℕ) → set (set l a x) (a + 1) y ≡ sets l a (x ∷ y ∷ [])
 two-set l a x y = let b : a + 1 ≡ suc a = omega arith in rw b
