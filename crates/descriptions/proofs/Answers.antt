@@ -25,13 +25,14 @@ use Rattle.storing.specs.declared.Names.{Names}
 use Rattle.noting.specs.Stored.{notedFrom}
 use Rattle.storing.specs.Naming.{limitOf, Stores}
 use Rattle.storing.specs.Reads.{readingOf, ReadBy}
+use Rattle.storing.proofs.Stored.{all-stored}
 use Rattle.layouts.specs.declared.Laid.{Laid}
 use Rattle.layouts.specs.declared.Laid.the-variants.{Over, Fine}
 use Rattle.layouts.specs.Layouts.{firstOver, entriesIn, rowNumbers, overPlace, LaidOut}
 use Rattle.layouts.proofs.Laying.{all-laid}
 use Rattle.layouts.proofs.Capping.{first-caps, rows-same, first-marks}
-use Rattle.name_entries.specs.Taking.{tally}
-use Rattle.name_entries.specs.declared.Tally.{Tally}
+use Rattle.value_notes.specs.Taking.{tally}
+use Rattle.value_notes.specs.declared.Tally.{Tally}
 use Rattle.outputs.specs.Noted.{namedOf, rowsFrom, bytesFrom}
 use Rattle.outputs.proofs.Copying.{named-length, rows-length}
 use Rattle.outputs.proofs.Noting.{rows-noted, bytes-noted, words-noted}
@@ -62,7 +63,7 @@ module _ (text flat named spots notes : List ℕ) (r : Found) where
         reading = rw (leb-so l) (R .reading);
         few = R .few;
         smallest = smallest-of text (r .whole) (map entryOf (R .exact)) (R .conditions) (r .place) (r .names) (R .reading) (R .limit);
-        stores = R .stores;
+        stores = λ w o. all-stored (R .all o) (R .stores);
       }
 
   module _ (l : 4096 < length text) (R : ReadBy (take 4096 text) (readText (take 4096 text)) flat named spots notes r) where

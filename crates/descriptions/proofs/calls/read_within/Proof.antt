@@ -51,7 +51,7 @@ returns c =
     let at-readable = at-read-entries .before .before .before .before .before .before .before .before in
     let start = at-readable .before .before .before .before .before .before in
     within-whole (now (start .args .text)) _ _ _ _ (at-read-entries .read-entries .result) (at-readable .readable .ensures)
-    (at-read-entries .read-entries .ensures) (c .if1 .taken)
+    (at-read-entries .read-entries .ensures .0) (c .if1 .taken)
 
 same-length-5 : tie.Need-same-length-5
 same-length-5 c = c .before .before .before .before .before .before .before .before .before .before .before .before .before .read-entries .kept .1 .0
@@ -71,7 +71,7 @@ returns-2 c =
     let at-readable = at-read-entries .before .before .before .before .before .before .before .before in
     let start = at-readable .before .before .before .before .before .before in
     within-rest (now (start .args .text)) _ _ _ _ (at-read-entries .read-entries .result) (at-readable .readable .ensures)
-    (at-read-entries .read-entries .ensures) (c .if1 .left)
+    (at-read-entries .read-entries .ensures .0) (c .if1 .left)
 
 pub read-within-spec : {M : Type 1} → statement M
 read-within-spec =

@@ -5,7 +5,7 @@ ghost use mathlib.Core.List.{[], _∷_};
 ghost use Prim.Native.Nat.{_+_, _*_, _<_, _≤_};
 ghost use lib.ListN.{length, replicate};
 ghost use lib.Seq.{sets};
-ghost use Rattle.name_entries.specs.Taking.{noteNumbers};
+ghost use Rattle.value_notes.specs.Taking.{noteNumbers};
 use content::Row;
 
 pub(crate) fn put_literal(notes: &mut [u32], i: usize, row: Row, offset: usize, p: usize, e: usize)
@@ -32,7 +32,7 @@ pub(crate) fn put_pair(row: &mut [u32], i: usize, low: usize, high: usize)
 }
 
 // A row of zeros.
-pub(crate) fn clear(row: &mut [u32])
+pub fn clear(row: &mut [u32])
     ensures { λ _. ⌜ now (row .exit) ≡ replicate (length (now (row .entry))) 0 ⌝ }
 {
     let mut i: usize = 0;

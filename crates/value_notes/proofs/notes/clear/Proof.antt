@@ -1,14 +1,13 @@
 -- `clear` meets its contract: from the laws of proofs/ and what its callees ensure. Assumes nothing.
-use denote.Ref.{now}
 use native.Mathlib.Omega.{arith}
 use borrow.Author.Needs.{needs}
 use lib.ListN.{length-set}
 use Prim.Native.Nat.{_-_}
 use mathlib.Core.Path.{refl}
 use lib.ListN.{length}
-use Rattle.name_entries.proofs.Cells.{Cleared, cleared-long, cleared-more, cleared-all}
-use Rattle.name_entries.proofs.notes.clear.Statement.{statement}
-use Rattle.name_entries.proofs.notes.clear.Tie as tie
+use Rattle.value_notes.proofs.Cells.{Cleared, cleared-long, cleared-more, cleared-all}
+use Rattle.value_notes.proofs.notes.clear.Statement.{statement}
+use Rattle.value_notes.proofs.notes.clear.Tie as tie
 
 abbrev Inv-loop : tie.InvT-loop
 Inv-loop row₀ i₀ row i = Cleared row₀ i row

@@ -1,19 +1,17 @@
 -- Values of level 88 entries as the code stores them.
 use mathlib.Core.Path.{_≡_}
-use mathlib.Core.Bool.{Bool, true, false, cond, _||_}
-use mathlib.Core.List.{List, [], _∷_, _++_, map}
-use Prim.Native.Nat.{ℕ, zero, suc, _+_, _*_, _-_, _≤_, _<_}
-use lib.Dec.{eqb, leb, ltb}
-use lib.ListN.{length, getD, take, drop, replicate}
+use mathlib.Core.Bool.{Bool, true, false, _||_}
+use mathlib.Core.List.{List, [], _∷_}
+use Prim.Native.Nat.{ℕ, _+_, _*_, _≤_}
+use lib.Dec.{leb, ltb}
+use lib.ListN.{length}
 use lib.Seq.{sets}
 use Rattle.content.specs.declared.Row as Rules
-use Rattle.description.specs.Grammar.{Row, Literal, literal, literalRow, Value, Pair, pairs, literals, literalBytes}
-use Rattle.description.specs.Limits.{ruled, anyBarred}
-use Rattle.description.specs.Stages.{literalIn}
+use Rattle.description.specs.Grammar.{Row, literal, literals}
 use Rattle.condition_names.specs.declared.Found.{Found}
 use Rattle.value_weights.specs.declared.Weighed.{Weighed}
 use Rattle.value_weights.specs.declared.Weighed.the-variants.{Barred, Single, Range}
-use Rattle.name_entries.specs.declared.Tally.{Tally}
+use Rattle.value_notes.specs.declared.Tally.{Tally}
 use Rattle.tables.specs.Rows.{nameWidth}
 
 abbrev pub noteNumbers : Rules.Row → ℕ → ℕ → ℕ → List ℕ
@@ -68,6 +66,7 @@ pub record Takes (w : Weighed) (f : Found) (t : Tally) (row notes : List ℕ) (r
   pub tallied : r .over ≡ false → r ≡ tallyAfter w t
   pub paired : r .over ≡ false → rowLeft ≡ rowAfter w t row
   pub noted : r .over ≡ false → notesLeft ≡ notesAfter w f t notes
+  pub passed : r .over ≡ true → (r ≡ tally true (t .values) (t .literals) (t .bytes)) × (rowLeft ≡ row) × (notesLeft ≡ notes)
 
 -- no literal has more than 256 bytes
 abbrev pub Small : Weighed → Type 0

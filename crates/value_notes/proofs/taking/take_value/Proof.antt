@@ -1,19 +1,10 @@
 -- `take_value` meets its contract: from the laws of proofs/ and what its callees ensure. Assumes nothing.
+use Rattle.value_notes.proofs.Taken.{barred-over, same-weight}
 use mathlib.Core.Path.{subst}
-use Rattle.name_entries.proofs.Taken.{barred-over, same-weight}
--- `take_value` meets its contract: from the laws of proofs/ and what its callees ensure. Assumes nothing.
-use denote.Ref.{now}
-use native.Mathlib.Omega.{arith}
-use lib.ListN.{length-set}
-use Prim.Native.Nat.{_*_, _+_}
-use mathlib.Core.Path.{refl, sym, ap, _∙_}
-use lib.Seq.{length-sets}
-use mathlib.Core.Path.{subst, subst⁻¹}
-use Rattle.name_entries.specs.Taking.{Small, Takes}
-use Rattle.name_entries.proofs.Taken.{barred-over}
+use Rattle.value_notes.specs.Taking.{Small}
 use borrow.Author.Needs.{needs}
-use Rattle.name_entries.proofs.taking.take_value.Statement.{statement}
-use Rattle.name_entries.proofs.taking.take_value.Tie as tie
+use Rattle.value_notes.proofs.taking.take_value.Statement.{statement}
+use Rattle.value_notes.proofs.taking.take_value.Tie as tie
 
 enum-told : tie.Need-enum-told
 enum-told c = search needs
@@ -42,7 +33,7 @@ take-range-requires c κs =
 returns : tie.Need-returns
 returns c =
     let p5 = c .before .before .before .before .before in
-    same-weight (c .before .enum-told .given .1) (barred-over (p5 .args .found) (p5 .args .tally) _ _ _ _ (c .passed .result) (c .passed .ensures))
+    same-weight (c .before .enum-told .given .1) (barred-over (p5 .args .found) (p5 .args .tally) _ _ (c .passed .result) (c .passed .ensures))
 
 same-length : tie.Need-same-length
 same-length c = search needs

@@ -3,10 +3,10 @@ use denote.Ref.{now}
 use native.Mathlib.Omega.{arith}
 use lib.ListN.{length-set}
 use Prim.Native.Nat.{_*_, _+_}
-use Rattle.name_entries.proofs.Cells.{two-set}
+use Rattle.value_notes.proofs.Cells.{two-set}
 use borrow.Author.Needs.{needs}
-use Rattle.name_entries.proofs.notes.put_pair.Statement.{statement}
-use Rattle.name_entries.proofs.notes.put_pair.Tie as tie
+use Rattle.value_notes.proofs.notes.put_pair.Statement.{statement}
+use Rattle.value_notes.proofs.notes.put_pair.Tie as tie
 
 mul-at : tie.Need-mul-at
 mul-at c = search needs

@@ -1,12 +1,9 @@
 // Values, judged and stored, until a limit is passed.
 ghost use mathlib.Core.Path.{_≡_};
 ghost use mathlib.Core.Bool.{true};
-ghost use mathlib.Core.List.{List};
-ghost use Prim.Native.Nat.{ℕ, _≤_};
-ghost use lib.ListN.{length};
-ghost use Rattle.description.specs.Grammar.{Value, Row};
+ghost use Prim.Native.Nat.{_≤_};
 ghost use Rattle.value_weights.specs.declared.Weighed.the-variants as Weighed;
-ghost use Rattle.name_entries.specs.Taking.{Rooms, Small, Takes};
+ghost use Rattle.value_notes.specs.Taking.{Rooms, Small, Takes};
 use crate::Tally;
 use crate::notes::put_literal;
 use crate::notes::put_pair;
@@ -15,7 +12,7 @@ use content::Row;
 use value_weights::Weighed;
 
 fn passed(tally: Tally) -> Tally
-    ensures { λ r. ⌜ r .over ≡ true ⌝ }
+    ensures { λ r. ⌜ r ≡ record { over = true; values = tally .values; literals = tally .literals; bytes = tally .bytes } ⌝ }
 {
     Tally {
         over: true,
@@ -76,7 +73,8 @@ fn take_range(
     }
 }
 
-pub(crate) fn take_value(
+// A value, and the buffers: `row` for its pair, `notes` for its literals.
+pub fn take_value(
     weighed: Weighed,
     found: Found,
     tally: Tally,

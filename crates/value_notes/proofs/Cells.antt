@@ -1,13 +1,13 @@
 -- Numbers set one after another.
 use mathlib.Core.Path.{_≡_, refl, sym, ap, _∙_}
 use mathlib.Core.List.{List, [], _∷_, _++_, append-nil}
-use Prim.Native.Nat.{ℕ, zero, suc, _+_, _*_, _≤_, _<_}
+use Prim.Native.Nat.{ℕ, suc, _+_, _-_, _≤_, _<_}
 use native.Mathlib.Omega.{arith}
 use native.Mathlib.Numerals.{add-one}
-use lib.ListN.{length, drop, set, replicate, length-replicate, length-append, length-drop, replicate-append-replicate, drop-of-length-le}
-use lib.Seq.{sets, drop-cons, set-at, append-snoc}
+use lib.ListN.{length, take, drop, set, replicate, length-replicate, length-append, length-drop, replicate-append-replicate, drop-of-length-le}
+use lib.Seq.{sets, drop-cons, drop-drop, set-at, append-snoc, take-set-le, drop-set-lt}
 use Rattle.content.specs.declared.Row as Rules
-use Rattle.name_entries.specs.Taking.{noteNumbers}
+use Rattle.value_notes.specs.Taking.{noteNumbers}
 
 pub two-set : (l : List ℕ) (a x y : ℕ) → set (set l a x) (a + 1) y ≡ sets l a (x ∷ y ∷ [])
 two-set l a x y = let b : a + 1 ≡ suc a = omega arith in rw b
@@ -23,6 +23,20 @@ seven-set l a o p e r =
     let g : a + 5 ≡ suc (suc (suc (suc (suc a)))) = omega arith in
     let h : a + 6 ≡ suc (suc (suc (suc (suc (suc a))))) = omega arith in
     rw (b, c, d, f, g, h)
+
+-- Those before and after them stay.
+pub sets-before : (vs l : List ℕ) (i n : ℕ) → n ≤ i → take n (sets l i vs) ≡ take n l
+sets-before [] l i n h = refl
+sets-before (v ∷ vs) l i n h = sets-before vs (set l i v) (suc i) n (omega arith) ∙ take-set-le n l i v h
+
+pub sets-after : (vs l : List ℕ) (i n : ℕ) → i + length vs ≤ n → drop n (sets l i vs) ≡ drop n l
+sets-after [] l i n h = refl
+sets-after (v ∷ vs) l i n h = sets-after vs (set l i v) (suc i) n (omega arith) ∙ drop-set-lt n l i v (omega arith)
+
+pub drop-further : (l m : List ℕ) (i j : ℕ) → i ≤ j → drop i l ≡ drop i m → drop j l ≡ drop j m
+drop-further l m i j h e =
+    let z : i + (j - i) ≡ j = omega arith in
+    rw z at (sym (drop-drop (j - i) i l) ∙ ap (drop (j - i)) e ∙ drop-drop (j - i) i m)
 
 -- the first i are 0
 pub record Cleared (before : List ℕ) (i : ℕ) (now : List ℕ) : Type 0 where
