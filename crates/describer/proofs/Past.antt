@@ -10,7 +10,8 @@ use Rattle.description.specs.Grammar.{Value}
 use Rattle.description.specs.Stages.{inked}
 use Rattle.description.proofs.Bytes.{apart}
 use Rattle.entries.specs.declared.Noted.{Noted}
-use Rattle.value_notes.proofs.Cells.{sets-after, drop-further}
+use Rattle.tables.proofs.Front.{later-rest}
+use Rattle.value_notes.proofs.Cells.{sets-after}
 use Rattle.noting.specs.Stored.{numbersOf, pushed}
 use Rattle.storing.specs.Naming.{names, NotStored, Stepped}
 use Rattle.storing.specs.Reads.{Beyond}
@@ -37,7 +38,7 @@ module _ {count : ℕ} {s : Names} {flat₀ stack₀ rows₀ places₀ notes₀ 
       Beyond (found (count + 1) true 0 s) flat₀ stack₀ rows₀ places₀ notes₀ (sets flat (count * 7) (numbersOf x)) (pushed stack n (x .level)) rows places notes row
   beyond-item x n l =
       record {
-        entries = sets-after (numbersOf x) flat (count * 7) ((count + 1) * 7) (omega arith) ∙ drop-further flat flat₀ (count * 7) ((count + 1) * 7) (omega arith) (B .entries);
+        entries = sets-after (numbersOf x) flat (count * 7) ((count + 1) * 7) (omega arith) ∙ later-rest flat flat₀ (count * 7) ((count + 1) * 7) (omega arith) (B .entries);
         groups = by n l;
         names = B .names;
         placed = B .placed;
@@ -47,8 +48,8 @@ module _ {count : ℕ} {s : Names} {flat₀ stack₀ rows₀ places₀ notes₀ 
       }
     where
       by : (n : ℕ) → n ≤ count + 1 → drop (count + 1) (pushed stack n (x .level)) ≡ drop (count + 1) stack₀
-      by zero l = drop-further stack stack₀ count (count + 1) (omega arith) (B .groups)
-      by (suc n) l = drop-set-lt (count + 1) stack n (x .level) (omega arith) ∙ drop-further stack stack₀ count (count + 1) (omega arith) (B .groups)
+      by zero l = later-rest stack stack₀ count (count + 1) (omega arith) (B .groups)
+      by (suc n) l = drop-set-lt (count + 1) stack n (x .level) (omega arith) ∙ later-rest stack stack₀ count (count + 1) (omega arith) (B .groups)
 
   module _ {rows′ places′ notes′ row′ : List ℕ} where
     -- a name that is not stored
@@ -84,11 +85,11 @@ module _ {count : ℕ} {s : Names} {flat₀ stack₀ rows₀ places₀ notes₀ 
                 entries = B .entries;
                 groups = B .groups;
                 names = rw (n .stored) (sets-after row′ rows (s .count * 18) ((s .count + 1) * 18) (omega (arith, l))
-                    ∙ drop-further rows rows₀ (s .count * 18) ((s .count + 1) * 18) (omega arith) (B .names));
+                    ∙ later-rest rows rows₀ (s .count * 18) ((s .count + 1) * 18) (omega arith) (B .names));
                 placed = rw (n .placed) (drop-set-lt (s .count + 1) places (s .count) (inked text (p + 2)) (omega arith)
-                    ∙ drop-further places places₀ (s .count) (s .count + 1) (omega arith) (B .placed));
-                noted = drop-further notes′ notes (t .tallied .literals * 7) 448 (omega (arith, k .2)) (t .beyond o) ∙ B .noted;
-                literals = λ _ _. t .beyond o ∙ drop-further notes notes₀ (s .literals * 7) (t .tallied .literals * 7) (omega (arith, k .1)) (B .literals refl (k .0));
+                    ∙ later-rest places places₀ (s .count) (s .count + 1) (omega arith) (B .placed));
+                noted = later-rest notes′ notes (t .tallied .literals * 7) 448 (omega (arith, k .2)) (t .beyond o) ∙ B .noted;
+                literals = λ _ _. t .beyond o ∙ later-rest notes notes₀ (s .literals * 7) (t .tallied .literals * 7) (omega (arith, k .1)) (B .literals refl (k .0));
                 row = l;
               }
 

@@ -26,7 +26,7 @@ use Rattle.lexer.specs.declared.Stepped.the-variants.{On, End, Fault}
 use Rattle.lexer.specs.declared.Lexed.{Lexed}
 use Rattle.lexer.specs.declared.Lexed.the-variants.{Whole, Fault as LexedFault}
 use Rattle.lexer.specs.Gathers.{left, leftPieces, Rooms, totalOf, bookIn, Gathers, Bounds, Beyond, Grows, Steps, earlyBy, Holds, Lexes}
-use Rattle.lexer.proofs.Writing.{later-rest}
+use Rattle.tables.proofs.Front.{later-rest}
 
 -- no word stands before the place where the words were looked for
 abbrev AllFrom : ℕ → List Word → Type 0

@@ -5,7 +5,7 @@ use Prim.Native.Nat.{ℕ, suc, _+_, _-_, _*_, _≤_, _<_}
 use native.Mathlib.Omega.{arith}
 use borrow.Rule.Slice.PartMut.{putMid}
 use lib.ListN.{length, take, drop, set, length-append, length-take, length-drop, take-append-drop}
-use lib.Seq.{sets-eq, length-take-le, take-at, drop-at, drop-drop}
+use lib.Seq.{sets-eq, length-take-le, take-at, drop-at}
 use Rattle.tables.proofs.Front.{Front, front-part}
 use Rattle.literal_bytes.specs.Written.{writtenOver}
 use Rattle.lexer.specs.Gathers.{overAt}
@@ -39,12 +39,6 @@ over-rest at new old h =
     let rest : List ℕ = drop (at + length new) old in
     let n : length (take at old ++ new) ≡ at + length new = omega (arith, length-append (take at old) new, length-take-le at old h) in
     ap (drop (at + length new)) (sym (append-assoc (take at old) new rest)) ∙ drop-at (take at old ++ new) rest (at + length new) n
-
-pub later-rest : (l m : List ℕ) (a b : ℕ) → a ≤ b → drop a l ≡ drop a m → drop b l ≡ drop b m
-later-rest l m a b le h =
-    let k = b - a in
-    let e : a + k ≡ b = omega arith in
-    ap (λ n. drop n l) (sym e) ∙ sym (drop-drop k a l) ∙ ap (drop k) h ∙ drop-drop k a m ∙ ap (λ n. drop n m) e
 
 pub rest-length : (b : ℕ) (bytes : List ℕ) → length (take (length bytes - b) (drop b bytes)) ≡ length bytes - b
 rest-length b bytes = omega (arith, length-take (length bytes - b) (drop b bytes), length-drop b bytes)

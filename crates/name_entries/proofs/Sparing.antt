@@ -14,7 +14,8 @@ use Rattle.value_notes.specs.Taking.{noteNumbers, full, notesAfter, rowAfter, t
 use Rattle.name_entries.specs.Named.{Spared}
 use Rattle.value_notes.specs.declared.Tally.{Tally}
 use Rattle.value_notes.proofs.Taken.{room-of}
-use Rattle.value_notes.proofs.Cells.{sets-before, sets-after, drop-further}
+use Rattle.tables.proofs.Front.{later-rest}
+use Rattle.value_notes.proofs.Cells.{sets-before, sets-after}
 
 -- notes from the k-th literal to the m-th are new
 pub record Fresh (k m : ℕ) (before now : List ℕ) : Type 0 where
@@ -29,7 +30,7 @@ fresh-one {k} {m} {before} {now} f ns s =
       up = omega (arith, f .up);
       long = length-sets now (m * 7) ns ∙ f .long;
       counted = sets-before ns now (m * 7) (k * 7) (omega (arith, f .up)) ∙ f .counted;
-      beyond = sets-after ns now (m * 7) ((m + 1) * 7) (omega (arith, s)) ∙ drop-further now before (m * 7) ((m + 1) * 7) (omega arith) (f .beyond);
+      beyond = sets-after ns now (m * 7) ((m + 1) * 7) (omega (arith, s)) ∙ later-rest now before (m * 7) ((m + 1) * 7) (omega arith) (f .beyond);
     }
 
 -- What is left after some values, the tally of which is t.
@@ -52,7 +53,7 @@ module _ {k : ℕ} {before : List ℕ} {t : Tally} {row notes : List ℕ} (R : R
         unnamed = sets-before ps row (n + 2) 2 (omega arith) ∙ R .spared .unnamed;
         long = f .long;
         counted = f .counted;
-        beyond = drop-further now before (m * 7) 448 (omega arith) (f .beyond);
+        beyond = later-rest now before (m * 7) 448 (omega arith) (f .beyond);
       }
 
   module _ {w : Weighed} {f : Found} {r : Tally} {row-after notes-after : List ℕ} (T : Takes w f t row notes r row-after notes-after) where

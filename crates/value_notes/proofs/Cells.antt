@@ -5,7 +5,7 @@ use Prim.Native.Nat.{ℕ, suc, _+_, _-_, _≤_, _<_}
 use native.Mathlib.Omega.{arith}
 use native.Mathlib.Numerals.{add-one}
 use lib.ListN.{length, take, drop, set, replicate, length-replicate, length-append, length-drop, replicate-append-replicate, drop-of-length-le}
-use lib.Seq.{sets, drop-cons, drop-drop, set-at, append-snoc, take-set-le, drop-set-lt}
+use lib.Seq.{sets, drop-cons, set-at, append-snoc, take-set-le, drop-set-lt}
 use Rattle.content.specs.declared.Row as Rules
 use Rattle.value_notes.specs.Taking.{noteNumbers}
 
@@ -32,11 +32,6 @@ sets-before (v ∷ vs) l i n h = sets-before vs (set l i v) (suc i) n (omega ari
 pub sets-after : (vs l : List ℕ) (i n : ℕ) → i + length vs ≤ n → drop n (sets l i vs) ≡ drop n l
 sets-after [] l i n h = refl
 sets-after (v ∷ vs) l i n h = sets-after vs (set l i v) (suc i) n (omega arith) ∙ drop-set-lt n l i v (omega arith)
-
-pub drop-further : (l m : List ℕ) (i j : ℕ) → i ≤ j → drop i l ≡ drop i m → drop j l ≡ drop j m
-drop-further l m i j h e =
-    let z : i + (j - i) ≡ j = omega arith in
-    rw z at (sym (drop-drop (j - i) i l) ∙ ap (drop (j - i)) e ∙ drop-drop (j - i) i m)
 
 -- the first i are 0
 pub record Cleared (before : List ℕ) (i : ℕ) (now : List ℕ) : Type 0 where
