@@ -11,7 +11,6 @@ use Rattle.tables.specs.Operands.{lendNames}
 use Rattle.tables.proofs.Tests.{both}
 use Rattle.block_truths.proofs.Firsts.{first-within, first-readable}
 use Rattle.blocks.proofs.Judging.{once}
-use borrow.Author.Needs.{needs}
 use Rattle.blocks.proofs.rows.judge_row.Statement.{statement}
 use Rattle.blocks.proofs.rows.judge_row.Tie as tie
 
@@ -19,10 +18,10 @@ add-first : tie.Need-add-first
 add-first c = omega (arith, first-within (c .before .before .before .before .before .before .before .before .pre .0))
 
 sub-first : tie.Need-sub-first
-sub-first c = search needs
+sub-first c = omega arith
 
 part-first-start : tie.Need-part-first-start
-part-first-start c = search needs
+part-first-start c = omega arith
 
 part-first-end : tie.Need-part-first-end
 part-first-end c = omega (arith, first-within (c .before .before .before .before .before .before .before .before .pre .0))
@@ -31,10 +30,10 @@ judge-record-requires : tie.Need-judge-record-requires
 judge-record-requires c κs = first-readable (c .before .before .before .before .before .before .before .before .before .pre .0)
 
 fill-requires : tie.Need-fill-requires
-fill-requires c κs = search needs
+fill-requires c κs = c .before .before .before .before .before .before .before .before .before .before .before .pre .1 .1
 
 same-length : tie.Need-same-length
-same-length c = search needs
+same-length c = c .before .before .fill .kept .0
 
 returns : tie.Need-returns
 returns c =
@@ -46,10 +45,10 @@ returns c =
     (c .before .before .before .before .judge-record .ensures) (c .before .before .fill .ensures)
 
 judge-columns-requires : tie.Need-judge-columns-requires
-judge-columns-requires c κs = search needs
+judge-columns-requires c κs = let start = c .before .before .before .before .before .before .before .before .before in (start .pre .0, start .pre .1 .1)
 
 same-length-2 : tie.Need-same-length-2
-same-length-2 c = search needs
+same-length-2 c = c .before .before .before .judge-columns .kept .1 .1 .1 .1 .1 .1 .1 .1 .0
 
 returns-2 : tie.Need-returns-2
 returns-2 c = λ j l _. c .before .before .before .judge-columns .ensures .0 (c .if2 .taken) .told j l
@@ -60,7 +59,9 @@ judge-fields-requires c κs =
     (start .pre .0, start .pre .1 .0, c .before .before .before .before .judge-columns .kept .1 .1 .1 .1 .1 .1 .1 .1 .0 ∙ start .pre .1 .1)
 
 same-length-3 : tie.Need-same-length-3
-same-length-3 c = search needs
+same-length-3 c =
+    let fields = c .before .before .before in
+    fields .judge-fields .kept .1 .1 .1 .1 .1 .1 .1 .1 .1 .1 .0 ∙ fields .before .before .before .before .before .judge-columns .kept .1 .1 .1 .1 .1 .1 .1 .1 .0
 
 returns-3 : tie.Need-returns-3
 returns-3 c = λ j l e. c .before .before .before .judge-fields .ensures .0 (c .if3 .taken) .told j l .here e
@@ -74,7 +75,10 @@ judge-each-requires c κs =
     (start .pre .0, (start .pre .1 .0, kept ∙ start .pre .1 .1))
 
 same-length-4 : tie.Need-same-length-4
-same-length-4 c = search needs
+same-length-4 c =
+    let each = c .before .before in
+    let fields = each .before .before .before .before .before in
+    each .judge-each .kept .1 .1 .1 .1 .1 .1 .1 .1 .1 .1 .0 ∙ fields .judge-fields .kept .1 .1 .1 .1 .1 .1 .1 .1 .1 .1 .0 ∙ fields .before .before .before .before .before .judge-columns .kept .1 .1 .1 .1 .1 .1 .1 .1 .0
 
 returns-4 : tie.Need-returns-4
 returns-4 c = λ j l e. c .before .before .judge-each .ensures .told j l .here e
