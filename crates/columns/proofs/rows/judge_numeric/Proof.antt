@@ -75,11 +75,11 @@ returns-2 c =
     let s = entry e in
     let row = e .before .before .before in
     judged (sym (rw (fits e, item e))) refl (
-      retold (rw (bits .bits-of .ensures, row .row-of .ensures) at (c .before .before .test-field .ensures))
-      (λ k _ v h. numeric-right (lent s) (now (s .args .records)) (s .args .block .from) (s .args .block .size) (s .args .switches) (s .args .condition)
-      (bytes-of (now (s .args .records)) (λ i. row .before .before .shared-slice-known5 .given i .fits))
-      (bytes-of (now (s .args .bytes)) (λ i. row .before .before .before .before .shared-slice-known3 .given i .fits)) k (s .pre .1) (fits e) (item e)
-      (item-inside (s .pre .0 .0) (subject s) (item e)) h)
+    retold (rw (bits .bits-of .ensures, row .row-of .ensures) at (c .before .before .test-field .ensures))
+    (λ k _ v h. numeric-right (lent s) (now (s .args .records)) (s .args .block .from) (s .args .block .size) (s .args .switches) (s .args .condition)
+    (bytes-of (now (s .args .records)) (λ i. row .before .before .shared-slice-known5 .given i .fits))
+    (bytes-of (now (s .args .bytes)) (λ i. row .before .before .before .before .shared-slice-known3 .given i .fits)) k (s .pre .1) (fits e) (item e)
+    (item-inside (s .pre .0 .0) (subject s) (item e)) h)
     )
 
 pub judge-numeric-spec : {M : Type 1} → statement M

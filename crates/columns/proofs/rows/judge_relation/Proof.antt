@@ -113,11 +113,11 @@ returns-2 c =
     let i = sym (c .before .before .before .before .before .before .before .is-item .ensures) ∙ c .before .before .before .before .before .before .if2 .taken in
     let j = sym (c .before .before .before .before .before .is-item2 .ensures) ∙ c .before .before .before .before .if3 .taken in
     judged (sym (by-sides (worded e) ∙ rw (i, j))) refl (
-      items-judged (s .pre .0 .0) (s .pre .1) digitWord (digitsIn 8) (s .args .switches)
-      (λ k _. by-words (lent s) (now (s .args .records)) (s .args .block .from) (s .args .block .size) (s .args .switches) (s .args .condition) (in-file e .0) (in-file e .1) k
-      (s .pre .1) (worded e)) i j
-      (rw (rows .before .row-of .ensures, rows .row-of2 .ensures, c .before .before .before .before .before .before .before .before .asked-of .ensures) at
-      (c .before .before .relate-fields .ensures))
+    items-judged (s .pre .0 .0) (s .pre .1) digitWord (digitsIn 8) (s .args .switches)
+    (λ k _. by-words (lent s) (now (s .args .records)) (s .args .block .from) (s .args .block .size) (s .args .switches) (s .args .condition) (in-file e .0) (in-file e .1) k
+    (s .pre .1) (worded e)) i j
+    (rw (rows .before .row-of .ensures, rows .row-of2 .ensures, c .before .before .before .before .before .before .before .before .asked-of .ensures) at
+    (c .before .before .relate-fields .ensures))
     )
 
 relate-literal-requires : tie.Need-relate-literal-requires

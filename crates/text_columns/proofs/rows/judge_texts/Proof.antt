@@ -110,14 +110,14 @@ returns-2 c =
     let i = sym (c8 .is-item .ensures) ∙ c5 .before .before .if2 .taken in
     let j = sym (c5 .before .is-item2 .ensures) ∙ c5 .if3 .taken in
     judged (sym (by-both (texts e) ∙ rw i)) refl (
-      items-judged (s .pre .0 .0) (s .pre .1) (textWord (longer (lent s) (s .args .condition))) (λ _. true) (s .args .switches)
-      (λ k l _ _. by-texts (s .pre .0 .0) (s .args .switches) (in-file e .0) (in-file e .1) (s .pre .1) (texts e) k l) i j (rw (
-        e .before .before .before .before .before .before .row-of .ensures,
-        e .before .before .before .before .before .row-of2 .ensures,
-        order .order-bits .ensures,
-        e .before .asked-of .ensures,
-        filled e,
-      ) at (c .before .before .compare-texts .ensures))
+    items-judged (s .pre .0 .0) (s .pre .1) (textWord (longer (lent s) (s .args .condition))) (λ _. true) (s .args .switches)
+    (λ k l _ _. by-texts (s .pre .0 .0) (s .args .switches) (in-file e .0) (in-file e .1) (s .pre .1) (texts e) k l) i j (rw (
+      e .before .before .before .before .before .before .row-of .ensures,
+      e .before .before .before .before .before .row-of2 .ensures,
+      order .order-bits .ensures,
+      e .before .asked-of .ensures,
+      filled e,
+    ) at (c .before .before .compare-texts .ensures))
     )
 
 relate-literal-requires : tie.Need-relate-literal-requires
@@ -144,9 +144,9 @@ returns-3 c =
     let i = sym (c .before .before .before .before .before .before .before .is-item .ensures) ∙ c .before .before .before .before .before .before .if2 .taken in
     let j = sym (c .before .before .before .before .before .is-item2 .ensures) ∙ c .before .before .before .before .if3 .left in
     judged (sym (by-both (texts e) ∙ rw i)) refl (
-      object-judged (s .pre .0 .0) (s .pre .1) (textWord (longer (lent s) (s .args .condition))) (λ _. true) (s .args .switches)
-      (λ k l _ _. by-texts (s .pre .0 .0) (s .args .switches) (in-file e .0) (in-file e .1) (s .pre .1) (texts e) k l) (first s) i j refl
-      (rw (e .before .before .before .before .before .before .row-of .ensures, e .before .asked-of .ensures, filled e) at (c .before .before .relate-literal .ensures))
+    object-judged (s .pre .0 .0) (s .pre .1) (textWord (longer (lent s) (s .args .condition))) (λ _. true) (s .args .switches)
+    (λ k l _ _. by-texts (s .pre .0 .0) (s .args .switches) (in-file e .0) (in-file e .1) (s .pre .1) (texts e) k l) (first s) i j refl
+    (rw (e .before .before .before .before .before .before .row-of .ensures, e .before .asked-of .ensures, filled e) at (c .before .before .relate-literal .ensures))
     )
 
 is-item-requires-3 : tie.Need-is-item-requires-3
@@ -176,9 +176,9 @@ returns-4 c =
     let i = sym (c .before .before .before .before .before .before .before .is-item .ensures) ∙ c .before .before .before .before .before .before .if2 .left in
     let j = sym (c .before .before .before .before .before .is-item3 .ensures) ∙ c .before .before .before .before .if4 .taken in
     judged (sym (by-both (texts e) ∙ rw (i, j))) refl (
-      subject-judged (s .pre .0 .0) (s .pre .1) (textWord (longer (lent s) (s .args .condition))) (λ _. true) (s .args .switches)
-      (λ k l _ _. by-texts (s .pre .0 .0) (s .args .switches) (in-file e .0) (in-file e .1) (s .pre .1) (texts e) k l) (first s) i j refl
-      (rw (e .before .before .before .before .before .row-of2 .ensures, e .before .asked-of .ensures, filled e) at (c .before .before .relate-literal2 .ensures))
+    subject-judged (s .pre .0 .0) (s .pre .1) (textWord (longer (lent s) (s .args .condition))) (λ _. true) (s .args .switches)
+    (λ k l _ _. by-texts (s .pre .0 .0) (s .args .switches) (in-file e .0) (in-file e .1) (s .pre .1) (texts e) k l) (first s) i j refl
+    (rw (e .before .before .before .before .before .row-of2 .ensures, e .before .asked-of .ensures, filled e) at (c .before .before .relate-literal2 .ensures))
     )
 
 returns-5 : tie.Need-returns-5

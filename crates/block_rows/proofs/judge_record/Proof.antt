@@ -1,9 +1,9 @@
 -- By what the simple condition comes to.
 use mathlib.Core.Path.{ap, _∙_}
-use Rattle.blocks.specs.Blocks.{truthNumber}
+use Rattle.block_rows.specs.Judging.{truthNumber}
 use borrow.Author.Needs.{needs}
-use Rattle.blocks.proofs.rows.judge_record.Statement.{statement}
-use Rattle.blocks.proofs.rows.judge_record.Tie as tie
+use Rattle.block_rows.proofs.judge_record.Statement.{statement}
+use Rattle.block_rows.proofs.judge_record.Tie as tie
 
 truth-of-requires : tie.Need-truth-of-requires
 truth-of-requires c κs = c .before .before .before .before .before .pre

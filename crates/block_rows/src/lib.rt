@@ -4,7 +4,7 @@ ghost use lib.ListN.{length};
 ghost use Rattle.tables.specs.Operands.{lendNames};
 ghost use Rattle.values.specs.Truth.{outcome, Readable};
 ghost use Rattle.block_truths.specs.Columns.{JudgesAt, Judgeable};
-ghost use Rattle.blocks.specs.Blocks.{truthNumber, Judges};
+ghost use Rattle.block_rows.specs.Judging.{truthNumber, Judges};
 use block_truths::Block;
 use columns::rows::judge_columns;
 use field_rows::rows::judge_fields;
@@ -88,7 +88,7 @@ fn judge_each<'a>(
 
 // A switch row is judged once, one of digit fields or of short texts by their words, one of other fields with its sides looked up once, and each
 // other record by record.
-pub(crate) fn judge_row<'a>(
+pub fn judge_row<'a>(
     items: &[u32],
     literals: &[u32],
     bytes: &'a [u8],

@@ -12,7 +12,7 @@ use Rattle.tables.specs.Tokens.{isName}
 use Rattle.values.specs.Truth.{outcome}
 use Rattle.grammar.specs.declared.PlanRow.{PlanRow}
 use Rattle.block_truths.specs.Columns.{recordAt, Right}
-use Rattle.blocks.specs.Blocks.{truthNumber, Judges}
+use Rattle.block_rows.specs.Judging.{truthNumber, Judges}
 
 -- the number of what a simple condition comes to is right
 pub right : (out : Outcome) {truth : ℕ} → truth ≡ truthNumber out → Right out truth

@@ -11,9 +11,9 @@ use Rattle.values.specs.Truth.{outcome, Readable}
 use Rattle.block_truths.specs.Columns.{outcomeAt, Right, Standing}
 use Rattle.block_truths.proofs.Bases.{ends-inside}
 use Rattle.block_truths.proofs.Passing.{Passing, sets-out, has-room, tells, leaves, at-place, off-place, all-told}
-use Rattle.blocks.proofs.Judging.{right}
-use Rattle.blocks.proofs.rows.judge_each.Statement.{statement}
-use Rattle.blocks.proofs.rows.judge_each.Tie as tie
+use Rattle.block_rows.proofs.Judging.{right}
+use Rattle.block_rows.proofs.judge_each.Statement.{statement}
+use Rattle.block_rows.proofs.judge_each.Tie as tie
 
 abbrev Inv-loop : tie.InvT-loop
 Inv-loop items literals bytes names records switches condition at row truths₀ size n base₀ j₀ truths base j =

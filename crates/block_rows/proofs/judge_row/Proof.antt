@@ -10,9 +10,9 @@ use borrow.Author.Tests.{eqb-true, not-true}
 use Rattle.tables.specs.Operands.{lendNames}
 use Rattle.tables.proofs.Tests.{both}
 use Rattle.block_truths.proofs.Firsts.{first-within, first-readable}
-use Rattle.blocks.proofs.Judging.{once}
-use Rattle.blocks.proofs.rows.judge_row.Statement.{statement}
-use Rattle.blocks.proofs.rows.judge_row.Tie as tie
+use Rattle.block_rows.proofs.Judging.{once}
+use Rattle.block_rows.proofs.judge_row.Statement.{statement}
+use Rattle.block_rows.proofs.judge_row.Tie as tie
 
 add-first : tie.Need-add-first
 add-first c = omega (arith, first-within (c .before .before .before .before .before .before .before .before .pre .0))
