@@ -6,7 +6,8 @@ use Rattle.typing.specs.Tests.{testOf}
 use Rattle.values.proofs.Reading.{read-class}
 use Rattle.block_truths.proofs.Firsts.{first-readable}
 use Rattle.block_truths.proofs.Passing.{retold-at, judged, unjudged}
-use Rattle.field_rows.proofs.Fitting.{right-for, item-fits, class-is}
+use Rattle.record_fields.proofs.Fitting.{right-for}
+use Rattle.field_rows.proofs.Fitting.{item-fits, class-is}
 use Rattle.field_rows.proofs.rows.judge_fields.Statement.{statement}
 use Rattle.field_rows.proofs.rows.judge_fields.Tie as tie
 

@@ -3,8 +3,8 @@ use mathlib.Core.Path.{refl}
 use mathlib.Core.Bool.{true, false}
 use borrow.Author.Needs.{needs}
 use Rattle.block_truths.proofs.Rights.{bit-right, two-right}
-use Rattle.field_rows.proofs.each.truth_number.Statement.{statement}
-use Rattle.field_rows.proofs.each.truth_number.Tie as tie
+use Rattle.record_fields.proofs.truth_number.Statement.{statement}
+use Rattle.record_fields.proofs.truth_number.Tie as tie
 
 enum-told : tie.Need-enum-told
 enum-told c = search needs

@@ -4,7 +4,7 @@ ghost use mathlib.Core.Bool.{true};
 ghost use Prim.Native.Nat.{_≤_};
 ghost use lib.ListN.{length};
 ghost use Rattle.block_truths.specs.Columns.{compared, Numbered, Laid, There};
-ghost use Rattle.text_columns.specs.TextColumns.{textIn, textOf, TextOf};
+ghost use Rattle.record_texts.specs.Texts.{textIn, textOf, TextOf};
 use block_truths::Block;
 use block_truths::Extent;
 use block_truths::OrderBits;
@@ -22,7 +22,7 @@ fn text_at(records: &[u8], base: usize, text: Extent, filled: usize) -> u64
 }
 
 // Two texts of each record.
-pub(crate) fn compare_texts(
+pub fn compare_texts(
     records: &[u8],
     block: Block,
     row1: Row,
@@ -51,7 +51,7 @@ pub(crate) fn compare_texts(
 }
 
 // One text of each record, and one word for all.
-pub(crate) fn compare_text(
+pub fn compare_text(
     records: &[u8],
     block: Block,
     row: Row,

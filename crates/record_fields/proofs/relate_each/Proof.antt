@@ -14,9 +14,9 @@ use Rattle.values.specs.Truth.{relationOutcome}
 use Rattle.block_truths.specs.Columns.{recordAt, Right, Standing}
 use Rattle.block_truths.proofs.Bases.{ends-inside}
 use Rattle.block_truths.proofs.Passing.{Passing, sets-out, has-room, tells, leaves, at-place, off-place, all-told}
-use Rattle.field_rows.proofs.Fitting.{right-for, at-record, item-inside}
-use Rattle.field_rows.proofs.each.relate_each.Statement.{statement}
-use Rattle.field_rows.proofs.each.relate_each.Tie as tie
+use Rattle.record_fields.proofs.Fitting.{right-for, at-record, item-inside}
+use Rattle.record_fields.proofs.relate_each.Statement.{statement}
+use Rattle.record_fields.proofs.relate_each.Tie as tie
 
 abbrev Inv-loop : tie.InvT-loop
 Inv-loop records numeric item1 row1 left item2 row2 right word negated at place truths₀ size n base₀ j₀ truths base j =

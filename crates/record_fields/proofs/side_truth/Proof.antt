@@ -4,9 +4,9 @@ use borrow.Author.Needs.{needs}
 use Rattle.tables.specs.Rows.{isNumeric}
 use Rattle.tables.proofs.Tests.{both}
 use Rattle.values.proofs.Reading.{numeral}
-use Rattle.field_rows.proofs.Fitting.{right-for}
-use Rattle.field_rows.proofs.each.side_truth.Statement.{statement}
-use Rattle.field_rows.proofs.each.side_truth.Tie as tie
+use Rattle.record_fields.proofs.Fitting.{right-for}
+use Rattle.record_fields.proofs.side_truth.Statement.{statement}
+use Rattle.record_fields.proofs.side_truth.Tie as tie
 
 value-truth-requires : tie.Need-value-truth-requires
 value-truth-requires c κs =

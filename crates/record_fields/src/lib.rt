@@ -81,7 +81,7 @@ fn side_truth(
     truth_number(sides_outcome(item1, row1, left, item2, row2, right, word, negated))
 }
 
-pub(crate) fn relate_each<'a>(
+pub fn relate_each<'a>(
     records: &'a [u8],
     block: Block,
     numeric: bool,
@@ -127,7 +127,7 @@ pub(crate) fn relate_each<'a>(
     }
 }
 
-pub(crate) fn classify_each(
+pub fn classify_each(
     records: &[u8],
     block: Block,
     row: Row,

@@ -15,9 +15,9 @@ use Rattle.values.proofs.Reading.{some-bytes}
 use Rattle.block_truths.specs.Columns.{recordAt, Right, Standing}
 use Rattle.block_truths.proofs.Bases.{ends-inside}
 use Rattle.block_truths.proofs.Passing.{Passing, sets-out, has-room, tells, leaves, at-place, off-place, all-told}
-use Rattle.field_rows.proofs.Fitting.{right-for, at-record, part-inside}
-use Rattle.field_rows.proofs.each.classify_each.Statement.{statement}
-use Rattle.field_rows.proofs.each.classify_each.Tie as tie
+use Rattle.record_fields.proofs.Fitting.{right-for, at-record, part-inside}
+use Rattle.record_fields.proofs.classify_each.Statement.{statement}
+use Rattle.record_fields.proofs.classify_each.Tie as tie
 
 abbrev Inv-loop : tie.InvT-loop
 Inv-loop records row word negated at place truths₀ size n base₀ j₀ truths base j =

@@ -9,9 +9,9 @@ use Rattle.values.specs.Comparison.{side}
 use Rattle.values.proofs.Reading.{by-value}
 use Rattle.values.proofs.Faults.{number-faulty, relation-goes}
 use Rattle.block_truths.proofs.Rights.{two-right}
-use Rattle.field_rows.proofs.Fitting.{right-for}
-use Rattle.field_rows.proofs.each.value_truth.Statement.{statement}
-use Rattle.field_rows.proofs.each.value_truth.Tie as tie
+use Rattle.record_fields.proofs.Fitting.{right-for}
+use Rattle.record_fields.proofs.value_truth.Statement.{statement}
+use Rattle.record_fields.proofs.value_truth.Tie as tie
 
 read-number-requires : tie.Need-read-number-requires
 read-number-requires c κs = c .before .before .pre .0 .field

@@ -1,6 +1,6 @@
 -- Rests on what `row_part` returns.
-use Rattle.field_rows.proofs.each.side_bytes.Statement.{statement}
-use Rattle.field_rows.proofs.each.side_bytes.Tie as tie
+use Rattle.record_fields.proofs.side_bytes.Statement.{statement}
+use Rattle.record_fields.proofs.side_bytes.Tie as tie
 
 row-part-requires : tie.Need-row-part-requires
 row-part-requires c κs = c .before .before .before .pre (c .if1 .taken)
