@@ -78,7 +78,9 @@ same-length-4 : tie.Need-same-length-4
 same-length-4 c =
     let each = c .before .before in
     let fields = each .before .before .before .before .before in
-    each .judge-each .kept .1 .1 .1 .1 .1 .1 .1 .1 .1 .1 .0 ∙ fields .judge-fields .kept .1 .1 .1 .1 .1 .1 .1 .1 .1 .1 .0 ∙ fields .before .before .before .before .before .judge-columns .kept .1 .1 .1 .1 .1 .1 .1 .1 .0
+    each .judge-each .kept .1 .1 .1 .1 .1 .1 .1 .1 .1 .1 .0
+    ∙ fields .judge-fields .kept .1 .1 .1 .1 .1 .1 .1 .1 .1 .1 .0
+    ∙ fields .before .before .before .before .before .judge-columns .kept .1 .1 .1 .1 .1 .1 .1 .1 .0
 
 returns-4 : tie.Need-returns-4
 returns-4 c = λ j l e. c .before .before .judge-each .ensures .told j l .here e
