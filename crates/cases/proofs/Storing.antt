@@ -5,9 +5,9 @@ use Prim.Native.Nat.{ℕ, zero, suc, _+_, _-_, _≤_, _<_}
 use native.Mathlib.Omega.{arith}
 use native.Mathlib.Numerals.{add-one}
 use borrow.Author.Tests.{lt-ltb, le-ltb}
-use lib.ListN.{length, take, drop, getD, set, length-drop, drop-of-length-le}
-use lib.Seq.{drop-cons, drop-length, take-all}
-use Rattle.cases.specs.Stores.{numberAt, placeOf, partIn, pushed, pushedAll, keptAs, againFrom, timesMore}
+use lib.ListN.{length, take, drop, getD, set, drop-of-length-le}
+use lib.Seq.{drop-cons}
+use Rattle.cases.specs.Stores.{numberAt, placeOf, partIn, pushed, pushedAll, againFrom, timesMore}
 
 -- beyond the end
 pub none-there : (l : List ℕ) (i : ℕ) → length l ≤ i → 0 ≡ getD l i 0

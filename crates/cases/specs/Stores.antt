@@ -1,8 +1,8 @@
 -- What is lent to the calls, in one list of numbers: each part a count, at its place, and then its numbers.
-use mathlib.Core.Bool.{Bool, cond}
+use mathlib.Core.Bool.{cond}
 use mathlib.Core.List.{List, [], _∷_}
 use Prim.Native.Nat.{ℕ, zero, suc, _+_, _-_, _%_}
-use lib.Dec.{eqb, ltb}
+use lib.Dec.{ltb}
 use lib.ListN.{take, drop, getD, set}
 
 -- 0 beyond the end

@@ -12,12 +12,11 @@ use Rattle.tables.specs.declared.Written.{Written}
 use Rattle.tables.specs.declared.Written.the-variants.{Count, Refused}
 use Rattle.tables.specs.declared.Judged.{Judged}
 use Rattle.tables.specs.Operands.{Lent}
-use Rattle.grammar.specs.Grammar.{Tree}
 use Rattle.grammar.specs.Expanded.{expanded}
 use Rattle.grammar.specs.Plan.{planned}
 use Rattle.grammar.proofs.Size.{expanded-bound}
 use Rattle.rules.specs.Calls.{Gives, Leaves, writtenOver, told, expandGives, planGives}
-use Rattle.rules.proofs.Passing.{Passes, fewTokens, passes-again}
+use Rattle.rules.proofs.Passing.{fewTokens, passes-again}
 use Rattle.rules.proofs.Answers.{writes-over, judges-as, runs-as}
 use Rattle.rules.proofs.Demands.{counted, count-is, numbersAre}
 use Rattle.vectors.specs.declared.answer.Answer.{Answer}

@@ -1,10 +1,9 @@
 -- An output that is filled, and one that is summed, number by number.
 use mathlib.Core.Path.{_≡_, refl, sym, ap, _∙_}
-use mathlib.Core.List.{List, [], _∷_, _++_, append-nil}
-use Prim.Native.Nat.{ℕ, zero, suc, _+_, _-_, _*_, _%_, _≤_, _<_}
+use mathlib.Core.List.{List, _++_, append-nil}
+use Prim.Native.Nat.{ℕ, suc, _+_, _-_, _%_, _≤_, _<_}
 use native.Mathlib.Omega.{arith}
 use native.Mathlib.Numerals.{add-one, unary-clauses}
-use lib.Bits.{bitXor}
 use lib.ListN.{length, take, drop, getD, set}
 use lib.Seq.{drop-cons, drop-length, take-all, take-suc-set, append-snoc}
 use Rattle.vectors.specs.Sums.{countedFrom, filled, summed, sumFrom, checksumOf}

@@ -1,6 +1,5 @@
 -- `of_more` meets its contract.
-use borrow.Author.Tests.{eq-eqb, ne-eqb, le-leb, lt-leb}
-use native.Mathlib.Omega.{arith}
+use borrow.Author.Tests.{eq-eqb, ne-eqb}
 use Rattle.cases.proofs.words.of_more.Statement.{statement}
 use Rattle.cases.proofs.words.of_more.Tie as tie
 

@@ -1,6 +1,5 @@
 -- `of_sixteen` meets its contract.
-use borrow.Author.Tests.{eq-eqb, ne-eqb, le-leb, lt-leb}
-use native.Mathlib.Omega.{arith}
+use borrow.Author.Tests.{eq-eqb, ne-eqb}
 use Rattle.cases.proofs.words.of_sixteen.Statement.{statement}
 use Rattle.cases.proofs.words.of_sixteen.Tie as tie
 

@@ -1,6 +1,5 @@
 -- `of_two` meets its contract.
-use borrow.Author.Tests.{eq-eqb, ne-eqb, le-leb, lt-leb}
-use native.Mathlib.Omega.{arith}
+use borrow.Author.Tests.{ne-eqb}
 use borrow.Author.Needs.{needs}
 use Rattle.cases.proofs.words.of_two.Statement.{statement}
 use Rattle.cases.proofs.words.of_two.Tie as tie

@@ -1,6 +1,5 @@
 -- `part_end` meets its contract.
 use mathlib.Core.Path.{sym}
-use native.Mathlib.Omega.{arith}
 use denote.Ref.{now}
 use Rattle.vectors.proofs.Parting.{part-within, part-beyond, part-none}
 use borrow.Author.Needs.{needs}
