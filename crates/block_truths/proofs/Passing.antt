@@ -1,5 +1,6 @@
 -- Loops over the records of a block, which tell one number after the other.
 use mathlib.Core.Path.{_≡_, refl, sym, ap, _∙_}
+use mathlib.Core.Bool.{Bool, true, false, false≢true}
 use mathlib.Core.List.{List}
 use Prim.Native.Nat.{ℕ, _+_, _-_, _*_, _<_, _≤_}
 use native.Mathlib.Nat.{zero-mul}
@@ -66,3 +67,11 @@ retold {P} {Q} {n} {before} {after} t f = record { told = λ k l. f k l (getD af
 pub retold-at : {P Q : ℕ → ℕ → Type 0} {n place : ℕ} {at before after : List ℕ} → Told n (Standing at place P before) before after
     → ((k : ℕ) → k < n → (v : ℕ) → P k v → Q k v) → Told n (Standing at place Q before) before after
 retold-at t f = retold t (λ k l v s. record { here = λ e. f k l v (s .here e); elsewhere = s .elsewhere })
+
+-- what a function answers that may judge a row: it is judged, or nothing changes
+module _ {P Q : Type 0} {answer due : Bool} where
+  pub judged : answer ≡ due → answer ≡ true → P → (answer ≡ true → P) × ((answer ≡ false → Q) × (answer ≡ due))
+  judged e t p = (λ _. p, (λ f. absurd (false≢true (sym f ∙ t)), e))
+
+  pub unjudged : answer ≡ due → answer ≡ false → Q → (answer ≡ true → P) × ((answer ≡ false → Q) × (answer ≡ due))
+  unjudged e f q = (λ t. absurd (false≢true (sym f ∙ t)), (λ _. q, e))

@@ -16,7 +16,8 @@ use Rattle.rules.specs.Calls.{told}
 use Rattle.runner.proofs.Running.{readable, Going, start, goes-true, goes-false, ends-true, ends-false}
 use Rattle.places.specs.Places.{startPlace, nextPlace, nextCount, UpTo, Lowest}
 use Rattle.block_truths.specs.Columns.{recordAt, Judgeable}
-use Rattle.blocks.specs.Blocks.{placeOf, Placed, Judges, Walkable, Settled, Walked}
+use Rattle.block_rows.specs.Judging.{Judges}
+use Rattle.blocks.specs.Blocks.{placeOf, Placed, Walkable, Settled, Walked}
 use Rattle.blocks.proofs.Standing.{Kind, at-true, at-false, at-row, kind, target-row, target-false, target-true, later-place, leaves-row, little-more}
 
 -- the run of a record has come to the target that stands at this place

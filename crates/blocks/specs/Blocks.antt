@@ -7,28 +7,14 @@ use lib.ListN.{getD}
 use lib.Dec.{eqb}
 use Rattle.tables.specs.declared.Check.the-variants.{Sound}
 use Rattle.tables.specs.declared.Judged.{Judged}
-use Rattle.tables.specs.declared.Outcome.{Outcome}
-use Rattle.tables.specs.declared.Outcome.the-variants.{True as Holds, False as Fails, Stopped}
 use Rattle.tables.specs.declared.Verdict.the-variants.{True, False}
 use Rattle.tables.specs.Operands.{Lent}
 use Rattle.values.specs.Truth.{outcome}
-use Rattle.grammar.specs.declared.PlanRow.{PlanRow}
 use Rattle.grammar.specs.Plan.{onTrue, onFalse, planCheck, planRows, running}
 use Rattle.rules.specs.Calls.{told}
 use Rattle.runner.specs.Runs.{Runnable}
 use Rattle.places.specs.Places.{UpTo}
-use Rattle.block_truths.specs.Columns.{recordAt, outcomeAt, Right, Laid}
-
--- "A simple condition gives true, false or its stop": a stop is not judged here, and its record is run by itself
-abbrev pub truthNumber : Outcome → ℕ
-truthNumber Fails = 0
-truthNumber Holds = 1
-truthNumber (Stopped stop) = 2
-
--- the truths of one row are right for each of the first n records that stands there
-abbrev pub Judges : Lent → List ℕ → ℕ → ℕ → ℕ → ℕ → PlanRow → List ℕ → ℕ → List ℕ → Type 0
-Judges lent records from size n switches r at row truths =
-    (j : ℕ) → j < n → getD at j 0 ≡ row → Right (outcomeAt lent records from size switches r j) (getD truths j 0)
+use Rattle.block_truths.specs.Columns.{recordAt, Laid}
 
 -- a plan that can be run on each record of a block
 pub record Walkable (lent : Lent) (plan records : List ℕ) (from size n : ℕ) : Type 0 where

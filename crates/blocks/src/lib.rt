@@ -1,4 +1,3 @@
 // One plan over a block of records, row by row: each row that a record has reached is read once, and judged for the whole block.
 
-pub mod rows; // the truths of one row
 pub mod walk; // from row to row

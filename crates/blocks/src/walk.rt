@@ -3,7 +3,7 @@ ghost use mathlib.Core.Path.{_≡_};
 ghost use lib.ListN.{length};
 ghost use Rattle.tables.specs.Operands.{lendNames};
 ghost use Rattle.blocks.specs.Blocks.{placeOf, Placed, Walkable, Walked};
-use crate::rows::judge_row;
+use block_rows::judge_row;
 use block_truths::Block;
 use places::AT_FALSE;
 use places::AT_TRUE;

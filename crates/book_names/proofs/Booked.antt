@@ -1,12 +1,10 @@
 -- What the call that reads a description leaves, as a book.
-use mathlib.Core.Path.{_≡_, refl, sym, ap, ap₂, _∙_, subst}
-use mathlib.Core.Bool.{Bool, true, false, cond}
-use mathlib.Core.List.{List, [], _∷_, _++_, map}
+use mathlib.Core.Path.{_≡_, refl, sym, ap, _∙_}
+use mathlib.Core.List.{List, [], _∷_, _++_}
 use Prim.Native.Nat.{ℕ, suc, _+_, _-_, _*_, _/_, _≤_, _<_}
 use native.Mathlib.Omega.{arith}
-use lib.Dec.{leb}
 use lib.ListN.{length, getD, take, drop, replicate, length-append, length-drop, length-replicate}
-use lib.Seq.{length-take-le}
+use lib.Seq.{take-at}
 use borrow.Author.Tests.{le-leb}
 use borrow.Rule.Slice.PartMut.{putMid}
 use Rattle.description.specs.Grammar.{Value, single, range, Condition, Row, Pair, NameRow, nameRow, Table, pairs, nameRows, literals}
@@ -14,17 +12,17 @@ use Rattle.description.specs.Limits.{Outcome, table, refusal, describe}
 use Rattle.description.proofs.Keeping.{within}
 use Rattle.spelling.specs.Names.{numbers}
 use Rattle.spelling.proofs.Describing.{length-map, fewBytes}
-use Rattle.lexer.proofs.Writing.{bytes-over, rest-length}
+use Rattle.tables.proofs.Front.{Front, front-length, front-rest, front-part}
 use Rattle.literal_bytes.specs.Written.{writtenOver}
 use Rattle.name_entries.specs.Named.{pairNumbers}
-use Rattle.storing.specs.Naming.{rowNumbers as nameRowNumbers, nameNumbers}
+use Rattle.storing.specs.Naming.{rowNumbers as nameRowNumbers, nameNumbers, nameOf}
 use Rattle.layouts.specs.Layouts.{rowNumbers}
 use Rattle.describing.specs.declared.Described.{Described}
 use Rattle.describing.specs.declared.Described.the-variants.{Counts, Faulty, Room}
-use Rattle.describing.specs.Calls.{rowsOf, placesOf, namesOf, namePlacesOf, literalsOf, DescribedBy}
+use Rattle.describing.specs.Calls.{rowsOf, placeOfName, placesOf, namesOf, namePlacesOf, literalsOf, DescribedBy}
 use Rattle.books.specs.declared.Named.the-variants.{Given, Faulty as Unnamed}
-use Rattle.books.specs.Calls.{NamesFound, NamedBy}
-use Rattle.book_names.proofs.Describing.{numbers-length, front, few-items, few-conditions, few-rows, book-given}
+use Rattle.books.specs.Calls.{NamedBy}
+use Rattle.books.proofs.Finding.{numbers-length, few-items, few-conditions, few-rows}
 
 -- the same numbers, as both crates have them
 same-numbers : (rs : List Row) → rowNumbers rs ≡ numbers rs
@@ -94,10 +92,10 @@ module _ {text rows places names others literal-rows bytes : List ℕ} (r : Desc
     pub byte-count : b ≡ length (t .bytes)
     pub placesAre : places-after ≡ placesOf t ++ drop (length (placesOf t)) places
     pub others-are : others-after ≡ namePlacesOf t ++ drop (length (namePlacesOf t)) others
-    pub rowsAre : literals-after ≡ numbers (t .literals) ++ drop (length (literalsOf t)) literal-rows
-    pub bytesAre : bytes-after ≡ t .bytes ++ drop (length (t .bytes)) bytes
+    pub rowsAre : literals-after ≡ writtenOver (numbers (t .literals)) literal-rows
+    pub bytesAre : bytes-after ≡ writtenOver (t .bytes) bytes
 
-  pub told : {a n c k v b : ℕ} → r ≡ Counts a n c k v b → Told n k v b
+  told : {a n c k v b : ℕ} → r ≡ Counts a n c k v b → Told n k v b
   told {a} {n} {c} {k} {v} {b} q = by (describe text) refl
     where
       by : (o : Outcome) → describe text ≡ o → Told n k v b
@@ -112,61 +110,67 @@ module _ {text rows places names others literal-rows bytes : List ℕ} (r : Desc
             byte-count = cc;
             placesAre = D .placesWritten ∙ rw (s, e);
             others-are = D .namePlacesWritten ∙ rw (s, e);
-            rowsAre = D .literalsWritten ∙ rw (s, e) (ap (λ (x : List ℕ). x ++ drop (length (literalsOf t)) literal-rows) (same-numbers (t .literals)));
+            rowsAre = D .literalsWritten ∙ rw (s, e) (ap (λ (x : List ℕ). writtenOver x literal-rows) (same-numbers (t .literals)));
             bytesAre = D .bytesWritten ∙ rw (s, e);
           }
       by (refusal p) e = let s = faulty p e in let z : _≡_ {A = ℕ} 0 1 = cc in absurd (omega arith)
 
   module _ {a n c k v b : ℕ} (q : r ≡ Counts a n c k v b) where
-    pub few : (n ≤ 64) × (k ≤ 64) × (n ≤ length places-after) × (k ≤ length others-after)
-        × (k ≤ length (take (length places-after - n) (drop n places-after)))
-        × (n + length (take k others-after) ≤ length places-after)
+    items-front : Front (placesOf (told q .t)) places n places-after
+    items-front =
+        let T = told q in
+        record {
+          size = T .items;
+          fits = omega (arith, T .items, few-items text (T .t) (T .e));
+          holds = T .placesAre ∙ ap (λ (m : ℕ). placesOf (T .t) ++ drop m places) (sym (T .items));
+        }
+
+    pub few : (n ≤ 64) × (k ≤ 64) × (n ≤ length places-after) × (64 ≤ length others-after) × (64 ≤ length (take (length places-after - n) (drop n places-after)))
     few =
         let T = told q in
-        let l = length-append (placesOf (T .t)) (drop (length (placesOf (T .t))) places) in
+        let h : n ≤ 64 = omega (arith, T .items, few-items text (T .t) (T .e)) in
+        let g : k ≤ 64 = omega (arith, T .conditions, few-conditions text (T .t) (T .e)) in
         let m = length-append (namePlacesOf (T .t)) (drop (length (namePlacesOf (T .t))) others) in
-        let i = few-items text (T .t) (T .e) in
-        let j = few-conditions text (T .t) (T .e) in
-        let d = length-drop (length (placesOf (T .t))) places in
-        let p = ap length (T .placesAre) in
-        let o = ap length (T .others-are) in
-        let h : n ≤ 64 = omega (arith, T .items) in
-        let g : k ≤ 64 = omega (arith, T .conditions) in
-        let x : k ≤ length others-after = omega (arith, T .conditions) in
-        let y : 128 ≤ length places-after = omega (arith, T .items) in
-        let z = length-take-le k others-after x in
-        (h, g, omega arith, x, omega (arith, rest-length n places-after), omega arith)
-
-    others-front : take k others-after ≡ namePlacesOf (told q .t)
-    others-front = let T = told q in ap (take k) (T .others-are) ∙ front (namePlacesOf (T .t)) (drop (length (namePlacesOf (T .t))) others) k (T .conditions)
+        let x = length-drop (length (namePlacesOf (T .t))) others in
+        (h, g, omega (arith, front-length items-front), omega (arith, ap length (T .others-are)), omega (arith, ap length (front-rest items-front), length-drop n places))
 
     pub described-book : {back : List ℕ} → back ≡ take k others-after ++ drop k (take (length places-after - n) (drop n places-after))
-        → NamedBy text (Given (record { items = n; places = n + k; literals = v / 5; bytes = b })) (putMid n (length places-after - n) places-after back) literals-after bytes-after
+        → NamedBy text places literal-rows bytes (Given (record { items = n; places = n + k; literals = v / 5; bytes = b }))
+        (putMid n (length places-after - n) places-after back) literals-after bytes-after
     described-book {back} u =
-        let part = take (length places-after - n) (drop n places-after) in
-        let v : back ≡ writtenOver (take k others-after) part = u ∙ ap (λ (m : ℕ). take k others-after ++ drop m part) (sym (length-take-le k others-after (few .3))) in
-        let w = bytes-over n (take k others-after) places-after back (few .5) v in
         let T = told q in
         let ps : List ℕ = placesOf (T .t) in
         let cs : List ℕ = namePlacesOf (T .t) in
-        let rest : List ℕ = drop (length ps) places in
-        let places-front : take n places-after ≡ ps = ap (take n) (T .placesAre) ∙ front ps rest n (T .items) in
-        let all-of : putMid n (length places-after - n) places-after back ≡ ps ++ (cs ++ drop (n + length cs) places-after) =
-        w ∙ ap₂ (λ (x y : List ℕ). x ++ (y ++ drop (n + length y) places-after)) places-front others-front in
+        let copied : take k others-after ≡ cs = ap (take k) (T .others-are) ∙ take-at cs (drop (length cs) others) k (sym (T .conditions)) in
+        let F = front-part items-front cs back k (T .conditions) (omega (arith, few)) (rw copied at u) in
+        let x : n ≡ length (T .t .entries) = T .items ∙ length-map placeOfName (T .t .entries) in
+        let y : k ≡ length (T .t .conditions) = T .conditions ∙ length-map nameOf (T .t .conditions) in
+        let z : v / 5 ≡ length (T .t .literals) = omega (arith, T .row-numbers, numbers-length (T .t .literals)) in
         record {
-          gives = book-given text (T .t) (T .e) (drop (n + length cs) places-after) _ _ (T .items) (T .conditions) (T .row-numbers) (T .byte-count) all-of (T .rowsAre) (T .bytesAre);
+          answered = rw (T .e, ← x, ← y, ← z, ← T .byte-count);
+          placesWritten = rw (T .e) (F .holds ∙ ap (λ (m : ℕ). ps ++ cs ++ drop m places) (F .size));
+          rowsWritten = rw (T .e) (T .rowsAre);
+          bytesWritten = rw (T .e) (T .bytesAre);
         }
 
-  pub described-faulty : {p : ℕ} {ps rs bs : List ℕ} → r ≡ Faulty p → NamedBy text (Unnamed p) ps rs bs
-  described-faulty {p} q = record { gives = by (describe text) refl }
+  pub described-faulty : {p : ℕ} → r ≡ Faulty p → NamedBy text places literal-rows bytes (Unnamed p) places-after literals-after bytes-after
+  described-faulty {p} q = by (describe text) refl
     where
-      by : (o : Outcome) → describe text ≡ o → describe text ≡ refusal p
+      by : (o : Outcome) → describe text ≡ o → NamedBy text places literal-rows bytes (Unnamed p) places-after literals-after bytes-after
       by (table t) e = let s = whole t e in let z : _≡_ {A = ℕ} 0 1 = cc in absurd (omega arith)
-      by (refusal u) e = let s = faulty u e in let z : u ≡ p = cc in e ∙ ap refusal z
+      by (refusal u) e =
+          let s = faulty u e in
+          let z : p ≡ u = cc in
+          record {
+            answered = rw (e, z);
+            placesWritten = D .placesWritten ∙ rw (q, e);
+            rowsWritten = D .literalsWritten ∙ rw (q, e);
+            bytesWritten = D .bytesWritten ∙ rw (q, e);
+          }
 
-  pub never-room : {k : ℕ} {ps rs bs : List ℕ} → r ≡ Room k → NamedBy text (Unnamed k) ps rs bs
-  never-room {k} q = record { gives = by (describe text) refl }
+  pub never-room : {k : ℕ} → r ≡ Room k → ⊥
+  never-room {k} q = by (describe text) refl
     where
-      by : (o : Outcome) → describe text ≡ o → describe text ≡ refusal k
-      by (table t) e = let s = whole t e in let z : _≡_ {A = ℕ} 0 1 = cc in absurd (omega arith)
-      by (refusal p) e = let s = faulty p e in let z : _≡_ {A = ℕ} 0 1 = cc in absurd (omega arith)
+      by : (o : Outcome) → describe text ≡ o → ⊥
+      by (table t) e = let s = whole t e in let z : _≡_ {A = ℕ} 0 1 = cc in omega arith
+      by (refusal p) e = let s = faulty p e in let z : _≡_ {A = ℕ} 0 1 = cc in omega arith

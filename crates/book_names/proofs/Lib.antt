@@ -1,2 +1,1 @@
-pub mod Describing
 pub mod Booked

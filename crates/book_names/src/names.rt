@@ -11,11 +11,11 @@ use descriptions::calls::describe;
 use outputs::copies::copy_numbers;
 use tables::rows::NAME_TABLE;
 
-// The places of the names, or FILLER, of a description's rows, those of its conditions after them; and its literals. Free: what the
-// buffers hold beyond what is counted, and all of it where the description is refused.
+// The places of the names, or FILLER, of a description's rows, those of its conditions after them; and its literals. Beyond what is
+// counted the buffers stay as they were, and where the description is refused.
 pub fn book_of(description: &[u8], places: &mut [u32], rows: &mut [u32], bytes: &mut [u8]) -> Named
     requires { ⌜ (128 ≤ length (now places)) × (320 ≤ length (now rows)) × (4096 ≤ length (now bytes)) ⌝ }
-    ensures { λ r. ⌜ NamedBy (now (description .entry)) r (now (places .exit)) (now (rows .exit)) (now (bytes .exit)) ⌝ }
+    ensures { λ r. ⌜ NamedBy (now (description .entry)) (now (places .entry)) (now (rows .entry)) (now (bytes .entry)) r (now (places .exit)) (now (rows .exit)) (now (bytes .exit)) ⌝ }
 {
     let mut items = [0u32; Row::TABLE];
     let mut names = [0u32; NAME_TABLE];

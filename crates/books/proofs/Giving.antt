@@ -1,29 +1,28 @@
 -- What is read, given where there is room.
-use mathlib.Core.Path.{_≡_, refl, sym, ap, ap₂, _∙_, subst}
-use mathlib.Core.Bool.{Bool, true, false, cond, not, _&&_}
-use mathlib.Core.List.{List, [], _∷_, _++_}
-use Prim.Native.Nat.{ℕ, suc, _+_, _*_, _≤_, _<_}
+use mathlib.Core.Path.{_≡_, refl, sym, ap, _∙_, subst}
+use mathlib.Core.Bool.{Bool, true, false, cond, _&&_}
+use mathlib.Core.List.{List, []}
+use Prim.Native.Nat.{ℕ, _*_, _≤_, _<_}
 use native.Mathlib.Omega.{arith}
 use lib.Dec.{eqb, leb}
-use lib.ListN.{length, take, drop}
-use lib.Seq.{length-take-le}
+use lib.ListN.{length, take}
 use borrow.Author.Tests.{le-leb, lt-leb}
-use Rattle.spelling.specs.Keywords.{Piece}
-use Rattle.spelling.specs.Reading.{pieces, Found, none, refusal, faultOf, tokensFrom, rowsFrom, bytesOf, Reading, read, refused, result, reading, readAfter, readCondition}
-use Rattle.description.specs.Limits.{Outcome, table, refusal as undescribed, describe}
+use Rattle.spelling.specs.Reading.{Reading, refused, reading, readAfter, readCondition}
+use Rattle.description.specs.Limits.{Outcome}
 use Rattle.spelling.specs.Names.{Book, bookOf}
-use Rattle.naming.specs.Named.{Listed, knownAt}
+use Rattle.naming.specs.Named.{knownAt}
 use Rattle.literal_bytes.specs.Written.{writtenOver}
 use Rattle.lexer.specs.declared.Gathered.{Gathered}
 use Rattle.lexer.specs.declared.Lexed.{Lexed}
 use Rattle.lexer.specs.declared.Lexed.the-variants.{Whole, Fault}
-use Rattle.lexer.specs.Gathers.{bookIn, Holds, Lexes}
+use Rattle.lexer.specs.Gathers.{bookIn, Lexes}
 use Rattle.books.specs.declared.Recognized.{Recognized}
 use Rattle.books.specs.declared.Recognized.the-variants.{Counts, Description, Word, Name, TokenCount, Room}
 use Rattle.books.specs.declared.Book.{Book as Found-book}
 use Rattle.books.specs.declared.Named.{Named}
 use Rattle.books.specs.declared.Named.the-variants.{Given, Faulty}
-use Rattle.books.specs.Calls.{refusedAs, outputOf, counted, ReadAs, NamesFound, NamedBy}
+use Rattle.books.specs.Calls.{refusedAs, outputOf, counted, ReadAs, NamedBy}
+use Rattle.books.proofs.Finding.{book-found, book-refused}
 
 -- n tokens, v numbers of rows and k bytes
 module _ (t r b tokens literals content : List ℕ) (n v k : ℕ) (en : n ≡ length t) (ev : v ≡ length r) (ek : k ≡ length b) where
@@ -67,19 +66,20 @@ module _ (t r b tokens literals content : List ℕ) (n v k : ℕ) (en : n ≡ le
             rw (counted-so, en, ev, ek) record { answered = rw (first, second, a); tokensWritten = p; literalsWritten = q; contentWritten = s }
 
 -- what was gathered is the reading
-module _ {book : Book} {text tokens rows bytes : List ℕ} (x : Lexed) (L : Lexes book text x tokens rows bytes) where
+module _ {book : Book} {text tokens₀ rows₀ bytes₀ tokens rows bytes : List ℕ} (x : Lexed)
+    (L : Lexes book text tokens₀ rows₀ bytes₀ x tokens rows bytes) where
   pub whole-sizes : {g : Gathered} → x ≡ Whole g → (g .tokens ≤ 2048) × (g .literals ≤ 64) × (g .bytes ≤ 6144)
-  whole-sizes e = let H = subst (λ (y : Lexed). Lexes book text y tokens rows bytes) e L .gives in (H .fewTokens, H .fewLiterals, H .fewBytes)
+  whole-sizes e = let H = subst (λ (y : Lexed). Lexes book text tokens₀ rows₀ bytes₀ y tokens rows bytes) e L .gives in (H .fewTokens, H .fewLiterals, H .fewBytes)
 
   pub whole-reading : {g : Gathered} → x ≡ Whole g → counted (take (g .tokens) tokens) (take (g .literals * 5) rows) (take (g .bytes) bytes) ≡ reading book text
   unfolding reading
   whole-reading e =
-      let H = subst (λ (y : Lexed). Lexes book text y tokens rows bytes) e L .gives in
+      let H = subst (λ (y : Lexed). Lexes book text tokens₀ rows₀ bytes₀ y tokens rows bytes) e L .gives in
       rw (H .faultless, ← (H .tokensAre), ← (H .rowsAre), ← (H .bytesAre))
 
   pub fault-reading : {number place : ℕ} → x ≡ Fault number place → refused number place ≡ reading book text
   unfolding reading
-  fault-reading e = let f = subst (λ (y : Lexed). Lexes book text y tokens rows bytes) e L .gives in rw f
+  fault-reading e = let f = subst (λ (y : Lexed). Lexes book text tokens₀ rows₀ bytes₀ y tokens rows bytes) e L .gives .faulty in rw f
 
 -- a refusal changes no output
 kept : (p q s : Bool) (place : ℕ) (out before : List ℕ)
@@ -103,26 +103,16 @@ refused-reading {R} {number} {place} {answer} {tokens} {literals} {content} e f 
 pub as-reading : {R S : Reading} {tokens literals content x y z : List ℕ} {answer : Recognized} → R ≡ S → ReadAs R tokens literals content answer x y z → ReadAs S tokens literals content answer x y z
 as-reading e r = rw (← e) r
 
--- the description's names and literals are those of its table
-module _ {description : List ℕ} (d : Named) {places rows bytes : List ℕ} (N : NamedBy description d places rows bytes) where
-  pub book-found : {b : Found-book} → d ≡ Given b → NamesFound description places rows bytes b
-  book-found e = subst (λ (y : Named). NamedBy description y places rows bytes) e N .gives
-
-  pub named-reading : {b : Found-book} (condition : List ℕ) → d ≡ Given b
+-- the reading by the book that was found
+module _ {description lent-places lent-rows lent-bytes : List ℕ} (d : Named) {places rows bytes : List ℕ}
+    (N : NamedBy description lent-places lent-rows lent-bytes d places rows bytes) (condition : List ℕ) where
+  pub named-reading : {b : Found-book} → d ≡ Given b
       → reading (bookIn (knownAt description (b .items) (take (b .places) places)) (b .literals) (b .bytes) rows bytes) condition ≡ readCondition description condition
-  named-reading {b} condition e =
-      let F = book-found e in
+  named-reading {b} e =
+      let F = book-found d N e in
       let t = F .found in
       let same : bookIn (knownAt description (b .items) (take (b .places) places)) (b .literals) (b .bytes) rows bytes ≡ bookOf description t = rw (F .knownAre, F .rowsAre, F .bytesAre) in
       ap (λ (x : Book). reading x condition) same ∙ sym (ap (λ (o : Outcome). readAfter description o condition) (F .described))
 
-  pub undescribed-reading : {p : ℕ} (condition : List ℕ) → d ≡ Faulty p → refused 14 p ≡ readCondition description condition
-  undescribed-reading condition e =
-      let f = subst (λ (y : Named). NamedBy description y places rows bytes) e N .gives in
-      sym (ap (λ (o : Outcome). readAfter description o condition) f)
-
-  pub places-listed : {b : Found-book} → d ≡ Given b → Listed (b .items) (take (b .places) places)
-  places-listed {b} e =
-      let F = book-found e in
-      let l = length-take-le (b .places) places (F .there) in
-      record { few = omega (arith, l, F .fewPlaces); within = omega (arith, l, F .within) }
+  pub undescribed-reading : {p : ℕ} → d ≡ Faulty p → refused 14 p ≡ readCondition description condition
+  undescribed-reading e = sym (ap (λ (o : Outcome). readAfter description o condition) (book-refused d N e))

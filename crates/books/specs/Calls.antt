@@ -1,31 +1,29 @@
 -- Document 02, e): the calls' whole answers and their outputs.
 use mathlib.Core.Path.{_≡_}
-use mathlib.Core.Bool.{Bool, true, false, cond, _&&_}
-use mathlib.Core.List.{List, [], _∷_, _++_}
-use Prim.Native.Nat.{ℕ, _*_, _≤_}
+use mathlib.Core.Bool.{cond, _&&_}
+use mathlib.Core.List.{List, [], _++_, map}
+use Prim.Native.Nat.{ℕ, _+_, _≤_}
 use lib.Dec.{eqb, leb}
-use lib.ListN.{length, take, drop}
-use Rattle.tables.specs.declared.Refusal.{Refusal}
+use lib.ListN.{length, drop}
 use Rattle.tables.specs.declared.Refusal.the-variants.{LiteralTable, LiteralRow, TokenCount as WrongCount, Token, Room as Short}
 use Rattle.tables.specs.declared.Check.the-variants.{Sound}
 use Rattle.tables.specs.Operands.{lend}
 use Rattle.tables.specs.Refusals as Refusals
 use Rattle.tables.specs.Tables.{literalTableCheck, literalRowCheck, tokenCountCheck}
-use Rattle.description.specs.Grammar.{Table}
-use Rattle.description.specs.Limits.{table, refusal, describe}
-use Rattle.spelling.specs.Names.{knownOf, numbers}
+use Rattle.description.specs.Grammar.{Entry, Condition}
+use Rattle.description.specs.Limits.{Outcome, table, refusal, describe}
+use Rattle.spelling.specs.Names.{numbers}
 use Rattle.naming.specs.Named.{Listed, knownAt}
 use Rattle.spelling.specs.Reading.{Reading, read, refused}
 use Rattle.spelling.specs.Printing.{Print, text, refused as unprinted, printable, hasName}
 use Rattle.printable.specs.Passing.{passing}
+use Rattle.literal_bytes.specs.Written.{writtenOver}
 use Rattle.books.specs.declared.Recognized.{Recognized}
 use Rattle.books.specs.declared.Recognized.the-variants.{Counts, Description, Word, Name, TokenCount, Room}
 use Rattle.books.specs.declared.Printed.{Printed}
 use Rattle.books.specs.declared.Printed.the-variants.{Count, Description as Undescribed, Refused, Name as Unnamed}
-use Rattle.books.specs.declared.Book.{Book}
 use Rattle.books.specs.declared.Named.{Named}
 use Rattle.books.specs.declared.Named.the-variants.{Given, Faulty}
-use Rattle.content.specs.Kinds.{rowWidth}
 
 -- "Numbers from 14 join 01's table": the number and the place of a refusal of `read`
 abbrev pub readNumber : Recognized → ℕ
@@ -124,26 +122,38 @@ pub record PrintedAs (print : Print) (before : List ℕ) (r : Printed) (after : 
   pub answered : r ≡ printAnswer print (length before)
   pub written : after ≡ lineOut r (lineOf print) before
 
--- What private functions promise. The places of a description's names, and its literals.
-pub record NamesFound (description places rows bytes : List ℕ) (b : Book) : Type 0 where
-  pub found : Table
-  pub described : describe description ≡ table found
-  pub knownAre : knownAt description (b .items) (take (b .places) places) ≡ knownOf description found
-  pub rowsAre : take (b .literals * rowWidth) rows ≡ numbers (found .literals)
-  pub bytesAre : take (b .bytes) bytes ≡ found .bytes
-  pub fewPlaces : b .places ≤ 128
-  pub within : b .items ≤ b .places
-  pub there : b .places ≤ length places
-  pub fewLiterals : b .literals ≤ 64
-  pub fewBytes : b .bytes ≤ 4096
-  pub short : length description ≤ 4096
+-- What private functions promise. What a description has: how many items, names, literals and literal bytes; or the place of 14
+abbrev pub namedAs : Outcome → Named
+namedAs (table t) =
+    Given (record {
+      items = length (t .entries);
+      places = length (t .entries) + length (t .conditions);
+      literals = length (t .literals);
+      bytes = length (t .bytes);
+    })
+namedAs (refusal p) = Faulty p
 
-abbrev pub NamedGives : List ℕ → List ℕ → List ℕ → List ℕ → Named → Type 0
-NamedGives description places rows bytes (Given b) = NamesFound description places rows bytes b
-NamedGives description places rows bytes (Faulty p) = describe description ≡ refusal p
+-- the places of its names, or FILLER, the items' first
+abbrev pub placesIn : Outcome → List ℕ
+placesIn (table t) = map (λ (e : Entry). e .named) (t .entries) ++ map (λ (c : Condition). c .named) (t .conditions)
+placesIn (refusal p) = []
 
-pub record NamedBy (description : List ℕ) (r : Named) (places rows bytes : List ℕ) : Type 0 where
-  pub gives : NamedGives description places rows bytes r
+-- the numbers of its literal rows
+abbrev pub literalsIn : Outcome → List ℕ
+literalsIn (table t) = numbers (t .literals)
+literalsIn (refusal p) = []
+
+-- and its literal bytes
+abbrev pub bytesIn : Outcome → List ℕ
+bytesIn (table t) = t .bytes
+bytesIn (refusal p) = []
+
+-- The whole answer, and each list over the start of a lent buffer. The rest stays as it was: all of it, where the description is refused.
+pub record NamedBy (description places rows bytes : List ℕ) (r : Named) (placesAfter rowsAfter bytesAfter : List ℕ) : Type 0 where
+  pub answered : r ≡ namedAs (describe description)
+  pub placesWritten : placesAfter ≡ writtenOver (placesIn (describe description)) places
+  pub rowsWritten : rowsAfter ≡ writtenOver (literalsIn (describe description)) rows
+  pub bytesWritten : bytesAfter ≡ writtenOver (bytesIn (describe description)) bytes
 
 -- tokens, rows and bytes that a reading found, given where there is room
 abbrev pub counted : List ℕ → List ℕ → List ℕ → Reading

@@ -1,4 +1,7 @@
 // The calls on what is lent: a line for each answer, with the whole output of expand and plan, which held 7 everywhere.
+ghost use mathlib.Core.Path.{_≡_};
+ghost use Rattle.rules.specs.Calls.{expandGives, planGives, Leaves};
+ghost use Rattle.cases.specs.Plans.{lentIn, tokensIn, planKept, plannedIn};
 use crate::print;
 use crate::store::ITEMS;
 use crate::store::LITERALS;
@@ -14,7 +17,9 @@ use tables::Written;
 // The most numbers of an output.
 const ROOM: usize = 700;
 
-fn expand_in(store: &[u32], bytes: &[u8], output: &mut [u32]) -> Written {
+fn expand_in(store: &[u32], bytes: &[u8], output: &mut [u32]) -> Written
+    ensures { λ r. ⌜ Leaves (expandGives (lentIn (now (store .entry)) (now (bytes .entry))) (tokensIn (now (store .entry))) (now (output .entry))) r (now (output .exit)) ⌝ }
+{
     let items = part(store, ITEMS);
     let literals = part(store, LITERALS);
     let names = part(store, NAMES);
@@ -31,7 +36,9 @@ pub(crate) fn expand(store: &[u32], bytes: &[u8], room: usize) {
     }
 }
 
-fn plan_in(store: &[u32], bytes: &[u8], output: &mut [u32]) -> Written {
+fn plan_in(store: &[u32], bytes: &[u8], output: &mut [u32]) -> Written
+    ensures { λ r. ⌜ Leaves (planGives (lentIn (now (store .entry)) (now (bytes .entry))) (tokensIn (now (store .entry))) (now (output .entry))) r (now (output .exit)) ⌝ }
+{
     let items = part(store, ITEMS);
     let literals = part(store, LITERALS);
     let names = part(store, NAMES);
@@ -40,7 +47,9 @@ fn plan_in(store: &[u32], bytes: &[u8], output: &mut [u32]) -> Written {
 }
 
 // What is written is the plan to run from now on.
-fn plan_kept(store: &mut [u32], bytes: &[u8], output: &mut [u32]) {
+fn plan_kept(store: &mut [u32], bytes: &[u8], output: &mut [u32])
+    ensures { λ _. ⌜ (now (store .exit) ≡ planKept (now (store .entry)) (planGives (lentIn (now (store .entry)) (now (bytes .entry))) (tokensIn (now (store .entry))) (now (output .entry)))) × (now (output .exit) ≡ planGives (lentIn (now (store .entry)) (now (bytes .entry))) (tokensIn (now (store .entry))) (now (output .entry)) .output) ⌝ }
+{
     let given = plan_in(store, bytes, output);
     print::written(b"plan in ", given, output);
     if let Written::Count(n) = given {
@@ -48,7 +57,9 @@ fn plan_kept(store: &mut [u32], bytes: &[u8], output: &mut [u32]) {
     }
 }
 
-pub(crate) fn plan(store: &mut [u32], bytes: &[u8], room: usize) {
+pub(crate) fn plan(store: &mut [u32], bytes: &[u8], room: usize)
+    ensures { λ _. ⌜ now (store .exit) ≡ plannedIn (now (store .entry)) (now (bytes .entry)) room ⌝ }
+{
     let mut output = [7u32; ROOM];
     if room <= ROOM {
         plan_kept(store, bytes, &mut output[0..room]);
@@ -90,7 +101,9 @@ pub(crate) fn run<'a>(store: &[u32], bytes: &'a [u8], record: &'a [u8]) {
 }
 
 // All four; run only where there is a plan.
-pub(crate) fn all<'a>(store: &mut [u32], bytes: &'a [u8], record: &'a [u8], room: usize) {
+pub(crate) fn all<'a>(store: &mut [u32], bytes: &'a [u8], record: &'a [u8], room: usize)
+    ensures { λ _. ⌜ now (store .exit) ≡ plannedIn (now (store .entry)) (now (bytes .entry)) room ⌝ }
+{
     expand(store, bytes, room);
     plan(store, bytes, room);
     judge(store, bytes, record);

@@ -1,4 +1,8 @@
 // What is lent to the calls, in one array of numbers: each part a count and then its numbers, with room beyond every limit.
+ghost use mathlib.Core.Path.{_≡_};
+ghost use Prim.Native.Nat.{_-_};
+ghost use lib.ListN.{set};
+ghost use Rattle.cases.specs.Stores.{numberAt, placeOf, partIn, switchesIn, pushed, keptAs, againFrom, repeatedIn};
 use fronts::front;
 use fronts::low_byte;
 
@@ -29,28 +33,36 @@ pub const STORE: usize = 18432;
 // The most numbers of a part.
 const MOST: u32 = 2047;
 
-pub(crate) fn get(store: &[u32], at: usize) -> u32 {
+pub(crate) fn get(store: &[u32], at: usize) -> u32
+    ensures { λ r. ⌜ r ≡ numberAt (now (store .entry)) at ⌝ }
+{
     if at < store.len() {
         return store[at];
     }
     0
 }
 
-pub(crate) fn put(store: &mut [u32], at: usize, number: u32) {
+pub(crate) fn put(store: &mut [u32], at: usize, number: u32)
+    ensures { λ _. ⌜ now (store .exit) ≡ set (now (store .entry)) at number ⌝ }
+{
     if at < store.len() {
         store[at] = number;
     }
 }
 
 // The place of a part's number i.
-fn place(part: usize, i: u32) -> usize {
+fn place(part: usize, i: u32) -> usize
+    ensures { λ r. ⌜ r ≡ placeOf part i ⌝ }
+{
     if part < STORE {
         return part + 1 + i as usize;
     }
     STORE
 }
 
-pub(crate) fn push(store: &mut [u32], part: usize, number: u32) {
+pub(crate) fn push(store: &mut [u32], part: usize, number: u32)
+    ensures { λ _. ⌜ now (store .exit) ≡ pushed (now (store .entry)) part number ⌝ }
+{
     let count = get(store, part);
     if count < MOST {
         put(store, place(part, count), number);
@@ -59,7 +71,9 @@ pub(crate) fn push(store: &mut [u32], part: usize, number: u32) {
 }
 
 // The numbers of a part from one to another, once more.
-fn again(store: &mut [u32], part: usize, from: u32, end: u32) {
+fn again(store: &mut [u32], part: usize, from: u32, end: u32)
+    ensures { λ _. ⌜ now (store .exit) ≡ againFrom (now (store .entry)) part from (end - from) ⌝ }
+{
     let mut i = from;
     while i < end {
         push(store, part, get(store, place(part, i)));
@@ -68,7 +82,9 @@ fn again(store: &mut [u32], part: usize, from: u32, end: u32) {
 }
 
 // The numbers from the mark on, so many times in all.
-pub(crate) fn repeat(store: &mut [u32], part: usize, times: u32) {
+pub(crate) fn repeat(store: &mut [u32], part: usize, times: u32)
+    ensures { λ _. ⌜ now (store .exit) ≡ repeatedIn (now (store .entry)) part times ⌝ }
+{
     let from = get(store, MARK);
     let end = get(store, part);
     let mut done: u32 = 1;
@@ -78,7 +94,9 @@ pub(crate) fn repeat(store: &mut [u32], part: usize, times: u32) {
     }
 }
 
-pub(crate) fn part(store: &[u32], part: usize) -> &[u32] {
+pub(crate) fn part(store: &[u32], part: usize) -> &[u32]
+    ensures { λ r. ⌜ now r ≡ partIn (now (store .entry)) part ⌝ }
+{
     if part < store.len() {
         let rest = &store[part + 1..];
         return front(rest, get(store, part) as usize);
@@ -87,7 +105,9 @@ pub(crate) fn part(store: &[u32], part: usize) -> &[u32] {
 }
 
 // A part becomes these numbers.
-pub(crate) fn keep(store: &mut [u32], part: usize, numbers: &[u32]) {
+pub(crate) fn keep(store: &mut [u32], part: usize, numbers: &[u32])
+    ensures { λ _. ⌜ now (store .exit) ≡ keptAs (now (store .entry)) part (now (numbers .entry)) ⌝ }
+{
     put(store, part, 0);
     let mut i: usize = 0;
     while i < numbers.len() {
@@ -97,6 +117,8 @@ pub(crate) fn keep(store: &mut [u32], part: usize, numbers: &[u32]) {
 }
 
 // The switch byte.
-pub(crate) fn switches(store: &[u32]) -> u8 {
+pub(crate) fn switches(store: &[u32]) -> u8
+    ensures { λ r. ⌜ r ≡ switchesIn (now (store .entry)) ⌝ }
+{
     low_byte(get(store, SWITCHES + 1))
 }

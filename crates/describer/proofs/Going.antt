@@ -1,19 +1,19 @@
 -- Reading entry by entry: what is known between entries, and how each turn goes.
 use mathlib.Core.Path.{_≡_, refl, sym, ap, subst, _∙_}
 use mathlib.Core.Bool.{Bool, true, false, cond, _&&_, _||_}
-use mathlib.Core.Option.{Option, none, some}
+use mathlib.Core.Option.{some}
 use mathlib.Core.List.{List, [], _∷_, _++_, map}
 use Prim.Native.Nat.{ℕ, zero, suc, _+_, _*_, _-_, _≤_, _<_}
 use native.Mathlib.Omega.{arith}
 use native.Mathlib.Numerals.{add-one}
-use borrow.Author.Tests.{lt-ltb, ltb-true}
+use borrow.Author.Tests.{ltb-true}
 use lib.Dec.{eqb, ltb}
-use lib.ListN.{length, getD, set, drop, length-set, length-append, List·getD-map}
-use lib.Seq.{sets, length-sets}
-use Rattle.description.specs.Grammar.{Entry, Row, row, Value, Condition, condition}
-use Rattle.description.specs.Reader.{Groups, enters, beginsLevel, awaiting, inside, level, label, Parts, parts, hasItem, ends, State, Reading, read, faulty, readText}
+use lib.ListN.{length, getD, take, drop, length-set, length-append, List·getD-map}
+use lib.Seq.{sets}
+use Rattle.description.specs.Grammar.{Entry, row, Condition, condition}
+use Rattle.description.specs.Reader.{Groups, enters, beginsLevel, awaiting, inside, level, label, Parts, parts, hasItem, ends, read, faulty, readText}
 use Rattle.description.specs.Stages.{inked, onward, parted, joined, clausesAt, nameAt, leveled, ownRow, ownRows}
-use Rattle.description.proofs.Bytes.{apart, eqb-no}
+use Rattle.description.proofs.Bytes.{eqb-no}
 use Rattle.description.proofs.Takes.{naming}
 use Rattle.description.proofs.Opening.{shut, level-ends}
 use Rattle.levels.specs.Stack.{opened, groupsOf, enteredBy, topped}
@@ -29,18 +29,18 @@ use Rattle.description.specs.declared.Clauses.{Clauses}
 use Rattle.description.specs.declared.Clauses.the-variants as Clauses
 use Rattle.description.specs.declared.Called.{Called}
 use Rattle.description.specs.declared.Called.the-variants as Called
-use Rattle.name_entries.specs.Taking.{tally}
-use Rattle.name_entries.specs.Named.{Span, Noted as NotesHold}
 use Rattle.entries.proofs.Bounds.{Wholes}
 use Rattle.entries.proofs.Leads.{groupsAfter, onEntry, entry-leads, entry-whole, Deep, entry-deep}
 use Rattle.noting.specs.Stored.{numbersOf, notedAt, notedFrom, pushed, waitingAfter, Scaled}
-use Rattle.storing.specs.Naming.{names, Kept, NameReady, Stepped, NameBy}
-use Rattle.storing.specs.Reads.{readingOf, ReadBy}
+use Rattle.storing.specs.Naming.{names, Stores, Kept, NameReady, NameBy}
+use Rattle.storing.specs.Reads.{readingOf, ReadBy, Beyond}
 use Rattle.storing.specs.declared.Names.{Names}
 use Rattle.storing.specs.declared.NameStep.{NameStep}
 use Rattle.storing.specs.declared.NameStep.the-variants.{Read, Fault as Faulty}
-use Rattle.describer.proofs.Labels.{none-kept, kept-item, kept-more}
 use Rattle.storing.specs.declared.Found.{Found}
+use Rattle.storing.proofs.Stored.{stored-alike}
+use Rattle.describer.proofs.Labels.{none-kept, kept-item, kept-more, literals-more}
+use Rattle.describer.proofs.Past.{found, beyond-item, beyond-step}
 use Rattle.noting.proofs.Flat.{kept, held-there, noted-same, noted-snoc}
 
 -- Without an item before it no entry is one of level 88.
@@ -80,9 +80,6 @@ pub record Going (text flat stack rows places notes : List ℕ) (depth waiting c
   pub deep : depth ≤ count
   pub wide : 821 ≤ length stack
   pub kept : Kept text (map entryOf exact) conditions s rows places notes
-
-abbrev pub found : ℕ → Bool → ℕ → Names → Found
-found n w p s = record { count = n; whole = w; place = p; names = s }
 
 abbrev pub Reads : List ℕ → List ℕ → List ℕ → List ℕ → List ℕ → Found → Type 0
 Reads text flat rows places notes r = ReadBy text (readText text) flat rows places notes r
@@ -147,7 +144,8 @@ module _ (text flat stack rows places notes : List ℕ) (depth waiting count at 
         reading = G .reading ∙ level-ends text at g d (omega arith) ∙ by (eqb waiting 0) (ltb 0 count) (rw (map-length (G .exact), G .counted)) ∙ rw e;
         few = omega (arith, G .few, G .inside);
         limit = G .kept .limit;
-        stores = λ w o. G .kept .stores o;
+        stores = G .kept .stores;
+        all = G .kept .all;
       })
     where
       by : (t n : Bool) → hasItem d ≡ n →
@@ -159,8 +157,9 @@ module _ (text flat stack rows places notes : List ℕ) (depth waiting count at 
       by false false i = refl
 
   -- An answer that is no description.
-  faulty-as : (p : ℕ) → readText text ≡ faulty d p → {r : Found} → r ≡ found count false p s → (rows′ places′ notes′ : List ℕ) → Reads text flat rows′ places′ notes′ r
-  faulty-as p f q rows′ places′ notes′ =
+  faulty-as : (p : ℕ) → readText text ≡ faulty d p → {r : Found} → r ≡ found count false p s → {notes′ : List ℕ} → Stores text (take (s .count) (G .conditions)) s rows places notes′ →
+      Reads text flat rows places notes′ r
+  faulty-as p f q S =
       rw q
       (record {
         exact = G .exact;
@@ -170,7 +169,8 @@ module _ (text flat stack rows places notes : List ℕ) (depth waiting count at 
         reading = f;
         few = omega (arith, G .few, G .inside);
         limit = G .kept .limit;
-        stores = λ w o. let z : _≡_ {A = ℕ} 0 1 = cc in absurd (omega arith);
+        stores = S;
+        all = G .kept .all;
       })
 
   module _ {p : ℕ} (e : p ≡ inked text at) (h : ¬ (p ≡ length text)) {r : EntryRead} (f : r ≡ capEntry (entryAt stack depth waiting (ltb 0 count) text p)) where
@@ -187,7 +187,7 @@ module _ (text flat stack rows places notes : List ℕ) (depth waiting count at 
 
     -- An entry that is faulty.
     pub faults : {k : ℕ} → r ≡ Fault k → {z : Found} → z ≡ found count false k s → Reads text flat rows places notes z
-    faults {k} i q = faulty-as k (leads ∙ by (entryAt stack depth waiting (ltb 0 count) text p) (sym i ∙ f)) q rows places notes
+    faults {k} i q = faulty-as k (leads ∙ by (entryAt stack depth waiting (ltb 0 count) text p) (sym i ∙ f)) q (G .kept .stores)
       where
         by : (z : EntryRead) → Fault k ≡ capEntry z → onEntry stack g p text d z ≡ faulty d k
         by (Whole y n m) i = let z : _≡_ {A = ℕ} 0 1 = cc in absurd (omega arith)
@@ -233,31 +233,27 @@ module _ (text flat stack rows places notes : List ℕ) (depth waiting count at 
 
       pub name-ready : {nrow : List ℕ} → (1152 ≤ length rows) × (64 ≤ length places) × (448 ≤ length notes) × (length nrow ≡ 18) → 5747 ≤ length flat →
           NameReady text p flat count s rows places notes nrow
-      name-ready {nrow} w m = by (s .over) refl
-        where
-          made : (ss : List Span) → (s .over ≡ false → NotesHold text notes (tally false 0 (s .literals) (s .bytes)) ss) → NameReady text p flat count s rows places notes nrow
-          made ss f =
-              record {
-                inside = inside-name;
-                short = short;
-                some = some-item;
-                few = omega (arith, G .few, G .inside, short);
-                held = omega (arith, G .few, G .inside, short, m);
-                wide = w;
-                spans = ss;
-                noted = f;
-              }
+      name-ready w m =
+          record {
+            inside = inside-name;
+            short = short;
+            some = some-item;
+            few = omega (arith, G .few, G .inside, short);
+            held = omega (arith, G .few, G .inside, short, m);
+            wide = w;
+            spans = G .kept .stores .spans;
+            noted = λ _. G .kept .stores .noted;
+          }
 
-          by : (t : Bool) → s .over ≡ t → NameReady text p flat count s rows places notes nrow
-          by true o = made [] (λ x. apart o x)
-          by false o = made (G .kept .stores o .spans) (λ x. G .kept .stores o .noted)
-
-      module _ {rows′ places′ notes′ : List ℕ} where
-        pub name-fault : {k : ℕ} → NameBy text p flat count s rows places notes (Faulty k) rows′ places′ notes′ → {z : Found} → z ≡ found count false k s →
+      module _ {rows′ places′ notes′ nrow′ : List ℕ} where
+        pub name-fault : {k : ℕ} → NameBy text p flat count s rows places notes (Faulty k) rows′ places′ notes′ nrow′ → {z : Found} → z ≡ found count false k s →
             Reads text flat rows′ places′ notes′ z
-        name-fault {k} N q = faulty-as k (name-leads ∙ N .by (naming g p d)) q rows′ places′ notes′
+        name-fault {k} N q =
+            let m = N .by .1 in
+            rw (m .named, m .placed) (faulty-as k (name-leads ∙ N .by .0 (naming g p d)) q (stored-alike (m .spared .counted) (G .kept .stores)))
 
-        module _ {r′ : Names} {k : ℕ} (w : (1152 ≤ length rows) × (64 ≤ length places)) (N : NameBy text p flat count s rows places notes (Read r′ k) rows′ places′ notes′) where
+        module _ {r′ : Names} {k : ℕ} (w : (1152 ≤ length rows) × (64 ≤ length places))
+            (N : NameBy text p flat count s rows places notes (Read r′ k) rows′ places′ notes′ nrow′) where
           abbrev c : Condition
           c = condition (length es - 1) p (inked text (p + 2)) (N .values)
 
@@ -266,8 +262,14 @@ module _ (text flat stack rows places notes : List ℕ) (depth waiting count at 
 
           kept-name : Kept text es (G .conditions ++ c ∷ []) r′ rows′ places′ notes′
           kept-name =
-              kept-more (G .kept) p count flat y (N .values) r′ rows′ places′ notes′ own there
+              kept-more (G .kept) p count flat y (N .values) r′ rows′ places′ notes′ nrow′ own there
               (omega (arith, map-length (G .exact), G .counted)) (omega (arith, map-length (G .exact), G .counted, some-item)) w (N .by .3)
+
+          pub name-beyond : {flat₀ stack₀ rows₀ places₀ notes₀ nrow : List ℕ} → Beyond (found count true 0 s) flat₀ stack₀ rows₀ places₀ notes₀ flat stack rows places notes nrow →
+              length nrow′ ≡ 18 → Beyond (found count true 0 r′) flat₀ stack₀ rows₀ places₀ notes₀ flat stack rows′ places′ notes′ nrow′
+          name-beyond B l =
+              beyond-step B p flat (N .by .3) (literals-more (G .kept) p count flat y (N .values) r′ rows′ places′ notes′ nrow′ own there
+              (omega (arith, map-length (G .exact), G .counted)) (omega (arith, map-length (G .exact), G .counted, some-item)) w (N .by .3)) l
 
           pub name-stops : parted (drop k text) ≡ false → {z : Found} → z ≡ found count false k r′ → Reads text flat rows′ places′ notes′ z
           name-stops b q =
@@ -280,7 +282,8 @@ module _ (text flat stack rows places notes : List ℕ) (depth waiting count at 
                 reading = name-joins ∙ rw b;
                 few = omega (arith, G .few, G .inside, short);
                 limit = kept-name .limit;
-                stores = λ w o. let z : _≡_ {A = ℕ} 0 1 = cc in absurd (omega arith);
+                stores = kept-name .stores;
+                all = kept-name .all;
               })
 
           pub name-goes : parted (drop k text) ≡ true → Going text flat stack rows′ places′ notes′ depth waiting count k r′
@@ -390,7 +393,8 @@ module _ (text flat stack rows places notes : List ℕ) (depth waiting count at 
             reading = joins ∙ rw b;
             few = omega (arith, G .few, X .ends, e);
             limit = kept-after .limit;
-            stores = λ w o. let z : _≡_ {A = ℕ} 0 1 = cc in absurd (omega arith);
+            stores = kept-after .stores;
+            all = kept-after .all;
           })
 
       top : opened (pushed stack n (x .level)) n ≡ topped stack (x .level) n
@@ -438,9 +442,14 @@ module _ (text flat stack rows places notes : List ℕ) (depth waiting count at 
             kept = kept-after;
           }
 
+      pub item-beyond : {flat₀ stack₀ rows₀ places₀ notes₀ nrow : List ℕ} → Beyond (found count true 0 s) flat₀ stack₀ rows₀ places₀ notes₀ flat stack rows places notes nrow →
+          Beyond (found (count + 1) true 0 s) flat₀ stack₀ rows₀ places₀ notes₀ after (pushed stack n (x .level)) rows places notes nrow
+      item-beyond B = beyond-item B x n (omega (arith, X .near .0, G .deep))
+
       pub further : (at < k) × (k ≤ length text)
       further = (omega (arith, X .ends .0, e), X .ends .1)
 
-pub step-as : {text : List ℕ} {p : ℕ} {flat : List ℕ} {count : ℕ} {s : Names} {rows places notes rows-after places-after notes-after : List ℕ} {r z : NameStep} →
-    NameBy text p flat count s rows places notes r rows-after places-after notes-after → r ≡ z → NameBy text p flat count s rows places notes z rows-after places-after notes-after
+pub step-as : {text : List ℕ} {p : ℕ} {flat : List ℕ} {count : ℕ} {s : Names} {rows places notes rows-after places-after notes-after row-after : List ℕ} {r z : NameStep} →
+    NameBy text p flat count s rows places notes r rows-after places-after notes-after row-after → r ≡ z →
+    NameBy text p flat count s rows places notes z rows-after places-after notes-after row-after
 step-as N q = rw (← q) N

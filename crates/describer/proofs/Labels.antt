@@ -1,17 +1,17 @@
 -- One level 88 entry more, and one entry of an item more: what the buffers hold.
-use mathlib.Core.Path.{_≡_, refl, sym, ap, subst, _∙_}
-use mathlib.Core.Bool.{Bool, true, false, cond, not, _&&_, _||_}
+use mathlib.Core.Path.{_≡_, refl, sym, ap, _∙_}
+use mathlib.Core.Bool.{Bool, true, false, cond, not, _||_}
 use mathlib.Core.Option.{Option, none, some}
 use mathlib.Core.List.{List, [], _∷_, _++_, map, append-assoc}
-use Prim.Native.Nat.{ℕ, zero, suc, _+_, _*_, _-_, _≤_, _<_, min}
+use Prim.Native.Nat.{ℕ, suc, _+_, _*_, _-_, _≤_, _<_}
 use native.Mathlib.Omega.{arith}
 use native.Mathlib.Numerals.{add-one}
-use borrow.Author.Tests.{leb-true, leb-false, ltb-false, eqb-true, eqb-false}
+use borrow.Author.Tests.{leb-false, eqb-true, eqb-false}
 use lib.Dec.{eqb, leb, ltb}
-use lib.ListN.{length, getD, take, drop, set, replicate, length-append, length-replicate, List·getD-append}
-use lib.Seq.{sets, take-suc-set}
+use lib.ListN.{length, getD, take, drop, replicate, length-append, length-replicate, length-take, List·getD-append}
+use lib.Seq.{sets, take-all, take-append-le, take-suc-set}
 use Rattle.content.specs.declared.Row as Rules
-use Rattle.description.specs.Grammar.{Entry, Content, group, item, Row, row, Literal, Value, single, range, Condition, condition, Pair, NameRow}
+use Rattle.description.specs.Grammar.{Entry, group, item, Row, row, Literal, Value, single, range, Condition, condition, NameRow}
 use Rattle.description.specs.Grammar.{nameRow, pairs, literals, nameRows, literalsOf, literalBytes}
 use Rattle.description.specs.Limits.{comparable, barred, anyBarred, overName, Mark, mark, nameMarks}
 use Rattle.description.specs.Stages.{inked, firstOver, ownRow, ownRows}
@@ -19,14 +19,13 @@ use Rattle.description.proofs.Bytes.{apart, eqb-no}
 use Rattle.description.proofs.Firsts.{any-alike}
 use Rattle.value_weights.specs.Weights.{shown}
 use Rattle.entries.specs.declared.Noted.{Noted}
-use Rattle.entries.specs.Entries.{cap, capNoted, contentOf, entryOf}
-use Rattle.name_entries.specs.Taking.{tally}
-use Rattle.name_entries.specs.Named.{Span, literalsIn, notesOf, pairNumbers, overValues, Left, Held, Noted as NotesHold}
-use Rattle.name_entries.specs.declared.Tally.{Tally}
+use Rattle.entries.specs.Entries.{cap, capNoted, entryOf}
+use Rattle.name_entries.specs.Named.{literalsIn, notesOf, pairNumbers, Left, Held, Noted as NotesHold}
 use Rattle.name_entries.proofs.Holding.{in-append, in-length, numbers-length, taken-next}
 use Rattle.noting.specs.Stored.{notedAt}
 use Rattle.storing.specs.Naming.{itemRow, names, startOf, passedBy, rowNumbers, nameNumbers, nameOf, limitOf, Items, Stores, Kept, NameStored, Stepped}
 use Rattle.storing.specs.declared.Names.{Names}
+use Rattle.storing.proofs.Stored.{all-stored, stored-alike, passed-over, passed-count, stored-passed}
 
 -- Lists that grow at their ends.
 marks-append : (n k : ℕ) (rs : List Row) (cs : List Condition) (c : Condition) →
@@ -108,6 +107,7 @@ kept-item {es = es} {cs = cs} e k =
     record {
       limit = rw (own-grows 0 0 es e cs (k .items)) (k .limit);
       stores = k .stores;
+      all = k .all;
       items = items-more (length es) (length (es ++ e ∷ [])) (omega (arith, length-append es (e ∷ []))) cs (k .items);
     }
 
@@ -175,10 +175,10 @@ over-form a e n m f k l g x y h c d = rw (e, f, g, h) (by (leb 64 m) (ltb 64 (l 
 
 -- One level 88 entry more.
 module _ {text : List ℕ} {es : List Entry} {cs : List Condition} {s : Names} {rows places notes : List ℕ} (k : Kept text es cs s rows places notes)
-    (p count : ℕ) (flat : List ℕ) (y : Noted) (vs : List Value) (r : Names) (rows-after places-after notes-after : List ℕ)
+    (p count : ℕ) (flat : List ℕ) (y : Noted) (vs : List Value) (r : Names) (rows-after places-after notes-after row-after : List ℕ)
     (last : getD (ownRows es) (length es - 1) (row 0 0 0 0 0) ≡ ownRow (entryOf y .content)) (there : notedAt flat (count - 1) ≡ capNoted y) (counted : count ≡ length es)
     (some-item : 0 < length es) (wide : (1152 ≤ length rows) × (64 ≤ length places))
-    (t : Stepped text p flat count s rows places notes vs r rows-after places-after notes-after) where
+    (t : Stepped text p flat count s rows places notes vs r rows-after places-after notes-after row-after) where
   abbrev c : Condition
   c = condition (length es - 1) p (inked text (p + 2)) vs
 
@@ -198,7 +198,7 @@ module _ {text : List ℕ} {es : List Entry} {cs : List Condition} {s : Names} {
   -- the names so far are stored, and the notes hold their literals
   module _ (fine : s .over ≡ false) where
     abbrev S : Stores text cs s rows places notes
-    S = k .stores fine
+    S = all-stored (k .all fine) (k .stores)
 
     ready : (x : s .over || leb 64 (s .count) ≡ false) → NotesHold text notes (startOf s) (S .spans)
     ready x =
@@ -241,58 +241,87 @@ module _ {text : List ℕ} {es : List Entry} {cs : List Condition} {s : Names} {
           last-step true = rw i
           last-step false = refl
 
-  stores-more : r .over ≡ false → Stores text (cs ++ c ∷ []) r rows-after places-after notes-after
-  stores-more e = by (s .over) refl (t .tallied .over) refl
-    where
-      by : (a : Bool) → s .over ≡ a → (b : Bool) → t .tallied .over ≡ b → Stores text (cs ++ c ∷ []) r rows-after places-after notes-after
-      by true i true j = apart refl (rw (t .is, j, i) at e)
-      by true i false j = apart (t .held [] (λ x. apart (rw i) x) .over ∙ rw i) j
-      by false i true j = apart refl (rw (t .is, j, i) at e)
-      by false i false j = rw (t .is, j) made
-        where
-          store : Stores text cs s rows places notes
-          store = k .stores i
+  -- it passes no limit
+  module _ (j : t .tallied .over ≡ false) where
+    fine-before : s .over ≡ false
+    fine-before = by (s .over) refl
+      where
+        by : (a : Bool) → s .over ≡ a → s .over ≡ false
+        by true i = apart (t .held [] (λ x. apart (rw i) x) .over ∙ rw i) j
+        by false i = i
 
-          left : Left text (store .spans) vs (t .tallied) (t .row) notes-after
-          left = H i .left j
+    abbrev store : Stores text cs s rows places notes
+    store = S fine-before
 
-          below : s .count < 64
-          below = leb-false 64 (s .count) (or-no (s .over) (leb 64 (s .count)) (or-no (s .over || leb 64 (s .count)) _ (sym (H i .over) ∙ j) .0) .1)
+    abbrev left : Left text (store .spans) vs (t .tallied) (t .row) notes-after
+    left = H fine-before .left j
 
-          stored : NameStored (s .count) (count - 1) (t .tallied .values) (inked text (p + 2)) rows places (t .row) rows-after places-after
-          stored = t .stored j
+    below : s .count < 64
+    below = leb-false 64 (s .count) (or-no (s .over) (leb 64 (s .count)) (or-no (s .over || leb 64 (s .count)) _ (sym (H fine-before .over) ∙ j) .0) .1)
 
-          made : Stores text (cs ++ c ∷ []) (names false 0 (s .count + 1) (t .tallied .literals) (t .tallied .bytes)) rows-after places-after notes-after
-          made =
+    abbrev stored : NameStored (s .count) (count - 1) (t .tallied .values) (inked text (p + 2)) rows places (t .row) rows-after places-after row-after
+    stored = t .stored j
+
+    pub literals-more : (s .over ≡ false) × (s .literals ≤ t .tallied .literals) × (t .tallied .literals ≤ 64)
+    literals-more = (fine-before, omega (arith, store .noted .counted, left .noted .counted, length-append (store .spans) (left .spans)), left .noted .few)
+
+    made : Stores text (cs ++ c ∷ []) (names false 0 (s .count + 1) (t .tallied .literals) (t .tallied .bytes)) rows-after places-after notes-after
+    made =
+        record {
+          spans = store .spans ++ left .spans;
+          noted =
               record {
-                spans = store .spans ++ left .spans;
-                noted =
-                    record {
-                      laid = left .noted .laid;
-                      standing = left .noted .standing;
-                      counted = left .noted .counted;
-                      sized = left .noted .sized;
-                      few = left .noted .few;
-                      small = left .noted .small;
-                    };
-                valued = in-append text (store .spans) (left .spans) ∙ rw (store .valued, left .valued) (sym (of-append cs c));
-                counted = omega (arith, store .counted, length-append cs (c ∷ []));
-                few = omega (arith, below);
-                named = named-more (s .count) (count - 1) (t .tallied .values) (t .row) rows rows-after cs c (length (store .spans)) (literal-count i) (store .named)
-                    (left .paired) (omega (arith, left .few, left .values)) (left .values) (omega (arith, counted)) (stored .stored) (omega (arith, below, wide .0));
-                placed = rw (add-one, stored .placed) (take-suc-set places (s .count) (inked text (p + 2)) (omega (arith, below, wide .1))
-                    ∙ rw (store .placed) (sym (map-snoc cs c)));
-              }
+                laid = left .noted .laid;
+                standing = left .noted .standing;
+                counted = left .noted .counted;
+                sized = left .noted .sized;
+                few = left .noted .few;
+                small = left .noted .small;
+              };
+          valued = in-append text (store .spans) (left .spans) ∙ rw (store .valued, left .valued) (sym (of-append cs c));
+          counted = omega (arith, store .counted, length-append cs (c ∷ []));
+          few = omega (arith, below);
+          named = named-more (s .count) (count - 1) (t .tallied .values) (t .row) rows rows-after cs c (length (store .spans)) (literal-count fine-before) (store .named)
+              (left .paired) (omega (arith, left .few, left .values)) (left .values) (omega (arith, counted))
+              (stored .stored ∙ ap (sets rows (s .count * 18)) (stored .is)) (omega (arith, below, wide .0));
+          placed = rw (add-one, stored .placed) (take-suc-set places (s .count) (inked text (p + 2)) (omega (arith, below, wide .1))
+              ∙ rw (store .placed) (sym (map-snoc cs c)));
+        }
+
+  stores-more : Stores text (take (r .count) (cs ++ c ∷ [])) r rows-after places-after notes-after
+  stores-more = by (t .tallied .over) refl
+    where
+      few : s .count ≤ length cs
+      few = omega (arith, k .stores .counted, length-take (s .count) cs)
+
+      -- none is stored
+      same : t .tallied .over ≡ true → Stores text (take (s .count) (cs ++ c ∷ [])) s rows-after places-after notes-after
+      same j =
+          let n = t .passed j in
+          rw (take-append-le (s .count) cs (c ∷ []) few, n .named, n .placed) (stored-alike (n .spared .counted) (k .stores))
+
+      by : (b : Bool) → t .tallied .over ≡ b → Stores text (take (r .count) (cs ++ c ∷ [])) r rows-after places-after notes-after
+      by true j = rw (t .is, j, passed-count s p) (stored-passed s p (same j))
+      by false j =
+          let n : take (s .count + 1) (cs ++ c ∷ []) ≡ cs ++ c ∷ [] = take-all (s .count + 1) (cs ++ c ∷ []) (omega (arith, k .all (fine-before j), length-append cs (c ∷ []))) in
+          rw (t .is, j, n) (made j)
+
+  all-more : r .over ≡ false → r .count ≡ length (cs ++ c ∷ [])
+  all-more e = by (t .tallied .over) refl
+    where
+      by : (b : Bool) → t .tallied .over ≡ b → r .count ≡ length (cs ++ c ∷ [])
+      by true j = apart (passed-over s p) (rw (t .is, j) at e)
+      by false j = rw (t .is, j) (omega (arith, k .all (fine-before j), length-append cs (c ∷ [])))
 
   pub kept-more : Kept text es (cs ++ c ∷ []) r rows-after places-after notes-after
-  kept-more = record { limit = limit-more; stores = stores-more; items = items-append (length es) cs c (k .items) (omega arith) }
+  kept-more = record { limit = limit-more; stores = stores-more; all = all-more; items = items-append (length es) cs c (k .items) (omega arith) }
 
 pub none-kept : (text rows places notes : List ℕ) → Kept text [] [] (names false 0 0 0 0) rows places notes
 unfolding firstOver nameMarks nameNumbers nameRows literalsIn literalsOf notesOf literalBytes
 none-kept text rows places notes =
     record {
       limit = refl;
-      stores = λ e.
+      stores =
           record {
             spans = [];
             noted = record { laid = refl; standing = tt; counted = refl; sized = refl; few = omega arith; small = omega arith };
@@ -302,5 +331,6 @@ none-kept text rows places notes =
             named = refl;
             placed = refl;
           };
+      all = λ e. refl;
       items = tt;
     }

@@ -1,2 +1,3 @@
 pub mod Labels
+pub mod Past
 pub mod Going

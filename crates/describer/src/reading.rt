@@ -4,7 +4,7 @@ ghost use Prim.Native.Nat.{_≤_};
 ghost use lib.ListN.{length, drop};
 ghost use Rattle.description.specs.Reader.{readText};
 ghost use Rattle.description.specs.Stages.{parted};
-ghost use Rattle.storing.specs.Reads.{ReadBy};
+ghost use Rattle.storing.specs.Reads.{ReadBy, Beyond};
 ghost use Rattle.tables.specs.Rows.{nameWidth};
 use entries::EntryRead;
 use entries::entry::entry_at;
@@ -40,8 +40,7 @@ fn found(count: usize, whole: bool, place: usize, names: Names) -> Found
 }
 
 // The entries of a text of at most 4,096 bytes: items in seven numbers each, names in eighteen, the places
-// of these, literals in seven. `stack` is for the open groups, `row` for a name's pairs. Free: what these two hold afterwards, and the others
-// beyond what is counted.
+// of these, literals in seven. `stack` is for the open groups, `row` for a name's pairs. What is free afterwards: `Beyond`.
 pub fn read_entries(
     text: &[u8],
     entries: &mut [u32],
@@ -54,6 +53,7 @@ pub fn read_entries(
     requires { ⌜ (length (now text) ≤ 4096) × ((5747 ≤ length (now entries)) × (821 ≤ length (now stack))) ⌝ }
     requires { ⌜ (1152 ≤ length (now names)) × ((64 ≤ length (now places)) × ((448 ≤ length (now notes)) × (length (now row) ≡ nameWidth))) ⌝ }
     ensures { λ r. ⌜ ReadBy (now (text .entry)) (readText (now (text .entry))) (now (entries .exit)) (now (names .exit)) (now (places .exit)) (now (notes .exit)) r ⌝ }
+    ensures { λ r. ⌜ Beyond r (now (entries .entry)) (now (stack .entry)) (now (names .entry)) (now (places .entry)) (now (notes .entry)) (now (entries .exit)) (now (stack .exit)) (now (names .exit)) (now (places .exit)) (now (notes .exit)) (now (row .exit)) ⌝ }
 {
     let mut depth: usize = 0;
     let mut waiting: u32 = 0;

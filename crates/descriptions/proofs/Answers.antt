@@ -25,12 +25,14 @@ use Rattle.storing.specs.declared.Names.{Names}
 use Rattle.noting.specs.Stored.{notedFrom}
 use Rattle.storing.specs.Naming.{limitOf, Stores}
 use Rattle.storing.specs.Reads.{readingOf, ReadBy}
+use Rattle.storing.proofs.Stored.{all-stored}
 use Rattle.layouts.specs.declared.Laid.{Laid}
 use Rattle.layouts.specs.declared.Laid.the-variants.{Over, Fine}
 use Rattle.layouts.specs.Layouts.{firstOver, entriesIn, rowNumbers, overPlace, LaidOut}
+use Rattle.layouts.proofs.Laying.{all-laid}
 use Rattle.layouts.proofs.Capping.{first-caps, rows-same, first-marks}
-use Rattle.name_entries.specs.Taking.{tally}
-use Rattle.name_entries.specs.declared.Tally.{Tally}
+use Rattle.value_notes.specs.Taking.{tally}
+use Rattle.value_notes.specs.declared.Tally.{Tally}
 use Rattle.outputs.specs.Noted.{namedOf, rowsFrom, bytesFrom}
 use Rattle.outputs.proofs.Copying.{named-length, rows-length}
 use Rattle.outputs.proofs.Noting.{rows-noted, bytes-noted, words-noted}
@@ -61,7 +63,7 @@ module _ (text flat named spots notes : List ℕ) (r : Found) where
         reading = rw (leb-so l) (R .reading);
         few = R .few;
         smallest = smallest-of text (r .whole) (map entryOf (R .exact)) (R .conditions) (r .place) (r .names) (R .reading) (R .limit);
-        stores = R .stores;
+        stores = λ w o. all-stored (R .all o) (R .stores);
       }
 
   module _ (l : 4096 < length text) (R : ReadBy (take 4096 text) (readText (take 4096 text)) flat named spots notes r) where
@@ -154,7 +156,7 @@ judged-faulty : (w : Bool) (d : Parts) (p : ℕ) → w ≡ false → least (mark
 judged-faulty w d p h k = rw (h, k)
 
 -- The answer.
-module _ (text flat named spots notes laid : List ℕ) (r : Found) (R : ReadsWithin text flat named spots notes r) {x z : Laid} (L : LaidOut flat (r .count) x laid)
+module _ (text flat named spots notes laid : List ℕ) (r : Found) (R : ReadsWithin text flat named spots notes r) {x z : Laid} {before : List ℕ} (L : LaidOut flat (r .count) x before laid)
     (B : SoonerBy x (r .names) z) where
   abbrev ys : List Noted
   ys = R .exact
@@ -227,7 +229,7 @@ module _ (text flat named spots notes laid : List ℕ) (r : Found) (R : ReadsWit
     rowsAre : rowsOf t ≡ take (r .count * 5) laid
     rowsAre =
         let f : layout 0 (map entryOf ys) ≡ layout 0 (entriesIn flat 0 (r .count)) = rows-same 0 0 ys (R .scaled) none-over ∙ ap (layout 0) (sym entries-are) in
-        ap rowNumbers f ∙ sym (L .laid item-fine)
+        ap rowNumbers f ∙ sym (all-laid flat (r .count) L item-fine)
 
     placesAre : placesOf t ≡ map namedOf (notedFrom flat 0 (r .count))
     placesAre = by ys ∙ ap (map namedOf) (sym (R .held))

@@ -6,8 +6,8 @@ use Rattle.layouts.specs.Layouts.{LaidOut}
 use Rattle.describing.specs.Calls.{ReadsWithin, SoonerBy}
 use Rattle.descriptions.specs.declared.Parsed.{Parsed}
 
-pub record Parses (text flat named spots notes laid : List ℕ) (r : Parsed) : Type 0 where
+pub record Parses (text flat named spots notes before laid : List ℕ) (r : Parsed) : Type 0 where
   pub read : ReadsWithin text flat named spots notes (r .found)
   pub rows : Laid
-  pub lays : LaidOut flat (r .found .count) rows laid
+  pub lays : LaidOut flat (r .found .count) rows before laid
   pub sooner : SoonerBy rows (r .found .names) (r .laid)

@@ -87,7 +87,7 @@ fn parse(
 ) -> Parsed
     requires { ⌜ (5747 ≤ length (now entries)) × ((1152 ≤ length (now named)) × ((64 ≤ length (now spots)) × (448 ≤ length (now notes)))) ⌝ }
     requires { ⌜ 320 ≤ length (now rows) ⌝ }
-    ensures { λ r. ⌜ Parses (now (text .entry)) (now (entries .exit)) (now (named .exit)) (now (spots .exit)) (now (notes .exit)) (now (rows .exit)) r ⌝ }
+    ensures { λ r. ⌜ Parses (now (text .entry)) (now (entries .exit)) (now (named .exit)) (now (spots .exit)) (now (notes .exit)) (now (rows .entry)) (now (rows .exit)) r ⌝ }
 {
     let found = read_within(text, entries, named, spots, notes);
     let kept = found.names;

@@ -1,16 +1,12 @@
 -- The sides of a row on one record of a block.
 use mathlib.Core.Path.{_≡_, refl, ap, ap₂, subst, subst⁻¹}
-use mathlib.Core.Bool.{Bool, true, false, cond, false≢true}
+use mathlib.Core.Bool.{Bool, true, false, cond}
 use mathlib.Core.List.{List}
-use Prim.Native.Nat.{ℕ, _+_, _-_, _*_, _≤_}
-use native.Mathlib.Omega.{arith}
-use lib.ListN.{length, take, drop, length-take, length-drop}
-use Rattle.tables.specs.declared.Outcome.{Outcome}
+use Prim.Native.Nat.{ℕ}
 use Rattle.content.specs.declared.Row.{Row}
 use Rattle.tables.specs.Rows.{part}
 use Rattle.tables.specs.Tokens.{isItem}
 use Rattle.tables.specs.Operands.{Lent, rowOf, operandBytes}
-use Rattle.tables.proofs.Bytes.{row-facts}
 use Rattle.tables.proofs.Tests.{both}
 use Rattle.typing.specs.declared.Test.the-variants.{Relation, Class}
 use Rattle.typing.specs.Tests.{testOf}
@@ -18,25 +14,6 @@ use Rattle.typing.specs.Typing.{typed}
 use Rattle.values.specs.Comparison.{Side, side, sideOf}
 use Rattle.values.specs.Truth.{relationOutcome, classOutcome, outcome, Readable, Fit, Sided}
 use Rattle.values.proofs.Reading.{read-class}
-use Rattle.block_truths.specs.Columns.{recordAt, Right}
-
--- a record that starts at its place
-pub at-record : {base : ℕ} (records : List ℕ) (from size j : ℕ) → base ≡ from + j * size → take (base + size - base) (drop base records) ≡ recordAt records from size j
-at-record {base} records from size j e = let width : base + size - base ≡ size = omega arith in rw (width, e)
-
--- a truth is right for what is the same
-pub right-for : {one other : Outcome} {truth : ℕ} → one ≡ other → Right one truth → Right other truth
-right-for {one} {other} {truth} e r = subst (λ (o : Outcome). Right o truth) e r
-
--- an item that has its bytes lies in the record
-pub part-inside : (item : Bool) (row : Row) (bytes : List ℕ) → Fit (side item row (part row bytes)) → row .offset + row .size ≤ length bytes
-part-inside item row bytes f =
-    omega (arith, f .sized, length-take (row .size) (drop (row .offset) bytes), length-drop (row .offset) bytes, row-facts row (f .sound) .some)
-
-pub item-inside : (item : Bool) (row : Row) (bytes literal : List ℕ) → Fit (side item row (cond item (part row bytes) literal)) → item ≡ true
-    → row .offset + row .size ≤ length bytes
-item-inside true row bytes literal f i = part-inside true row bytes f
-item-inside false row bytes literal f i = absurd (false≢true i)
 
 -- the side of an operand on a record: its row and whether it is an item do not change, nor do the bytes of a literal
 module _ (lent : Lent) (first content : List ℕ) (token : ℕ) {item : Bool} {row : Row} {bytes : List ℕ} (i : item ≡ isItem token) (r : row ≡ rowOf lent token)

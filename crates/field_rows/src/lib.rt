@@ -1,4 +1,3 @@
 // A row of a plan over a block of records whose sides are any fields: each record by itself, with the sides looked up once for the block.
 
-pub mod each; // a relation or a class test of each record
 pub mod rows; // which rows are judged so

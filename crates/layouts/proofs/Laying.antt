@@ -8,15 +8,18 @@ use native.Mathlib.Omega.{arith}
 use native.Mathlib.Numerals.{add-one}
 use borrow.Author.Tests.{eqb-true, leb-true, leb-false, not-false}
 use lib.Dec.{eqb, leb, ltb}
-use lib.ListN.{length, getD, take, drop, set, length-take, length-append}
-use lib.Seq.{sets, sets-eq, take-append-le, take-at, length-take-le, take-add, length-sets}
+use lib.ListN.{length, getD, take, drop, set, length-append, length-map}
+use lib.Seq.{sets, sets-eq, take-at, drop-at, drop-drop}
 use Rattle.description.specs.Grammar.{Row, row, Entry, group, item, isSigned, groupKind}
 use Rattle.description.specs.Reader.{sizeOf, below, signedBelow, rowOf, layout}
 use Rattle.description.specs.Limits.{most, over, passes}
 use Rattle.description.proofs.Bytes.{apart, eqb-no}
+use Rattle.description.proofs.Keeping.{layout-length}
+use Rattle.tables.proofs.Front.{Front, front-none, front-length}
 use Rattle.entries.specs.Entries.{contentOf, entryOf}
 use Rattle.noting.specs.Stored.{notedAt, notedFrom}
-use Rattle.layouts.specs.Layouts.{firstOver, shownRow, entriesIn, Sized, Signed, Summed, rowIn, numbersOf, rowNumbers, overPlace, LaidOut}
+use Rattle.noting.proofs.Flat.{noted-length}
+use Rattle.layouts.specs.Layouts.{firstOver, rowsWithin, writtenRows, shownRow, entriesIn, Sized, Signed, Summed, rowIn, numbersOf, rowNumbers, overPlace, LaidOut}
 use Rattle.layouts.specs.declared.ItemRow.{ItemRow}
 use Rattle.layouts.specs.declared.Laid.{Laid}
 use Rattle.layouts.specs.declared.Laid.the-variants.{Over, Fine}
@@ -150,58 +153,117 @@ row-stores l a r =
     let e : a + 4 ≡ suc (suc (suc (suc a))) = omega arith in
     rw (b, c, d, e)
 
+-- Numbers stored behind those that stand.
+front-sets : {w before now : List ℕ} {k : ℕ} (vs : List ℕ) → Front w before k now → k + length vs ≤ length before → Front (w ++ vs) before (k + length vs) (sets now k vs)
+front-sets {w} {before} {now} {k} vs f l =
+    let a : take k now ≡ w = rw (f .holds) (take-at w (drop k before) k (sym (f .size))) in
+    let b : drop k now ≡ drop k before = rw (f .holds) (drop-at w (drop k before) k (sym (f .size))) in
+    record {
+      size = omega (arith, f .size, length-append w vs);
+      fits = l;
+      holds = sets-eq vs now k (omega (arith, front-length f)) ∙ rw (a, ← drop-drop (length vs) k now, b, drop-drop (length vs) k before);
+    }
+
+numbers-length : (rs : List Row) → length (rowNumbers rs) ≡ length rs * 5
+unfolding rowNumbers
+numbers-length [] = refl
+numbers-length (r ∷ rs) = omega (arith, numbers-length rs)
+
+numbers-more : (rs : List Row) (r : Row) → rowNumbers (rs ++ r ∷ []) ≡ rowNumbers rs ++ numbersOf r
+unfolding rowNumbers
+numbers-more [] r = refl
+numbers-more (s ∷ rs) r = ap (λ (v : List ℕ). numbersOf s ++ v) (numbers-more rs r)
+
 -- The rows up to i.
 module _ (flat : List ℕ) (n : ℕ) where
   abbrev es : List Entry
   es = entriesIn flat 0 n
 
-  pub record Laying (rows : List ℕ) (o i : ℕ) : Type 0 where
+  pub record Laying (before rows : List ℕ) (o i : ℕ) : Type 0 where
     pub limit : firstOver 0 es (layout 0 es) ≡ firstOver i (entriesIn flat i n) (layout o (entriesIn flat i n))
-    pub laid : rowNumbers (layout 0 es) ≡ take (i * 5) rows ++ rowNumbers (layout o (entriesIn flat i n))
+    pub done : List Row
+    pub counted : length done ≡ i
+    pub all : writtenRows flat n ≡ done ++ rowsWithin i (layout o (entriesIn flat i n))
+    pub front : Front (rowNumbers done) before (i * 5) rows
     pub within : i ≤ n
     pub few : i ≤ 64
     pub low : o ≤ 4294967295 * i
 
-  pub lay-none : (rows : List ℕ) → Laying rows 0 0
-  lay-none rows = record { limit = refl; laid = refl; within = omega arith; few = omega arith; low = omega arith }
-
-  module _ (rows : List ℕ) (o i : ℕ) (L : Laying rows o i) (l : i < n) {r : Row} (e : r ≡ rowIn flat i n o) where
-    pub lay-over : {p : ℕ} → over i r ≡ true → p ≡ getD flat (i * 7 + 1) 0 → LaidOut flat n (Over p) rows
-    unfolding firstOver layout
-    lay-over h f =
-        let k : over i (rowIn flat i n o) ≡ true = rw (← e) h in
-        record {
-          limit = L .limit ∙ rw (entries-cons flat i n l, k, f);
-          laid = λ x. let z : _≡_ {A = ℕ} 0 1 = cc in absurd (omega arith);
-          few = λ x. let z : _≡_ {A = ℕ} 0 1 = cc in absurd (omega arith);
-        }
-
-    pub lay-more : {s : ℕ} → over i r ≡ false → i * 5 + 4 < length rows → Sized flat i s → Laying (sets rows (i * 5) (numbersOf r)) (o + s) (i + 1)
-    unfolding firstOver layout rowNumbers
-    lay-more {s} h m z =
-        let k : over i (rowIn flat i n o) ≡ false = rw (← e) h in
-        record {
-          limit = L .limit ∙ rw (entries-cons flat i n l, k, add-one i, z .is);
-          laid = L .laid ∙ rw (entries-cons flat i n l, ← e)
-              (sym (append-assoc (take (i * 5) rows) (numbersOf r) (rowNumbers (layout (o + sizeOf (entryOf (notedAt flat i) .content)) (entriesIn flat (suc i) n)))) ∙ rw
-              (← z .is) (rw (← added, add-one i)));
-          within = omega arith;
-          few = omega (arith, not-over i r h);
-          low = omega (arith, L .low, z .small);
-        }
-      where
-        front : length (take (i * 5) rows ++ numbersOf r) ≡ (i + 1) * 5
-        front = omega (arith, length-append (take (i * 5) rows) (numbersOf r), length-take-le (i * 5) rows (omega arith))
-
-        added : take ((i + 1) * 5) (sets rows (i * 5) (numbersOf r)) ≡ take (i * 5) rows ++ numbersOf r
-        added = ap (take ((i + 1) * 5)) (sets-eq (numbersOf r) rows (i * 5) (omega arith)) ∙ take-at (take (i * 5) rows ++ numbersOf r) (drop (i * 5 + 5) rows) ((i + 1) * 5) front
-
-  pub lay-end : (rows : List ℕ) (o i : ℕ) → Laying rows o i → n ≤ i → LaidOut flat n Fine rows
-  unfolding firstOver layout rowNumbers
-  lay-end rows o i L l =
-      let a : i ≡ n = omega (arith, L .within) in
+  pub lay-none : (rows : List ℕ) → Laying rows rows 0 0
+  unfolding rowNumbers
+  lay-none rows =
       record {
-        limit = L .limit ∙ rw (entries-end flat i n l);
-        laid = λ x. sym (L .laid ∙ rw (entries-end flat i n l, append-nil (take (i * 5) rows), a));
-        few = λ x. omega (arith, L .few);
+        limit = refl;
+        done = [];
+        counted = refl;
+        all = refl;
+        front = front-none rows;
+        within = omega arith;
+        few = omega arith;
+        low = omega arith;
       }
+
+  module _ {before : List ℕ} (rows : List ℕ) (o i : ℕ) (L : Laying before rows o i) where
+    -- No row follows.
+    laid-so-far : rowsWithin i (layout o (entriesIn flat i n)) ≡ [] → rows ≡ rowNumbers (writtenRows flat n) ++ drop (length (writtenRows flat n) * 5) before
+    laid-so-far e =
+        let k : writtenRows flat n ≡ L .done = L .all ∙ rw (e, append-nil (L .done)) in
+        rw (k, L .counted) (L .front .holds)
+
+    module _ (l : i < n) {r : Row} (e : r ≡ rowIn flat i n o) where
+      pub lay-over : {p : ℕ} → over i r ≡ true → p ≡ getD flat (i * 7 + 1) 0 → LaidOut flat n (Over p) before rows
+      unfolding firstOver layout rowsWithin
+      lay-over h f =
+          let k : over i (rowIn flat i n o) ≡ true = rw (← e) h in
+          record {
+            limit = L .limit ∙ rw (entries-cons flat i n l, k, f);
+            written = laid-so-far (rw (entries-cons flat i n l, k));
+            few = λ x. let z : _≡_ {A = ℕ} 0 1 = cc in absurd (omega arith);
+          }
+
+      pub lay-more : {s : ℕ} → over i r ≡ false → i * 5 + 5 ≤ length before → Sized flat i s → Laying before (sets rows (i * 5) (numbersOf r)) (o + s) (i + 1)
+      unfolding firstOver layout rowsWithin
+      lay-more {s} h m z =
+          let k : over i (rowIn flat i n o) ≡ false = rw (← e) h in
+          let five : (i + 1) * 5 ≡ i * 5 + 5 = omega arith in
+          let more : List Row = rowsWithin (suc i) (layout (o + sizeOf (entryOf (notedAt flat i) .content)) (entriesIn flat (suc i) n)) in
+          record {
+            limit = L .limit ∙ rw (entries-cons flat i n l, k, add-one i, z .is);
+            done = L .done ++ r ∷ [];
+            counted = omega (arith, length-append (L .done) (r ∷ []), L .counted);
+            all = L .all ∙ rw (entries-cons flat i n l, k, ← e, add-one i, z .is) (sym (append-assoc (L .done) (r ∷ []) more));
+            front = rw (five, numbers-more (L .done) r) (front-sets (numbersOf r) (L .front) m);
+            within = omega arith;
+            few = omega (arith, not-over i r h);
+            low = omega (arith, L .low, z .small);
+          }
+
+    pub lay-end : n ≤ i → LaidOut flat n Fine before rows
+    unfolding firstOver layout rowsWithin
+    lay-end l =
+        record {
+          limit = L .limit ∙ rw (entries-end flat i n l);
+          written = laid-so-far (rw (entries-end flat i n l));
+          few = λ x. omega (arith, L .few, L .within);
+        }
+
+-- Where no entry is over a limit, every row is written.
+all-within : (n : ℕ) (xs : List Entry) (rs : List Row) → length rs ≡ length xs → firstOver n xs rs ≡ none → rowsWithin n rs ≡ rs
+unfolding firstOver rowsWithin
+all-within n xs [] h e = refl
+all-within n [] (r ∷ rs) h e = absurd (omega arith)
+all-within n (x ∷ xs) (r ∷ rs) h e = by (over n r) e (all-within (suc n) xs rs (omega arith))
+  where
+    by : (t : Bool) → cond t (some (x .place)) (firstOver (suc n) xs rs) ≡ none → (firstOver (suc n) xs rs ≡ none → rowsWithin (suc n) rs ≡ rs) →
+        cond t [] (r ∷ rowsWithin (suc n) rs) ≡ r ∷ rs
+    by true e f = let z : _≡_ {A = ℕ} 0 1 = cc in absurd (omega arith)
+    by false e f = ap (λ (l : List Row). r ∷ l) (f e)
+
+pub all-laid : (flat : List ℕ) (n : ℕ) {r : Laid} {before after : List ℕ} → LaidOut flat n r before after → r ≡ Fine →
+    take (n * 5) after ≡ rowNumbers (layout 0 (entriesIn flat 0 n))
+all-laid flat n L e =
+    let xs = entriesIn flat 0 n in
+    let rs = layout 0 xs in
+    let m : length xs ≡ n = omega (arith, length-map (notedFrom flat 0 (n - 0)) entryOf, noted-length flat 0 (n - 0)) in
+    let k : rowsWithin 0 rs ≡ rs = all-within 0 xs rs (layout-length 0 xs) (L .limit ∙ ap overPlace e) in
+    rw (L .written, k) (take-at (rowNumbers rs) _ (n * 5) (omega (arith, numbers-length rs, layout-length 0 xs)))

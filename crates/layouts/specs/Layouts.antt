@@ -4,7 +4,7 @@ use mathlib.Core.Bool.{Bool, cond}
 use mathlib.Core.Option.{Option, none, some}
 use mathlib.Core.List.{List, [], _∷_, _++_, map}
 use Prim.Native.Nat.{ℕ, suc, _+_, _*_, _-_, _≤_}
-use lib.ListN.{length, take}
+use lib.ListN.{length, drop}
 use Rattle.description.specs.Grammar.{Row, row, Entry, isSigned}
 use Rattle.description.specs.Reader.{sizeOf, below, signedBelow, rowOf, layout}
 use Rattle.description.specs.Limits.{over}
@@ -59,8 +59,17 @@ firstOver n [] rs = none
 firstOver n (e ∷ es) [] = none
 firstOver n (e ∷ es) (r ∷ rs) = cond (over n r) (some (e .place)) (firstOver (suc n) es rs)
 
--- The place of the first entry over a limit; where there is none, the rows.
-pub record LaidOut (flat : List ℕ) (n : ℕ) (r : Laid) (rows : List ℕ) : Type 0 where
+-- the rows before the first one over a limit, with n rows before these
+unfoldable pub rowsWithin : ℕ → List Row → List Row
+rowsWithin n [] = []
+rowsWithin n (r ∷ rs) = cond (over n r) [] (r ∷ rowsWithin (suc n) rs)
+
+-- the rows that are written of n entries
+abbrev pub writtenRows : List ℕ → ℕ → List Row
+writtenRows flat n = rowsWithin 0 (layout 0 (entriesIn flat 0 n))
+
+-- The place of the first entry over a limit; the rows before it, and the rest of the buffer as it was.
+pub record LaidOut (flat : List ℕ) (n : ℕ) (r : Laid) (before after : List ℕ) : Type 0 where
   pub limit : firstOver 0 (entriesIn flat 0 n) (layout 0 (entriesIn flat 0 n)) ≡ overPlace r
-  pub laid : r ≡ Fine → take (n * rowWidth) rows ≡ rowNumbers (layout 0 (entriesIn flat 0 n))
+  pub written : after ≡ rowNumbers (writtenRows flat n) ++ drop (length (writtenRows flat n) * rowWidth) before
   pub few : r ≡ Fine → n ≤ 64

@@ -113,10 +113,10 @@ fn store_row(rows: &mut [u32], i: usize, row: ItemRow)
     rows[at + 4] = row.digits;
 }
 
-// The rows of n entries, up to the first that passes a limit. Free: what `rows` holds beyond them, and all of it where one does.
+// The rows of n entries, up to the first that passes a limit; beyond them `rows` stays as it was.
 pub fn lay_rows(entries: &[u32], n: usize, rows: &mut [u32]) -> Laid
     requires { ⌜ (n ≤ 820) × ((n * 7 ≤ length (now entries)) × (320 ≤ length (now rows))) ⌝ }
-    ensures { λ r. ⌜ LaidOut (now (entries .entry)) n r (now (rows .exit)) ⌝ }
+    ensures { λ r. ⌜ LaidOut (now (entries .entry)) n r (now (rows .entry)) (now (rows .exit)) ⌝ }
 {
     let mut offset: usize = 0;
     let mut i: usize = 0;

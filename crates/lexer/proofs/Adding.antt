@@ -7,7 +7,7 @@ use native.Mathlib.Omega.{arith}
 use native.Mathlib.Numerals.{add-one}
 use lib.Dec.{ltb}
 use lib.ListN.{length, take, drop, set, length-take, length-drop}
-use lib.Seq.{take-suc-set, append-snoc}
+use lib.Seq.{take-suc-set, append-snoc, drop-set-lt}
 use borrow.Author.Tests.{lt-ltb, le-ltb}
 use Rattle.content.specs.declared.Row.{Row}
 use Rattle.spelling.specs.Names.{Known}
@@ -21,8 +21,8 @@ use Rattle.senses.specs.declared.Piece.{Piece}
 use Rattle.senses.specs.Senses.{metOf}
 use Rattle.lexer.specs.declared.Gathered.{Gathered}
 use Rattle.lexer.specs.declared.Stepped.the-variants.{On, Fault}
-use Rattle.lexer.specs.Gathers.{left, leftPieces, overAt, movedTo, Made, MadeBy, Total, Gathers, Bounds, Ready, Meets, withToken, withLiteral, LiteralRoom, LiteralLaid, Steps}
-use Rattle.lexer.proofs.Writing.{over-front}
+use Rattle.lexer.specs.Gathers.{left, leftPieces, overAt, movedTo, Made, MadeBy, Total, Gathers, Bounds, Ready, Meets, withToken, withLiteral, LiteralRoom, LiteralLaid, Same, Steps}
+use Rattle.lexer.proofs.Writing.{over-front, over-rest}
 
 -- the first piece of what is left
 tokens-next : (n t : ℕ) (ps : List Spelt) → tokensFrom n (token t ∷ ps) ≡ t ∷ tokensFrom n ps
@@ -57,6 +57,10 @@ fault-next n x xs = refl
 joined : (whole old new rest : List ℕ) → whole ≡ old ++ (new ++ rest) → whole ≡ (old ++ new) ++ rest
 joined whole old new rest e = e ∙ sym (append-assoc old new rest)
 
+-- a fault writes nothing
+pub unchanged : (tokens rows bytes : List ℕ) → Same tokens rows bytes tokens rows bytes
+unchanged tokens rows bytes = record { tokensStay = refl; rowsStay = refl; bytesStay = refl }
+
 module _ {known : Known} {text : List ℕ} {g : Gathered} {tokens rows bytes : List ℕ} (R : Ready text g tokens rows bytes) {at end : ℕ} {r : Piece}
     (M : Meets known text (g .past) at end r) where
   B : Bounds text g
@@ -78,7 +82,7 @@ module _ {known : Known} {text : List ℕ} {g : Gathered} {tokens rows bytes : L
   faulty-step : {number : ℕ} → r .met ≡ MetFault number → (s : Spelt) → M .spelt ≡ s → Steps known text g tokens rows bytes (Fault number at) tokens rows bytes
   faulty-step {number} f (fault n) e =
       let z : n ≡ number = let q : metOf (fault n) ≡ MetFault number = ap metOf (sym e) ∙ sym (M .met) ∙ f in cc in
-      record { gives = (λ w G. faults w G (fault n) e ∙ rw z, inside .0) }
+      record { gives = (unchanged tokens rows bytes, λ w G. faults w G (fault n) e ∙ rw z, inside .0) }
   faulty-step {number} f (token t) e = let q : metOf (token t) ≡ MetFault number = ap metOf (sym e) ∙ sym (M .met) ∙ f in let z : _≡_ {A = ℕ} 0 1 = cc in absurd (omega arith)
   faulty-step {number} f (literal l) e = let q : metOf (literal l) ≡ MetFault number = ap metOf (sym e) ∙ sym (M .met) ∙ f in let z : _≡_ {A = ℕ} 0 1 = cc in absurd (omega arith)
 
@@ -121,7 +125,8 @@ module _ {known : Known} {text : List ℕ} {g : Gathered} {tokens rows bytes : L
             fewLiterals = B .fewLiterals;
             fewBytes = omega (arith, B .fewBytes, inside .1);
           },
-          inside .1,
+          record { tokensGrow = omega arith; literalsGrow = omega arith; bytesGrow = omega arith; readOn = inside .1 },
+          record { tokensStay = drop-set-lt (g .tokens + 1) tokens (g .tokens) t (omega arith); rowsStay = refl; bytesStay = refl },
         );
       }
 
@@ -146,7 +151,7 @@ module _ {known : Known} {text : List ℕ} {g : Gathered} {tokens rows bytes : L
   pub full-step : {row : Row} → r .met ≡ MetLiteral row → 64 ≤ g .literals → Steps known text g tokens rows bytes (Fault 15 at) tokens rows bytes
   full-step f h =
       let L = literally f in
-      record { gives = (λ w G. faults w G (literal (L .l)) (L .is) ∙ rw (le-ltb (g .literals) 64 h), inside .0) }
+      record { gives = (unchanged tokens rows bytes, λ w G. faults w G (literal (L .l)) (L .is) ∙ rw (le-ltb (g .literals) 64 h), inside .0) }
 
   pub literal-room : {row : Row} → r .met ≡ MetLiteral row → g .literals < 64 → LiteralRoom row (between text at end) g tokens rows bytes
   literal-room {row} f h =
@@ -209,6 +214,13 @@ module _ {known : Known} {text : List ℕ} {g : Gathered} {tokens rows bytes : L
             fewLiterals = omega arith;
             fewBytes = omega (arith, B .fewBytes, M .notBefore, M .some, M .inside, L .made .short, wide, size);
           },
-          inside .1,
+          record { tokensGrow = omega arith; literalsGrow = omega arith; bytesGrow = omega arith; readOn = inside .1 },
+          record {
+            tokensStay = drop-set-lt (g .tokens + 1) tokens (g .tokens) (65536 + v) (omega arith);
+            rowsStay = ap (λ (k : ℕ). drop k (overAt (v * 5) (laid (rowOfLiteral o l)) rows)) (sym four) ∙ over-rest (v * 5) (laid (rowOfLiteral o l)) rows rows-wide
+                ∙ ap (λ (k : ℕ). drop k rows) four;
+            bytesStay = ap (λ (k : ℕ). drop (o + k) (overAt o (l .bytes) bytes)) (sym size) ∙ over-rest o (l .bytes) bytes bytes-wide
+                ∙ ap (λ (k : ℕ). drop (o + k) bytes) size;
+          },
         );
       }

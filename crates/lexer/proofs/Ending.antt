@@ -25,7 +25,8 @@ use Rattle.lexer.specs.declared.Stepped.{Stepped}
 use Rattle.lexer.specs.declared.Stepped.the-variants.{On, End, Fault}
 use Rattle.lexer.specs.declared.Lexed.{Lexed}
 use Rattle.lexer.specs.declared.Lexed.the-variants.{Whole, Fault as LexedFault}
-use Rattle.lexer.specs.Gathers.{left, leftPieces, Rooms, totalOf, bookIn, Gathers, Bounds, Steps, earlyBy, Holds, Lexes}
+use Rattle.lexer.specs.Gathers.{left, leftPieces, Rooms, totalOf, bookIn, Gathers, Bounds, Beyond, Grows, Steps, earlyBy, Holds, Lexes}
+use Rattle.tables.proofs.Front.{later-rest}
 
 -- no word stands before the place where the words were looked for
 abbrev AllFrom : ℕ → List Word → Type 0
@@ -106,15 +107,20 @@ nothing known text literals content tokens rows bytes h k R =
 pub few-yet : (text : List ℕ) (literals content : ℕ) → literals ≤ 64 → content ≤ 4096 → Bounds text (record { tokens = 0; literals = literals; bytes = content; past = 0 })
 few-yet text literals content h k = record { within = omega arith; fewTokens = omega arith; fewLiterals = h; fewBytes = omega arith }
 
-module _ (b : Book) (text : List ℕ) where
+pub none-beyond : (g : Gathered) (tokens rows bytes : List ℕ) → Beyond g tokens rows bytes tokens rows bytes
+none-beyond g tokens rows bytes = record { tokensStay = refl; rowsStay = refl; bytesStay = refl }
+
+-- the buffers were tokens₀, rows₀ and bytes₀
+module _ (b : Book) (text tokens₀ rows₀ bytes₀ : List ℕ) where
   abbrev known : Known
   known = b .known
 
   abbrev n : ℕ
   n = literalsBefore b
 
-  module _ {g : Gathered} {tokens rows bytes : List ℕ} (G : Gathers known text (totalOf b text) g tokens rows bytes) (B : Bounds text g) where
-    nothing-left : left known text (g .past) ≡ [] → length text ≤ 2048 → Holds b text g tokens rows bytes
+  module _ {g : Gathered} {tokens rows bytes : List ℕ} (G : Gathers known text (totalOf b text) g tokens rows bytes) (B : Bounds text g)
+      (Y : Beyond g tokens₀ rows₀ bytes₀ tokens rows bytes) where
+    nothing-left : left known text (g .past) ≡ [] → length text ≤ 2048 → Holds b text g tokens₀ rows₀ bytes₀ tokens rows bytes
     unfolding firstFault tokensFrom rowsFrom bytesOf
     nothing-left e h =
         let p : leftPieces known text (g .past) ≡ [] = ap (map (λ (x : Placed). x .piece)) e in
@@ -123,55 +129,75 @@ module _ (b : Book) (text : List ℕ) where
           tokensAre = G .tokensAre ∙ ap (λ (ps : List Spelt). take (g .tokens) tokens ++ tokensFrom (g .literals) ps) p ∙ append-nil (take (g .tokens) tokens);
           rowsAre = G .rowsAre ∙ ap (λ (ps : List Spelt). take (g .literals * 5) rows ++ rowsFrom (g .bytes) ps) p ∙ append-nil (take (g .literals * 5) rows);
           bytesAre = G .bytesAre ∙ ap (λ (ps : List Spelt). take (g .bytes) bytes ++ bytesOf ps) p ∙ append-nil (take (g .bytes) bytes);
+          beyond = Y;
           fewTokens = omega (arith, B .fewTokens, B .within);
           fewLiterals = B .fewLiterals;
           fewBytes = omega (arith, B .fewBytes, B .within);
         }
 
-    too-long : left known text (g .past) ≡ [] → 2048 < length text → faultOf known n text ≡ refusal 15 2048
+    stopped : {number place : ℕ} → faultOf known n text ≡ refusal number place
+        → Lexes b text tokens₀ rows₀ bytes₀ (LexedFault number place) tokens rows bytes
+    stopped f = record { gives = record { faulty = f; gathered = g; gathers = G; beyond = Y } }
+
+    too-long : left known text (g .past) ≡ [] → 2048 < length text → Lexes b text tokens₀ rows₀ bytes₀ (LexedFault 15 2048) tokens rows bytes
     unfolding firstFault
-    too-long e h = long-fault known n text h ∙ ap orTooLong (G .faultIs ∙ ap (firstFault (g .literals)) e)
+    too-long e h = stopped (long-fault known n text h ∙ ap orTooLong (G .faultIs ∙ ap (firstFault (g .literals)) e))
 
     -- no word starts before byte 2,048 any more
-    pub whole-past : 2048 ≤ g .past → length text ≤ 2048 → Lexes b text (Whole g) tokens rows bytes
+    pub whole-past : 2048 ≤ g .past → length text ≤ 2048 → Lexes b text tokens₀ rows₀ bytes₀ (Whole g) tokens rows bytes
     unfolding piecesFrom
     whole-past p h = record { gives = nothing-left (ap (piecesFrom known 0) (no-word text (g .past) (omega arith))) h }
 
-    pub long-past : 2048 ≤ g .past → 2048 < length text → Lexes b text (LexedFault 15 2048) tokens rows bytes
+    pub long-past : 2048 ≤ g .past → 2048 < length text → Lexes b text tokens₀ rows₀ bytes₀ (LexedFault 15 2048) tokens rows bytes
     long-past p h =
         let l = late known (g .past) (g .literals) 0 (wordsAt text (g .past)) (words-from 0 (g .past) (drop (g .past) text)) in
-        record { gives = long-fault known n text h ∙ ap orTooLong (G .faultIs) ∙ too-late (g .past) (firstFault (g .literals) (left known text (g .past))) p l }
+        stopped (long-fault known n text h ∙ ap orTooLong (G .faultIs) ∙ too-late (g .past) (firstFault (g .literals) (left known text (g .past))) p l)
 
-  module _ {g : Gathered} {t w c tokens rows bytes : List ℕ} (G : Gathers known text (totalOf b text) g t w c) (B : Bounds text g) (r : Stepped)
-      (S : Steps known text g t w c r tokens rows bytes) where
-    pub on-step : {next : Gathered} → r ≡ On next → Gathers known text (totalOf b text) next tokens rows bytes × Bounds text next × (g .past < next .past)
-    on-step e = let s = subst (λ (s : Stepped). Steps known text g t w c s tokens rows bytes) e S .gives in (s .0 (totalOf b text) G, s .1, s .2)
+  module _ {g : Gathered} {t w c tokens rows bytes : List ℕ} (G : Gathers known text (totalOf b text) g t w c) (B : Bounds text g)
+      (Y : Beyond g tokens₀ rows₀ bytes₀ t w c) (r : Stepped) (S : Steps known text g t w c r tokens rows bytes) where
+    pub on-step : {next : Gathered} → r ≡ On next
+        → Gathers known text (totalOf b text) next tokens rows bytes × Bounds text next × Grows g next × Beyond next tokens₀ rows₀ bytes₀ tokens rows bytes
+    on-step {next} e =
+        let s = subst (λ (s : Stepped). Steps known text g t w c s tokens rows bytes) e S .gives in
+        let grow = s .2 in (
+          s .0 (totalOf b text) G,
+          s .1,
+          grow,
+          record {
+            tokensStay = s .3 .tokensStay ∙ later-rest t tokens₀ (g .tokens) (next .tokens) (grow .tokensGrow) (Y .tokensStay);
+            rowsStay = s .3 .rowsStay ∙ later-rest w rows₀ (g .literals * 5) (next .literals * 5) (omega (arith, grow .literalsGrow)) (Y .rowsStay);
+            bytesStay = s .3 .bytesStay ∙ later-rest c bytes₀ (g .bytes) (next .bytes) (grow .bytesGrow) (Y .bytesStay);
+          },
+        )
 
-    ended : r ≡ End → Gathers known text (totalOf b text) g tokens rows bytes × (left known text (g .past) ≡ [])
-    ended e = let s = subst (λ (s : Stepped). Steps known text g t w c s tokens rows bytes) e S .gives in (s .0 (totalOf b text) G, s .1)
+    pub whole-end : r ≡ End → length text ≤ 2048 → Lexes b text tokens₀ rows₀ bytes₀ (Whole g) tokens rows bytes
+    whole-end e h =
+        let s = subst (λ (s : Stepped). Steps known text g t w c s tokens rows bytes) e S .gives in
+        rw (s .0 .tokensStay, s .0 .rowsStay, s .0 .bytesStay) record { gives = nothing-left G B Y (s .1) h }
 
-    pub whole-end : r ≡ End → length text ≤ 2048 → Lexes b text (Whole g) tokens rows bytes
-    whole-end e h = let f = ended e in record { gives = nothing-left (f .0) B (f .1) h }
+    pub long-end : r ≡ End → 2048 < length text → Lexes b text tokens₀ rows₀ bytes₀ (LexedFault 15 2048) tokens rows bytes
+    long-end e h =
+        let s = subst (λ (s : Stepped). Steps known text g t w c s tokens rows bytes) e S .gives in
+        rw (s .0 .tokensStay, s .0 .rowsStay, s .0 .bytesStay) (too-long G B Y (s .1) h)
 
-    pub long-end : r ≡ End → 2048 < length text → Lexes b text (LexedFault 15 2048) tokens rows bytes
-    long-end e h = let f = ended e in record { gives = too-long (f .0) B (f .1) h }
-
-    pub fault-end : {number place : ℕ} (lexed : Lexed) → r ≡ Fault number place → lexed ≡ earlyBy number place → Lexes b text lexed tokens rows bytes
+    pub fault-end : {number place : ℕ} (lexed : Lexed) → r ≡ Fault number place → lexed ≡ earlyBy number place
+        → Lexes b text tokens₀ rows₀ bytes₀ lexed tokens rows bytes
     fault-end {number} {place} lexed e q =
-        let f = subst (λ (s : Stepped). Steps known text g t w c s tokens rows bytes) e S .gives in
-        rw q (by (leb (length text) 2048) refl (ltb place 2048) refl (f .0 (totalOf b text) G) (f .1))
+        let s = subst (λ (s : Stepped). Steps known text g t w c s tokens rows bytes) e S .gives in
+        rw (s .0 .tokensStay, s .0 .rowsStay, s .0 .bytesStay, q)
+        (by (leb (length text) 2048) refl (ltb place 2048) refl (s .1 (totalOf b text) G) (s .2))
       where
-        by : (t : Bool) → leb (length text) 2048 ≡ t → (u : Bool) → ltb place 2048 ≡ u → firstFault n (placed known text) ≡ refusal number place → place < length text
-            → Lexes b text (cond u (LexedFault number place) (LexedFault 15 2048)) tokens rows bytes
-        by true h true l f w = record { gives = short-fault known n text (leb-true (length text) 2048 h) ∙ f }
-        by true h false l f w = absurd (omega (arith, leb-true (length text) 2048 h, ltb-false place 2048 l))
-        by false h true l f w = record { gives = long-fault known n text (leb-false (length text) 2048 h) ∙ ap orTooLong f ∙ rw l }
-        by false h false l f w = record { gives = long-fault known n text (leb-false (length text) 2048 h) ∙ ap orTooLong f ∙ rw l }
+        by : (u : Bool) → leb (length text) 2048 ≡ u → (v : Bool) → ltb place 2048 ≡ v → firstFault n (placed known text) ≡ refusal number place → place < length text
+            → Lexes b text tokens₀ rows₀ bytes₀ (cond v (LexedFault number place) (LexedFault 15 2048)) t w c
+        by true h true l f i = stopped G B Y (short-fault known n text (leb-true (length text) 2048 h) ∙ f)
+        by true h false l f i = absurd (omega (arith, leb-true (length text) 2048 h, ltb-false place 2048 l))
+        by false h true l f i = stopped G B Y (long-fault known n text (leb-false (length text) 2048 h) ∙ ap orTooLong f ∙ rw l)
+        by false h false l f i = stopped G B Y (long-fault known n text (leb-false (length text) 2048 h) ∙ ap orTooLong f ∙ rw l)
 
 pub no-step : {known : Known} {text : List ℕ} {g : Gathered} {tokens rows bytes : List ℕ} (r : Next) → NextFrom text (g .past) r
     → r ≡ NoWord → Steps known text g tokens rows bytes End tokens rows bytes
 unfolding piecesFrom
-no-step {known} r n e = record { gives = (λ w G. G, ap (piecesFrom known 0) (found-end r n e)) }
+no-step {known} r n e = record { gives = (record { tokensStay = refl; rowsStay = refl; bytesStay = refl }, ap (piecesFrom known 0) (found-end r n e)) }
 
 -- rooms stay
 pub rooms-stay : {t w b tokens rows bytes : List ℕ} → Rooms t w b → length tokens ≡ length t → length rows ≡ length w → length bytes ≡ length b → Rooms tokens rows bytes

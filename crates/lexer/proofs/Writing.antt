@@ -5,7 +5,7 @@ use Prim.Native.Nat.{ℕ, suc, _+_, _-_, _*_, _≤_, _<_}
 use native.Mathlib.Omega.{arith}
 use borrow.Rule.Slice.PartMut.{putMid}
 use lib.ListN.{length, take, drop, set, length-append, length-take, length-drop, take-append-drop}
-use lib.Seq.{sets-eq, length-take-le, take-at}
+use lib.Seq.{sets-eq, length-take-le, take-at, drop-at}
 use Rattle.tables.proofs.Front.{Front, front-part}
 use Rattle.literal_bytes.specs.Written.{writtenOver}
 use Rattle.lexer.specs.Gathers.{overAt}
@@ -32,6 +32,13 @@ over-front at new old h =
     let rest : List ℕ = drop (at + length new) old in
     let n : length (take at old ++ new) ≡ at + length new = omega (arith, length-append (take at old) new, length-take-le at old h) in
     ap (take (at + length new)) (sym (append-assoc (take at old) new rest)) ∙ take-at (take at old ++ new) rest (at + length new) n
+
+-- and what is beyond it
+pub over-rest : (at : ℕ) (new old : List ℕ) → at ≤ length old → drop (at + length new) (overAt at new old) ≡ drop (at + length new) old
+over-rest at new old h =
+    let rest : List ℕ = drop (at + length new) old in
+    let n : length (take at old ++ new) ≡ at + length new = omega (arith, length-append (take at old) new, length-take-le at old h) in
+    ap (drop (at + length new)) (sym (append-assoc (take at old) new rest)) ∙ drop-at (take at old ++ new) rest (at + length new) n
 
 pub rest-length : (b : ℕ) (bytes : List ℕ) → length (take (length bytes - b) (drop b bytes)) ≡ length bytes - b
 rest-length b bytes = omega (arith, length-take (length bytes - b) (drop b bytes), length-drop b bytes)

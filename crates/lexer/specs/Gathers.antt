@@ -128,6 +128,25 @@ pub record LiteralLaid (row : Row) (word : List ℕ) (g : Gathered) (past : ℕ)
   pub rowLaid : rowsAfter ≡ overAt (g .literals * rowWidth) (laid (movedTo (g .bytes) row)) rows
   pub bytesLaid : bytesAfter ≡ overAt (g .bytes) (literalBy (row .kind) word .bytes) bytes
 
+-- Beyond what is gathered the buffers are as they were.
+pub record Beyond (g : Gathered) (tokens rows bytes tokensAfter rowsAfter bytesAfter : List ℕ) : Type 0 where
+  pub tokensStay : drop (g .tokens) tokensAfter ≡ drop (g .tokens) tokens
+  pub rowsStay : drop (g .literals * rowWidth) rowsAfter ≡ drop (g .literals * rowWidth) rows
+  pub bytesStay : drop (g .bytes) bytesAfter ≡ drop (g .bytes) bytes
+
+-- the buffers as they were
+pub record Same (tokens rows bytes tokensAfter rowsAfter bytesAfter : List ℕ) : Type 0 where
+  pub tokensStay : tokensAfter ≡ tokens
+  pub rowsStay : rowsAfter ≡ rows
+  pub bytesStay : bytesAfter ≡ bytes
+
+-- no count falls, and the text is read on
+pub record Grows (g next : Gathered) : Type 0 where
+  pub tokensGrow : g .tokens ≤ next .tokens
+  pub literalsGrow : g .literals ≤ next .literals
+  pub bytesGrow : g .bytes ≤ next .bytes
+  pub readOn : g .past < next .past
+
 -- What is gathered, with what is left, stays the whole.
 abbrev pub Keeps : Known → List ℕ → Gathered → List ℕ → List ℕ → List ℕ → Gathered → List ℕ → List ℕ → List ℕ → Type 0
 Keeps known text g tokens rows bytes next tokensAfter rowsAfter bytesAfter =
@@ -136,11 +155,13 @@ Keeps known text g tokens rows bytes next tokensAfter rowsAfter bytesAfter =
 -- after a step: gathered with one piece more; nothing left; or the first fault
 abbrev pub StepGives : Known → List ℕ → Gathered → List ℕ → List ℕ → List ℕ → Stepped → List ℕ → List ℕ → List ℕ → Type 0
 StepGives known text g tokens rows bytes (On next) tokensAfter rowsAfter bytesAfter =
-    Keeps known text g tokens rows bytes next tokensAfter rowsAfter bytesAfter × Bounds text next × (g .past < next .past)
+    Keeps known text g tokens rows bytes next tokensAfter rowsAfter bytesAfter × Bounds text next × Grows g next
+    × Beyond next tokens rows bytes tokensAfter rowsAfter bytesAfter
 StepGives known text g tokens rows bytes End tokensAfter rowsAfter bytesAfter =
-    Keeps known text g tokens rows bytes g tokensAfter rowsAfter bytesAfter × (left known text (g .past) ≡ [])
+    Same tokens rows bytes tokensAfter rowsAfter bytesAfter × (left known text (g .past) ≡ [])
 StepGives known text g tokens rows bytes (Fault number place) tokensAfter rowsAfter bytesAfter =
-    ((w : Total) → Gathers known text w g tokens rows bytes → w .fault ≡ refusal number place) × (place < length text)
+    Same tokens rows bytes tokensAfter rowsAfter bytesAfter
+    × ((w : Total) → Gathers known text w g tokens rows bytes → w .fault ≡ refusal number place) × (place < length text)
 
 pub record Steps (known : Known) (text : List ℕ) (g : Gathered) (tokens rows bytes : List ℕ) (r : Stepped) (tokensAfter rowsAfter bytesAfter : List ℕ) : Type 0 where
   pub gives : StepGives known text g tokens rows bytes r tokensAfter rowsAfter bytesAfter
@@ -149,18 +170,27 @@ abbrev pub earlyBy : ℕ → ℕ → Lexed
 earlyBy number place = cond (ltb place 2048) (LexedFault number place) (LexedFault 15 2048)
 
 -- all that is gathered of a text without a fault, after the literals of a book
-pub record Holds (b : Book) (text : List ℕ) (g : Gathered) (tokens rows bytes : List ℕ) : Type 0 where
+pub record Holds (b : Book) (text : List ℕ) (g : Gathered) (tokens rows bytes tokensAfter rowsAfter bytesAfter : List ℕ) : Type 0 where
   pub faultless : faultOf (b .known) (literalsBefore b) text ≡ none
-  pub tokensAre : totalOf b text .tokens ≡ take (g .tokens) tokens
-  pub rowsAre : totalOf b text .rows ≡ take (g .literals * rowWidth) rows
-  pub bytesAre : totalOf b text .bytes ≡ take (g .bytes) bytes
+  pub tokensAre : totalOf b text .tokens ≡ take (g .tokens) tokensAfter
+  pub rowsAre : totalOf b text .rows ≡ take (g .literals * rowWidth) rowsAfter
+  pub bytesAre : totalOf b text .bytes ≡ take (g .bytes) bytesAfter
+  pub beyond : Beyond g tokens rows bytes tokensAfter rowsAfter bytesAfter
   pub fewTokens : g .tokens ≤ 2048
   pub fewLiterals : g .literals ≤ 64
   pub fewBytes : g .bytes ≤ 6144
 
-abbrev pub LexedGives : Book → List ℕ → List ℕ → List ℕ → List ℕ → Lexed → Type 0
-LexedGives b text tokens rows bytes (Whole g) = Holds b text g tokens rows bytes
-LexedGives b text tokens rows bytes (LexedFault number place) = faultOf (b .known) (literalsBefore b) text ≡ refusal number place
+-- A fault. Free: `gathered`, how far the text was gathered before it was found.
+pub record Stopped (b : Book) (text : List ℕ) (number place : ℕ) (tokens rows bytes tokensAfter rowsAfter bytesAfter : List ℕ) : Type 0 where
+  pub faulty : faultOf (b .known) (literalsBefore b) text ≡ refusal number place
+  pub gathered : Gathered
+  pub gathers : Gathers (b .known) text (totalOf b text) gathered tokensAfter rowsAfter bytesAfter
+  pub beyond : Beyond gathered tokens rows bytes tokensAfter rowsAfter bytesAfter
 
-pub record Lexes (b : Book) (text : List ℕ) (r : Lexed) (tokens rows bytes : List ℕ) : Type 0 where
-  pub gives : LexedGives b text tokens rows bytes r
+abbrev pub LexedGives : Book → List ℕ → List ℕ → List ℕ → List ℕ → Lexed → List ℕ → List ℕ → List ℕ → Type 0
+LexedGives b text tokens rows bytes (Whole g) tokensAfter rowsAfter bytesAfter = Holds b text g tokens rows bytes tokensAfter rowsAfter bytesAfter
+LexedGives b text tokens rows bytes (LexedFault number place) tokensAfter rowsAfter bytesAfter =
+    Stopped b text number place tokens rows bytes tokensAfter rowsAfter bytesAfter
+
+pub record Lexes (b : Book) (text tokens rows bytes : List ℕ) (r : Lexed) (tokensAfter rowsAfter bytesAfter : List ℕ) : Type 0 where
+  pub gives : LexedGives b text tokens rows bytes r tokensAfter rowsAfter bytesAfter

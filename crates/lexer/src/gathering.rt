@@ -58,8 +58,7 @@ fn early(number: u32, place: usize) -> Lexed
     Lexed::Fault(15, 2048)
 }
 
-// The first `literals` rows and `content` bytes are the description's: the text's go on from there. Free: what
-// the buffers hold beyond what is counted, and all of it where the text is refused.
+// The first `literals` rows and `content` bytes are the description's: the text's go on from there.
 pub fn gather(
     description: &[u8],
     places: &[u32],
@@ -72,7 +71,7 @@ pub fn gather(
     bytes: &mut [u8],
 ) -> Lexed
     requires { ⌜ Listed items (now places) × Rooms (now tokens) (now rows) (now bytes) × (literals ≤ 64) × (content ≤ 4096) ⌝ }
-    ensures { λ r. ⌜ Lexes (bookIn (knownAt (now (description .entry)) items (now (places .entry))) literals content (now (rows .entry)) (now (bytes .entry))) (now (text .entry)) r (now (tokens .exit)) (now (rows .exit)) (now (bytes .exit)) ⌝ }
+    ensures { λ r. ⌜ Lexes (bookIn (knownAt (now (description .entry)) items (now (places .entry))) literals content (now (rows .entry)) (now (bytes .entry))) (now (text .entry)) (now (tokens .entry)) (now (rows .entry)) (now (bytes .entry)) r (now (tokens .exit)) (now (rows .exit)) (now (bytes .exit)) ⌝ }
 {
     let mut held = Gathered {
         tokens: 0,

@@ -12,10 +12,10 @@ use Rattle.description.proofs.Bytes.{eqb-no}
 use Rattle.line_places.specs.Places.{linesFrom, startFrom, endFrom, afterInk}
 
 -- what is left begins with the next byte
-next : (l : List ℕ) (i : ℕ) → i < length l → drop i l ≡ getD l i 0 ∷ drop (i + 1) l
+pub next : (l : List ℕ) (i : ℕ) → i < length l → drop i l ≡ getD l i 0 ∷ drop (i + 1) l
 next l i h = rw (add-one i) (drop-cons l i 0 h)
 
-none : (l : List ℕ) (i : ℕ) → i ≤ length l → length l ≤ i → drop i l ≡ []
+pub none : (l : List ℕ) (i : ℕ) → i ≤ length l → length l ≤ i → drop i l ≡ []
 none l i a b = let e : i ≡ length l = omega (arith, a, b) in rw e (drop-length l)
 
 module _ (l : List ℕ) (i : ℕ) where

@@ -1,4 +1,8 @@
 // Items of two copies side by side.
+ghost use mathlib.Core.Path.{_≡_};
+ghost use lib.ListN.{take, drop};
+use crate::files::back_bytes;
+use crate::files::wide;
 use crate::print::text;
 use crate::wording::item_name;
 use change_lines::changes::put_change;
@@ -9,13 +13,11 @@ use libc::STDOUT_FILENO;
 // An item has at most 256 bytes, each shown as three at most, and it is shown twice.
 const LINE: usize = 2048;
 
-// The bytes of a row, which lies in the record: the calls have checked that.
-pub(crate) fn part(row: Row, record: &[u8]) -> &[u8] {
-    let start = row.offset as usize;
-    if start <= record.len() {
-        return front_bytes(&record[start..], row.size as usize);
-    }
-    record
+// The bytes of a row.
+pub(crate) fn part(row: Row, record: &[u8]) -> &[u8]
+    ensures { λ r. ⌜ now r ≡ take (row .size) (drop (row .offset) (now («record» .entry))) ⌝ }
+{
+    front_bytes(back_bytes(record, wide(row.offset)), wide(row.size))
 }
 
 // What an item was and is: a line of its name, a word or two, the old content and the new.

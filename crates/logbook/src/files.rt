@@ -1,4 +1,7 @@
-// The files that the arguments name.
+// The files that the arguments name. What the system answers is free: which file it is, whether it ends, whether it was written.
+ghost use mathlib.Core.Path.{_≡_};
+ghost use lib.ListN.{length, drop};
+ghost use Rattle.logbook.specs.Ruled.{Fits};
 use crate::print::complaint;
 use fronts::front_bytes;
 use lines::text::put;
@@ -13,21 +16,27 @@ pub enum Loaded {
 const LARGE: usize = 131072;
 
 // Room for a record. Made here, so that what takes it need not look into it.
-pub(crate) fn large() -> [u8; LARGE] {
+pub(crate) fn large() -> [u8; LARGE]
+    ensures { λ r. ⌜ 131072 ≡ length r ⌝ }
+{
     [0u8; LARGE]
 }
 
 // A number of a table as an index.
-pub(crate) fn wide(number: u32) -> usize {
+pub(crate) fn wide(number: u32) -> usize
+    ensures { λ r. ⌜ r ≡ number ⌝ }
+{
     number as usize
 }
 
 // The bytes from n on.
-pub(crate) fn back_bytes(bytes: &[u8], n: usize) -> &[u8] {
+pub(crate) fn back_bytes(bytes: &[u8], n: usize) -> &[u8]
+    ensures { λ r. ⌜ now r ≡ drop n (now (bytes .entry)) ⌝ }
+{
     if n <= bytes.len() {
         return &bytes[n..];
     }
-    bytes
+    &bytes[0..0]
 }
 
 // The file that argument i names, open for reading, or -1.
@@ -60,21 +69,24 @@ pub(crate) fn at_end(i: usize, file: i32) -> bool {
 }
 
 // All of the file that argument i names. The room is one byte more than it may have.
-pub(crate) fn load(i: usize, bytes: &mut [u8]) -> Loaded {
+pub(crate) fn load(i: usize, bytes: &mut [u8]) -> Loaded
+    ensures { λ r. ⌜ Fits r (length (now (bytes .entry))) ⌝ }
+{
     let file = open(i);
     if file < 0 {
         return Loaded::Failed;
     }
     let count = io::read_full(file, bytes);
-    let fits = count < bytes.len();
-    if !fits {
-        complaint(i, b": this file is too long\n");
+    if count < bytes.len() {
+        let whole = at_end(i, file);
+        libc::close(file);
+        if whole {
+            return Loaded::Bytes(count);
+        }
+        return Loaded::Failed;
     }
-    let whole = fits && at_end(i, file);
+    complaint(i, b": this file is too long\n");
     libc::close(file);
-    if whole {
-        return Loaded::Bytes(count);
-    }
     Loaded::Failed
 }
 

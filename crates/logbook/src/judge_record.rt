@@ -1,4 +1,9 @@
 // judge: what a rule says of one record.
+ghost use mathlib.Core.Path.{_≡_};
+ghost use Prim.Native.Nat.{_≤_};
+ghost use Rattle.tables.specs.Operands.{lendNames};
+ghost use Rattle.rules.specs.Calls.{runGives};
+ghost use Rattle.logbook.specs.Ruled.{statusOf};
 use crate::files::Loaded;
 use crate::files::large;
 use crate::files::load;
@@ -68,7 +73,10 @@ fn judge_loaded<'a>(
     plan: &[u32],
     record: &'a [u8],
     switches: u8,
-) -> u32 {
+) -> u32
+    ensures { λ r. ⌜ r ≤ 2 ⌝ }
+    ensures { λ r. ⌜ r ≡ statusOf (runGives (lendNames (now (items .entry)) (now (literals .entry)) (now (bytes .entry)) (now (names .entry))) (now (plan .entry)) (now («record» .entry)) switches .verdict) ⌝ }
+{
     let answer = run(items, literals, bytes, names, plan, record, switches);
     let said = answer.verdict;
     match said {
@@ -106,7 +114,9 @@ pub(crate) fn judge_record(
     bytes: &[u8],
     plan: &[u32],
     switches: u8,
-) -> u32 {
+) -> u32
+    ensures { λ r. ⌜ r ≤ 2 ⌝ }
+{
     let mut record = large();
     let loaded = load(4, &mut record);
     match loaded {

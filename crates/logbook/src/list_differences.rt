@@ -1,4 +1,5 @@
 // differ: the items that differ between two copies, side by side.
+ghost use Prim.Native.Nat.{_≤_};
 use crate::changes::change;
 use crate::changes::part;
 use crate::files::Loaded;
@@ -62,7 +63,9 @@ fn lines(
     first: &[u8],
     second: &[u8],
     list: &[u32],
-) -> u32 {
+) -> u32
+    ensures { λ r. ⌜ r ≤ 2 ⌝ }
+{
     let mut at: usize = 0;
     while list.len() - at >= 2 {
         marked(
@@ -82,7 +85,9 @@ fn lines(
     1
 }
 
-fn compared(description: &[u8], items: &[u32], places: &[u32], first: &[u8], second: &[u8]) -> u32 {
+fn compared(description: &[u8], items: &[u32], places: &[u32], first: &[u8], second: &[u8]) -> u32
+    ensures { λ r. ⌜ r ≤ 2 ⌝ }
+{
     let mut output = [0u32; OUTPUT];
     let written = differ(items, first, second, &mut output);
     match written {
@@ -94,7 +99,9 @@ fn compared(description: &[u8], items: &[u32], places: &[u32], first: &[u8], sec
     }
 }
 
-fn with_second(description: &[u8], items: &[u32], places: &[u32], first: &[u8]) -> u32 {
+fn with_second(description: &[u8], items: &[u32], places: &[u32], first: &[u8]) -> u32
+    ensures { λ r. ⌜ r ≤ 2 ⌝ }
+{
     let mut second = large();
     let loaded = load(4, &mut second);
     match loaded {
@@ -103,7 +110,9 @@ fn with_second(description: &[u8], items: &[u32], places: &[u32], first: &[u8]) 
     }
 }
 
-pub(crate) fn list_differences(description: &[u8], items: &[u32], places: &[u32]) -> u32 {
+pub(crate) fn list_differences(description: &[u8], items: &[u32], places: &[u32]) -> u32
+    ensures { λ r. ⌜ r ≤ 2 ⌝ }
+{
     let mut first = large();
     let loaded = load(3, &mut first);
     match loaded {

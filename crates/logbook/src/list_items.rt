@@ -1,4 +1,5 @@
 // items: a table of what a description says.
+ghost use Prim.Native.Nat.{_≤_};
 use crate::files::wide;
 use crate::print::text;
 use crate::wording::item_name;
@@ -161,7 +162,9 @@ pub(crate) fn list_items(
     name_places: &[u32],
     literals: &[u32],
     bytes: &[u8],
-) -> u32 {
+) -> u32
+    ensures { λ r. ⌜ r ≤ 2 ⌝ }
+{
     let mut line = [0u8; LINE];
     let end = put_heading(&mut line, 0);
     text(STDOUT_FILENO, front_bytes(&line, end));

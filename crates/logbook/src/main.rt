@@ -1,5 +1,7 @@
 // The logbook from the shell: a command, then files. Results go to standard output, refusals to standard error; the last line of
 // standard output is the status, which bin/logbook takes away and ends with.
+ghost use Prim.Native.Nat.{_≤_};
+
 mod changes; // items of two copies side by side
 mod files; // files that the arguments name
 mod judge_record; // judge
@@ -73,7 +75,9 @@ enum Command {
     Unknown,
 }
 
-fn usage() -> u32 {
+fn usage() -> u32
+    ensures { λ r. ⌜ r ≤ 2 ⌝ }
+{
     text(
         STDERR_FILENO,
         b"usage: logbook items DESCRIPTION\n\
@@ -173,7 +177,9 @@ fn planned(
     bytes: &[u8],
     tokens: &[u32],
     plan: &[u32],
-) -> u32 {
+) -> u32
+    ensures { λ r. ⌜ r ≤ 2 ⌝ }
+{
     match command {
         Command::Rule => show_rule(
             description,
@@ -218,7 +224,9 @@ fn with_tokens(
     literals: &[u32],
     bytes: &[u8],
     tokens: &[u32],
-) -> u32 {
+) -> u32
+    ensures { λ r. ⌜ r ≤ 2 ⌝ }
+{
     let mut numbers = [0u32; PLAN];
     let written = plan(items, literals, bytes, names, tokens, &mut numbers);
     match written {
@@ -249,7 +257,9 @@ fn with_rule(
     names: &[u32],
     name_places: &[u32],
     rule: &[u8],
-) -> u32 {
+) -> u32
+    ensures { λ r. ⌜ r ≤ 2 ⌝ }
+{
     let mut tokens = [0u32; TOKENS];
     let mut literals = [0u32; ROW_NUMBERS];
     let mut bytes = [0u8; LITERAL_BYTES];
@@ -285,7 +295,9 @@ fn load_rule(
     places: &[u32],
     names: &[u32],
     name_places: &[u32],
-) -> u32 {
+) -> u32
+    ensures { λ r. ⌜ r ≤ 2 ⌝ }
+{
     let mut rule = [0u8; RULE];
     let loaded = load(3, &mut rule);
     match loaded {
@@ -312,7 +324,9 @@ fn described(
     name_places: &[u32],
     literals: &[u32],
     bytes: &[u8],
-) -> u32 {
+) -> u32
+    ensures { λ r. ⌜ r ≤ 2 ⌝ }
+{
     match command {
         Command::Items => list_items(
             description,
@@ -329,7 +343,9 @@ fn described(
     }
 }
 
-fn with_description(command: Command, description: &[u8]) -> u32 {
+fn with_description(command: Command, description: &[u8]) -> u32
+    ensures { λ r. ⌜ r ≤ 2 ⌝ }
+{
     let mut rows = [0u32; ROW_NUMBERS];
     let mut places = [0u32; ROWS];
     let mut names = [0u32; NAME_NUMBERS];
@@ -364,7 +380,9 @@ fn with_description(command: Command, description: &[u8]) -> u32 {
     2
 }
 
-fn load_description(command: Command) -> u32 {
+fn load_description(command: Command) -> u32
+    ensures { λ r. ⌜ r ≤ 2 ⌝ }
+{
     let mut description = [0u8; DESCRIPTION];
     let loaded = load(2, &mut description);
     match loaded {
@@ -373,7 +391,9 @@ fn load_description(command: Command) -> u32 {
     }
 }
 
-fn status() -> u32 {
+fn status() -> u32
+    ensures { λ r. ⌜ r ≤ 2 ⌝ }
+{
     let mut word = [0u8; 16];
     let n = os::arg(1, &mut word);
     let command = command_of(front_bytes(&word, n), os::arg_count());

@@ -1,4 +1,8 @@
 // mend: blank digits and signs mended, the record in a new file.
+ghost use mathlib.Core.Path.{_≡_};
+ghost use Prim.Native.Nat.{_≤_};
+ghost use lib.ListN.{length};
+ghost use Rattle.logbook.specs.Ruled.{Mends};
 use crate::changes::change;
 use crate::changes::part;
 use crate::files::Loaded;
@@ -47,7 +51,9 @@ fn listing(description: &[u8], items: &[u32], places: &[u32], old: &[u8], new: &
     }
 }
 
-fn outcome(mended: &[u8]) -> u32 {
+fn outcome(mended: &[u8]) -> u32
+    ensures { λ r. ⌜ r ≤ 2 ⌝ }
+{
     if !save(4, mended) {
         return 2;
     }
@@ -57,20 +63,29 @@ fn outcome(mended: &[u8]) -> u32 {
     0
 }
 
+// The listing, and the new file. What is saved is the record mended by the rules.
+fn told(description: &[u8], items: &[u32], places: &[u32], old: &[u8], new: &[u8]) -> u32
+    requires { ⌜ Mends (now items) (now old) (now new) ⌝ }
+    ensures { λ r. ⌜ r ≤ 2 ⌝ }
+{
+    listing(description, items, places, old, new);
+    outcome(new)
+}
+
 fn mend_part(
     description: &[u8],
     items: &[u32],
     places: &[u32],
     old: &[u8],
     record: &mut [u8],
-) -> u32 {
+) -> u32
+    requires { ⌜ now «record» ≡ now old ⌝ }
+    ensures { λ r. ⌜ r ≤ 2 ⌝ }
+{
     let mut list = [0u32; CHANGES];
     let written = mend(items, record, &mut list);
     match written {
-        Written::Count(_) => {
-            listing(description, items, places, old, record);
-            outcome(record)
-        }
+        Written::Count(_) => told(description, items, places, old, record),
         Written::Refused(refusal) => {
             of_record(refusal, description, places);
             2
@@ -79,7 +94,10 @@ fn mend_part(
 }
 
 // The record twice: as it was, and to be mended.
-fn mend_copy(description: &[u8], items: &[u32], places: &[u32], old: &[u8]) -> u32 {
+fn mend_copy(description: &[u8], items: &[u32], places: &[u32], old: &[u8]) -> u32
+    requires { ⌜ length (now old) ≤ 131072 ⌝ }
+    ensures { λ r. ⌜ r ≤ 2 ⌝ }
+{
     let mut record = large();
     let n = lines::text::put(&mut record, 0, old);
     if n <= record.len() {
@@ -88,7 +106,9 @@ fn mend_copy(description: &[u8], items: &[u32], places: &[u32], old: &[u8]) -> u
     2
 }
 
-pub(crate) fn mend_record(description: &[u8], items: &[u32], places: &[u32]) -> u32 {
+pub(crate) fn mend_record(description: &[u8], items: &[u32], places: &[u32]) -> u32
+    ensures { λ r. ⌜ r ≤ 2 ⌝ }
+{
     if !is_free(4) {
         return 2;
     }

@@ -1,4 +1,10 @@
 // merge: two members' copies of a record with the one that both began from.
+ghost use mathlib.Core.Path.{_≡_};
+ghost use mathlib.Core.Logic.{_⊎_};
+ghost use Prim.Native.Nat.{_≤_};
+ghost use lib.ListN.{length};
+ghost use Rattle.tables.specs.Operands.{lendNames};
+ghost use Rattle.logbook.specs.Ruled.{mergeStatus, Merges};
 use crate::changes::change;
 use crate::changes::part;
 use crate::files::Loaded;
@@ -192,7 +198,9 @@ fn merged_line(file: &[u8], contested: usize) {
 }
 
 // The last line, and the status: 1 where something is contested.
-fn outcome(merged: &[u8], contested: usize) -> u32 {
+fn outcome(merged: &[u8], contested: usize) -> u32
+    ensures { λ r. ⌜ (r ≡ 2) ⊎ (r ≡ mergeStatus contested) ⌝ }
+{
     if !save(7, merged) {
         return 2;
     }
@@ -205,7 +213,7 @@ fn outcome(merged: &[u8], contested: usize) -> u32 {
     1
 }
 
-// The listing, why the rule could not decide where it did not, and the new file.
+// The listing, why the rule could not decide where it did not, and the new file. What is saved is what the rules merge.
 fn told<'a>(
     description: &[u8],
     items: &[u32],
@@ -220,7 +228,10 @@ fn told<'a>(
     switches: u8,
     merged: &[u8],
     list: &[u32],
-) -> u32 {
+) -> u32
+    requires { ⌜ Merges (lendNames (now items) (now literals) (now bytes) (now names)) (now plan) switches (now old) (now first) (now second) (now merged) (now list) ⌝ }
+    ensures { λ r. ⌜ (r ≡ 2) ⊎ (r ≡ mergeStatus (length (now (list .entry)))) ⌝ }
+{
     listing(description, items, places, list, old, first, second, merged);
     if list.len() > 0 {
         reason(
@@ -250,7 +261,9 @@ fn merge_loaded<'a>(
     first: &'a [u8],
     second: &'a [u8],
     switches: u8,
-) -> u32 {
+) -> u32
+    ensures { λ r. ⌜ r ≤ 2 ⌝ }
+{
     let mut merged = large();
     let mut list = [0u32; ROWS];
     let answer = merge(
@@ -300,7 +313,9 @@ fn with_second<'a>(
     old: &'a [u8],
     first: &'a [u8],
     switches: u8,
-) -> u32 {
+) -> u32
+    ensures { λ r. ⌜ r ≤ 2 ⌝ }
+{
     let mut second = large();
     let loaded = load(6, &mut second);
     match loaded {
@@ -331,7 +346,9 @@ fn with_first<'a>(
     plan: &[u32],
     old: &'a [u8],
     switches: u8,
-) -> u32 {
+) -> u32
+    ensures { λ r. ⌜ r ≤ 2 ⌝ }
+{
     let mut first = large();
     let loaded = load(5, &mut first);
     match loaded {
@@ -360,7 +377,9 @@ pub(crate) fn merge_copies(
     bytes: &[u8],
     plan: &[u32],
     switches: u8,
-) -> u32 {
+) -> u32
+    ensures { λ r. ⌜ r ≤ 2 ⌝ }
+{
     if !is_free(7) {
         return 2;
     }

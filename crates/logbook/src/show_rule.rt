@@ -1,4 +1,5 @@
 // rule: the rule as read, in full, as a plan, and the items that it may look at.
+ghost use Prim.Native.Nat.{_≤_};
 use crate::files::large;
 use crate::files::wide;
 use crate::print::text;
@@ -125,7 +126,9 @@ pub(crate) fn show_rule(
     bytes: &[u8],
     tokens: &[u32],
     plan: &[u32],
-) -> u32 {
+) -> u32
+    ensures { λ r. ⌜ r ≤ 2 ⌝ }
+{
     text(STDOUT_FILENO, b"The rule:\n");
     line(description, literals, bytes, tokens);
     text(STDOUT_FILENO, b"In full:\n");

@@ -1,5 +1,6 @@
 // sweep: one rule over a file of entries of the description's length, read in parts that are whole entries.
 ghost use Prim.Native.Nat.{_≤_};
+ghost use Prim.Native.Nat.{_≤_};
 use crate::files::at_end;
 use crate::files::large;
 use crate::files::open;
@@ -424,7 +425,9 @@ fn totals_line(totals: Totals) {
 }
 
 // The last line, and the status: 2 where an entry stops or the file is refused, 1 where an entry is false.
-fn outcome(totals: Totals) -> u32 {
+fn outcome(totals: Totals) -> u32
+    ensures { λ r. ⌜ r ≤ 2 ⌝ }
+{
     totals_line(totals);
     if (totals.stopped > 0) | totals.refused {
         return 2;
@@ -444,7 +447,9 @@ pub(crate) fn sweep_file(
     bytes: &[u8],
     plan: &[u32],
     switches: u8,
-) -> u32 {
+) -> u32
+    ensures { λ r. ⌜ r ≤ 2 ⌝ }
+{
     let file = open(4);
     if file < 0 {
         return 2;

@@ -1,4 +1,6 @@
 // What a rule says of a record: its verdict, or where it stops and on what.
+ghost use mathlib.Core.Path.{_≡_};
+ghost use Rattle.logbook.specs.Worded.{Words, tokenCount, rowTokens, conditionTokens};
 use crate::print::text;
 use crate::wording::item_name;
 use crate::wording::item_with;
@@ -23,7 +25,9 @@ const WORDS: usize = 2048;
 const LINES: usize = 2304;
 
 // How many tokens a row's condition has. A switch or a condition-name stands alone; class and sign words have no object.
-fn token_count(relation: u32) -> usize {
+fn token_count(relation: u32) -> usize
+    ensures { λ r. ⌜ r ≡ tokenCount relation ⌝ }
+{
     if relation == 0 {
         return 1;
     }
@@ -40,7 +44,9 @@ fn token_count(relation: u32) -> usize {
 }
 
 // These tokens, and others after them.
-fn row_tokens(row: PlanRow) -> [u32; 4] {
+fn row_tokens(row: PlanRow) -> [u32; 4]
+    ensures { λ r. ⌜ r ≡ rowTokens row ⌝ }
+{
     let word = FIRST_WORD + row.relation % NEGATED;
     if row.relation < NEGATED {
         return [row.subject, word, row.object, 0];
@@ -55,7 +61,9 @@ pub(crate) fn condition(
     bytes: &[u8],
     row: PlanRow,
     out: &mut [u8],
-) -> usize {
+) -> usize
+    ensures { λ r. ⌜ Words (now (description .entry)) (now (literals .entry)) (now (bytes .entry)) (conditionTokens row) (now (out .entry)) r (now (out .exit)) ⌝ }
+{
     let tokens = row_tokens(row);
     words(
         description,

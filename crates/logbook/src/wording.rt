@@ -1,4 +1,7 @@
 // Items by their names, and conditions by their words.
+ghost use mathlib.Core.Path.{_≡_};
+ghost use lib.ListN.{drop};
+ghost use Rattle.logbook.specs.Worded.{endsName, nameIn, placeOfRow, nameOfRow, hasByte, itemWith, Words};
 use crate::files::wide;
 use books::Printed;
 use content::Row;
@@ -8,12 +11,16 @@ use tables::rows::is_group;
 use tables::rows::row_at;
 
 // Whether a name ends before this byte.
-fn ends_name(byte: u8) -> bool {
+fn ends_name(byte: u8) -> bool
+    ensures { λ r. ⌜ r ≡ endsName byte ⌝ }
+{
     (byte == 0x20) | (byte == 0x0A) | (byte == 0x2E)
 }
 
 // The bytes of a word from its first on.
-fn first_word(rest: &[u8]) -> &[u8] {
+fn first_word(rest: &[u8]) -> &[u8]
+    ensures { λ r. ⌜ now r ≡ nameIn (now (rest .entry)) ⌝ }
+{
     let mut end: usize = 0;
     while end < rest.len() {
         if ends_name(rest[end]) {
@@ -25,7 +32,9 @@ fn first_word(rest: &[u8]) -> &[u8] {
 }
 
 // The name that stands at a place of a description.
-pub(crate) fn name_at(description: &[u8], place: usize) -> &[u8] {
+pub(crate) fn name_at(description: &[u8], place: usize) -> &[u8]
+    ensures { λ r. ⌜ now r ≡ nameIn (drop place (now (description .entry))) ⌝ }
+{
     if place < description.len() {
         return first_word(&description[place..]);
     }
@@ -33,7 +42,9 @@ pub(crate) fn name_at(description: &[u8], place: usize) -> &[u8] {
 }
 
 // The place of row v, or the end of the description.
-fn place_of_row(description: &[u8], places: &[u32], v: usize) -> usize {
+fn place_of_row(description: &[u8], places: &[u32], v: usize) -> usize
+    ensures { λ r. ⌜ r ≡ placeOfRow (now (description .entry)) (now (places .entry)) v ⌝ }
+{
     if v < places.len() {
         return wide(places[v]);
     }
@@ -41,7 +52,9 @@ fn place_of_row(description: &[u8], places: &[u32], v: usize) -> usize {
 }
 
 // The name of row v.
-pub(crate) fn item_name<'a>(description: &'a [u8], places: &[u32], v: usize) -> &'a [u8] {
+pub(crate) fn item_name<'a>(description: &'a [u8], places: &[u32], v: usize) -> &'a [u8]
+    ensures { λ r. ⌜ now r ≡ nameOfRow (now (description .entry)) (now (places .entry)) v ⌝ }
+{
     name_at(description, place_of_row(description, places, v))
 }
 
@@ -52,25 +65,32 @@ pub(crate) fn words(
     bytes: &[u8],
     tokens: &[u32],
     out: &mut [u8],
-) -> usize {
+) -> usize
+    ensures { λ r. ⌜ Words (now (description .entry)) (now (literals .entry)) (now (bytes .entry)) (now (tokens .entry)) (now (out .entry)) r (now (out .exit)) ⌝ }
+{
     let printed = print(description, literals, bytes, tokens, out);
     match printed {
         Printed::Count(n) => n,
-        _ => 0,
+        Printed::Description(_) => 0,
+        Printed::Refused(_) => 0,
+        Printed::Name(_) => 0,
     }
 }
 
-fn holds(row: Row, byte: usize) -> bool {
-    let start = row.offset as usize;
-    let size = row.size as usize;
+fn holds(row: Row, byte: usize) -> bool
+    ensures { λ r. ⌜ r ≡ hasByte row byte ⌝ }
+{
+    let start = wide(row.offset);
     if byte < start {
         return false;
     }
-    byte - start < size
+    byte - start < wide(row.size)
 }
 
 // The elementary item that has a byte of the record, of at most 64; 64 where none has it.
-pub(crate) fn item_with(items: &[u32], byte: usize) -> usize {
+pub(crate) fn item_with(items: &[u32], byte: usize) -> usize
+    ensures { λ r. ⌜ r ≡ itemWith (now (items .entry)) byte ⌝ }
+{
     let count = items.len() / Row::WIDTH;
     if 64 < count {
         return 64;

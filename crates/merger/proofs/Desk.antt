@@ -51,21 +51,24 @@ module _ (items literals bytes names plan old first second : List ℕ) where
       pub lengths-refuse : {refusal : Refusal} → lengthCheck old first second ≡ Refused refusal → firstOf (deskLines lent plan old first second) ≡ Refused refusal
       lengths-refuse e = lines-before (lentLines lent) after ∙ line-sound after t ∙ line-sound _ o ∙ line-refused _ e
 
-      module _ (l : lengthCheck old first second ≡ Sound) where
-        pub plan-refuses : {refusal : Refusal} → planCheck (lendNames items literals [] names) plan ≡ Refused refusal
-            → firstOf (deskLines lent plan old first second) ≡ Refused refusal
-        plan-refuses e =
-            lines-before (lentLines lent) after ∙ line-sound after t ∙ line-sound _ o ∙ line-sound _ l
-            ∙ line-refused _ (plan-lent false items literals bytes names plan ∙ e)
+  -- the lines before the plan's pass
+  pub record Passed : Type 0 where
+    pub tables : firstOf (lentLines lent) ≡ Sound
+    pub apart : overlapCheck items ≡ Sound
+    pub long : lengthCheck old first second ≡ Sound
 
-        pub record-decides : planCheck (lendNames items literals [] names) plan ≡ Sound → {line : Check} → line ≡ longCheck items old
-            → line ≡ firstOf (deskLines lent plan old first second)
-        record-decides e line-is =
-            line-is
-            ∙ sym (
-            lines-before (lentLines lent) after ∙ line-sound after t ∙ line-sound _ o ∙ line-sound _ l
-            ∙ line-sound _ (plan-lent false items literals bytes names plan ∙ e) ∙ line-last _
-            )
+module _ {items literals bytes names plan old first second : List ℕ} (P : Passed items literals bytes names plan old first second) where
+  to-plan : firstOf (deskLines (lendNames items literals bytes names) plan old first second)
+      ≡ firstOf (planCheck (lendNames items literals bytes names) plan ∷ longCheck items old ∷ [])
+  to-plan = lines-before (lentLines (lendNames items literals bytes names)) _ ∙ line-sound _ (P .tables) ∙ line-sound _ (P .apart) ∙ line-sound _ (P .long)
+
+  pub plan-refuses : {refusal : Refusal} → planCheck (lendNames items literals [] names) plan ≡ Refused refusal
+      → firstOf (deskLines (lendNames items literals bytes names) plan old first second) ≡ Refused refusal
+  plan-refuses e = to-plan ∙ line-refused _ (plan-lent false items literals bytes names plan ∙ e)
+
+  pub record-decides : planCheck (lendNames items literals [] names) plan ≡ Sound → {line : Check} → line ≡ longCheck items old
+      → line ≡ firstOf (deskLines (lendNames items literals bytes names) plan old first second)
+  record-decides e line-is = line-is ∙ sym (to-plan ∙ line-sound _ (plan-lent false items literals bytes names plan ∙ e) ∙ line-last _)
 
 -- a desk that refuses nothing: what the writing of a merge assumes
 module _ (items literals bytes names plan old first second : List ℕ)

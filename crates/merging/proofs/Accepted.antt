@@ -69,6 +69,9 @@ module _ (copies : Copies) (verdict : Verdict) (fine : Fine copies) where
       (part-length (rowAt (copies .items) v) (copies .first) (omega (arith, inside, fine .firstLong)))
       (part-length (rowAt (copies .items) v) (copies .second) (omega (arith, inside, fine .secondLong)))
 
+  pub merged-long : length (mergedRecord copies verdict) ≡ length (copies .old)
+  merged-long = rewritten-length (copies .items) (mergedAt copies verdict) (copies .old) (rowCount (copies .items)) (fine .lies) sized
+
   item-merged : (v : ℕ) → v < rowCount (copies .items) → elementaryAt (copies .items) v ≡ true
       → partAt (copies .items) v (mergedRecord copies verdict) ≡ mergedAt copies verdict v
   item-merged v there elementary =

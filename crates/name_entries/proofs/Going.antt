@@ -3,7 +3,7 @@ use mathlib.Core.Path.{_≡_, refl, sym, ap, subst, _∙_}
 use mathlib.Core.Bool.{Bool, true, false, cond, _||_}
 use mathlib.Core.Option.{none}
 use mathlib.Core.List.{List, [], _∷_, _++_, append-nil}
-use Prim.Native.Nat.{ℕ, _+_, _*_, _-_, _≤_, _<_}
+use Prim.Native.Nat.{ℕ, _+_, _-_, _≤_, _<_}
 use native.Mathlib.Omega.{arith}
 use borrow.Author.Tests.{le-ltb}
 use lib.Dec.{eqb, ltb}
@@ -11,11 +11,10 @@ use lib.ListN.{length, take, drop, replicate, length-drop}
 use Rattle.content.specs.declared.Row as Rules
 use Rattle.description.specs.Grammar.{bytes, Value, pairs, literals}
 use Rattle.description.specs.Limits.{anyBarred}
-use Rattle.description.specs.Reader.{isName, beginsName, Naming, label, value, values, labelled, faulty}
-use Rattle.description.specs.Stages.{inked, reach, joined, literalAt, nameReach, labelAt}
+use Rattle.description.specs.Reader.{isName, beginsName, Naming, label, value, values}
+use Rattle.description.specs.Stages.{inked, joined, literalAt, nameReach, labelAt}
 use Rattle.description.specs.declared.Reached.{Reached}
 use Rattle.description.specs.declared.Reached.the-variants as Reached
-use Rattle.description.proofs.Bytes.{apart}
 use Rattle.description.proofs.Stages.{reach-le}
 use Rattle.description.proofs.Phases.{onReached}
 use Rattle.text_bytes.proofs.Laws.{inked-le}
@@ -26,12 +25,13 @@ use Rattle.condition_names.specs.declared.Found.{Found}
 use Rattle.condition_names.specs.declared.ValueRead.{ValueRead}
 use Rattle.condition_names.specs.declared.ValueRead.the-variants as ValueRead
 use Rattle.condition_names.proofs.Leads.{onRead, value-leads-on, Goes, value-goes}
-use Rattle.name_entries.specs.Taking.{Rooms, Takes}
-use Rattle.name_entries.specs.Named.{Span, literalsIn, pairNumbers, overValues, Noted, Left, Begun, Ready, Held, ReadAs, HeldBy, ValuesBy, LabelledAs, NamedBy}
-use Rattle.name_entries.specs.declared.Tally.{Tally}
+use Rattle.value_notes.specs.Taking.{Rooms, Takes}
+use Rattle.name_entries.specs.Named.{Span, literalsIn, pairNumbers, overValues, Noted, Left, Begun, Ready, Held, ValuesBy, NamedBy}
+use Rattle.value_notes.specs.declared.Tally.{Tally}
 use Rattle.name_entries.specs.declared.NameRead.{NameRead}
 use Rattle.name_entries.specs.declared.NameRead.the-variants.{Whole, Fault}
 use Rattle.name_entries.proofs.Holding.{held-more}
+use Rattle.name_entries.proofs.Sparing.{Rest, rest-first, rest-more, spared-first}
 
 -- What has been read up to `at`, from n on.
 pub record Going (text : List ℕ) (n : ℕ) (item : Rules.Row) (start : Tally) (notes-before : List ℕ) (row notes : List ℕ) (t : Tally) (at : ℕ) : Type 0 where
@@ -40,8 +40,7 @@ pub record Going (text : List ℕ) (n : ℕ) (item : Rules.Row) (start : Tally) 
   pub held : (ss : List Span) → (start .over ≡ false → Noted text notes-before start ss) → Held text item (start .over) ss taken t row notes
   pub past : n ≤ at
   pub inside : at ≤ length text
-  pub wide : length row ≡ 18
-  pub long : length notes ≡ length notes-before
+  pub rest : Rest (start .literals) notes-before t row notes
 
 module _ (text : List ℕ) (n : ℕ) (item : Rules.Row) (start : Tally) (row notes : List ℕ) (l : n ≤ length text) (b : Begun text start row notes) where
   first-held : (ss : List Span) → (start .over ≡ false → Noted text notes start ss) → Held text item (start .over) ss [] start row notes
@@ -73,8 +72,7 @@ module _ (text : List ℕ) (n : ℕ) (item : Rules.Row) (start : Tally) (row not
         held = first-held;
         past = omega arith;
         inside = l;
-        wide = ap length (b .zeros);
-        long = refl;
+        rest = rest-first (b .zeros);
       }
 
 module _ {text : List ℕ} {n : ℕ} {item : Rules.Row} {start : Tally} {notes-before row notes : List ℕ} {t : Tally} {at : ℕ}
@@ -88,14 +86,14 @@ module _ {text : List ℕ} {n : ℕ} {item : Rules.Row} {start : Tally} {notes-b
   pub rooms : {f : Found} {row₀ : List ℕ} → Begun text start row₀ notes-before → Stands text f → Rooms f t row notes
   rooms b s =
       record {
-        wide = g .wide;
-        long = omega (arith, g .long, b .long);
+        wide = g .rest .spared .wide;
+        long = omega (arith, g .rest .spared .long, b .long);
         mid = (omega (arith, s .starts, s .middle, b .short), omega (arith, s .middle, b .short));
         end = (omega (arith, s .goes, s .ends, b .short), omega (arith, s .ends, b .short));
         bytes = λ e. g .held (b .spans) (b .noted) .left e .noted .small;
       }
 
-  module _ {f : Found} {e : ℕ} {row-after notes-after : List ℕ} {r : Tally} (m : 448 ≤ length notes) (wide : length row-after ≡ length row) (long : length notes-after ≡ length notes)
+  module _ {f : Found} {e : ℕ} {row-after notes-after : List ℕ} {r : Tally} (m : 448 ≤ length notes)
       (k : Takes (weighed item (valueOf text f)) f t row notes r row-after notes-after) where
     pub going-more : (ValueRead.Open f e ≡ valueAt text at) → Going text n item start notes-before row-after notes-after r e
     going-more q =
@@ -106,8 +104,7 @@ module _ {text : List ℕ} {n : ℕ} {item : Rules.Row} {start : Tally} {notes-b
           held = λ ss i. held-more text item (start .over) ss (g .taken) t row notes f (s .0) (g .held ss i) m r row-after notes-after k;
           past = omega (arith, g .past, s .1);
           inside = s .2;
-          wide = wide ∙ g .wide;
-          long = long ∙ g .long;
+          rest = rest-more (g .rest) k;
         }
 
     pub going-ended : (ValueRead.Ended f e ≡ valueAt text at) → ValuesBy text n item start notes-before (Whole r e) row-after notes-after
@@ -120,15 +117,18 @@ module _ {text : List ℕ} {n : ℕ} {item : Rules.Row} {start : Tally} {notes-b
             s .2,
             omega (arith, g .past, s .1),
             λ ss i. held-more text item (start .over) ss (g .taken) t row notes f (s .0) (g .held ss i) m r row-after notes-after k,
+            λ o. rest-more (g .rest) k .fresh o .beyond,
           );
+          spared = rest-more (g .rest) k .spared;
         }
 
-  pub going-fault : {k : ℕ} {row-after notes-after : List ℕ} → (ValueRead.Fault k ≡ valueAt text at) → ValuesBy text n item start notes-before (Fault k) row-after notes-after
+  pub going-fault : {k : ℕ} → (ValueRead.Fault k ≡ valueAt text at) → ValuesBy text n item start notes-before (Fault k) row notes
   going-fault q =
       record {
         values = g .taken;
         reads = λ h p. g .reads h p ∙ value-leads-on text h p (g .taken) at ∙ ap (onRead text h p (g .taken)) (sym q);
         held = tt;
+        spared = g .rest .spared;
       }
 
 pub begun : {text : List ℕ} {t : Tally} {row notes : List ℕ} → Ready text t notes → row ≡ replicate 18 0 → Begun text t row notes
@@ -140,14 +140,24 @@ to-value : (text : List ℕ) (n k : ℕ) → Reached.Word k ≡ labelAt text n �
 to-value text n k q h = label-leads text n h ∙ ap (onReached text (label h) (value h (inked text n))) (sym q) ∙ value-leads text k h (inked text n)
 
 module _ (text : List ℕ) (n : ℕ) {item : Rules.Row} {start : Tally} {notes : List ℕ} where
-  pub label-fault : {e : ℕ} {row-after notes-after : List ℕ} → Reached.Fault e ≡ labelAt text n → NamedBy text n item start notes (Fault e) row-after notes-after
-  label-fault {e} q =
-      record { values = []; reads = λ h. label-leads text n h ∙ ap (onReached text (label h) (value h (inked text n))) (sym q); held = tt }
+  pub label-fault : {e : ℕ} {row : List ℕ} → row ≡ replicate 18 0 → Reached.Fault e ≡ labelAt text n → NamedBy text n item start notes (Fault e) row notes
+  label-fault z q =
+      record {
+        values = [];
+        reads = λ h. label-leads text n h ∙ ap (onReached text (label h) (value h (inked text n))) (sym q);
+        held = tt;
+        spared = spared-first z;
+      }
 
   module _ (k : ℕ) (q : Reached.Word k ≡ labelAt text n) where
-    pub value-fault : {e : ℕ} {row-after notes-after : List ℕ} → Reached.Fault e ≡ literalAt (bytes "VALUE") text k → NamedBy text n item start notes (Fault e) row-after notes-after
-    value-fault s =
-        record { values = []; reads = λ h. to-value text n k q h ∙ ap (onReached text (value h (inked text n)) (values h (inked text n) [] none)) (sym s); held = tt }
+    pub value-fault : {e : ℕ} {row : List ℕ} → row ≡ replicate 18 0 → Reached.Fault e ≡ literalAt (bytes "VALUE") text k → NamedBy text n item start notes (Fault e) row notes
+    value-fault z s =
+        record {
+          values = [];
+          reads = λ h. to-value text n k q h ∙ ap (onReached text (value h (inked text n)) (values h (inked text n) [] none)) (sym s);
+          held = tt;
+          spared = spared-first z;
+        }
 
     pub valued : {m : ℕ} (r : NameRead) {row-after notes-after : List ℕ} → n ≤ m → Reached.Word m ≡ literalAt (bytes "VALUE") text k →
         ValuesBy text m item start notes r row-after notes-after → NamedBy text n item start notes r row-after notes-after
@@ -156,13 +166,15 @@ module _ (text : List ℕ) (n : ℕ) {item : Rules.Row} {start : Tally} {notes :
         record {
           values = v .values;
           reads = λ h. to-value text n k q h ∙ ap (onReached text (value h (inked text n)) (values h (inked text n) [] none)) (sym s) ∙ v .reads h (inked text n);
-          held = (h .0, omega (arith, h .1), h .2);
+          held = (h .0, omega (arith, h .1), h .2, h .3);
+          spared = v .spared;
         }
     valued (Fault e) l s v =
         record {
           values = v .values;
           reads = λ h. to-value text n k q h ∙ ap (onReached text (value h (inked text n)) (values h (inked text n) [] none)) (sym s) ∙ v .reads h (inked text n);
           held = tt;
+          spared = v .spared;
         }
 
 pub label-within : (text : List ℕ) (n k : ℕ) → n ≤ length text → Reached.Word k ≡ labelAt text n → (n ≤ k) × (k ≤ length text)

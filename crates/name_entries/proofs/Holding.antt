@@ -1,31 +1,30 @@
 -- One value more: what is stored of it, and whether a limit is passed.
 use mathlib.Core.Path.{_≡_, refl, sym, ap, subst, _∙_}
-use mathlib.Core.Logic.{_⊎_, inl, inr}
-use mathlib.Core.Bool.{Bool, true, false, cond, not, _&&_, _||_}
-use mathlib.Core.Option.{Option, none, some}
-use mathlib.Core.List.{List, [], _∷_, _++_, append-nil, append-assoc}
-use Prim.Native.Nat.{ℕ, zero, suc, _+_, _*_, _-_, _≤_, _<_}
+use mathlib.Core.Bool.{Bool, true, false, cond, not, _||_}
+use mathlib.Core.Option.{none}
+use mathlib.Core.List.{List, [], _∷_, _++_, append-assoc}
+use Prim.Native.Nat.{ℕ, suc, _+_, _*_, _-_, _≤_, _<_}
 use native.Mathlib.Omega.{arith}
-use borrow.Author.Tests.{leb-true, leb-false, ltb-true, ltb-false, le-leb, lt-leb, lt-ltb, le-ltb}
+use borrow.Author.Tests.{leb-true, leb-false, ltb-true, lt-ltb, le-ltb}
 use lib.Dec.{leb, ltb}
-use lib.ListN.{length, take, drop, replicate, length-append, length-replicate, replicate-append-replicate}
-use lib.Seq.{sets, sets-eq, length-sets, drop-append-add, take-append-add, take-append-le, take-append-seam, take-at, length-take-le}
+use lib.ListN.{length, take, drop, replicate, length-append}
+use lib.Seq.{sets, sets-eq, length-sets, drop-append-add, take-at, length-take-le}
 use Rattle.content.specs.declared.Row as Rules
 use Rattle.tables.specs.Rows.{rowSound}
 use Rattle.description.specs.Grammar.{Row, Literal, literalRow, Value, single, range, Pair, pair, pairs, literals, literalBytes}
-use Rattle.description.specs.Limits.{ruled, unfit, barredAlone, barred, anyBarred}
+use Rattle.description.specs.Limits.{ruled, barredAlone, barred, anyBarred}
 use Rattle.description.specs.Stages.{isLiteral, literalIn}
 use Rattle.description.proofs.Bytes.{apart}
-use Rattle.literal_pairs.specs.Spelling.{literalOf, Written}
+use Rattle.literal_pairs.specs.Spelling.{literalOf}
 use Rattle.literal_rows.proofs.Words.{written-small}
-use Rattle.condition_names.specs.Values.{alone, valueOf, Stands}
+use Rattle.condition_names.specs.Values.{valueOf, Stands}
 use Rattle.value_weights.specs.Weights.{shown, rowsOf, weighed}
 use Rattle.condition_names.specs.declared.Found.{Found}
-use Rattle.value_weights.specs.declared.Weighed.{Weighed}
 use Rattle.value_weights.specs.declared.Weighed.the-variants.{Barred, Single, Range}
-use Rattle.name_entries.specs.Taking.{noteNumbers, tally, Small, full, notesAfter, rowAfter, tallyAfter, wants, isBarred, Takes}
-use Rattle.name_entries.specs.Named.{Span, literalsIn, notesOf, Standing, pairNumbers, overValues, Noted, Left, Held}
-use Rattle.name_entries.specs.declared.Tally.{Tally}
+use Rattle.value_notes.specs.Taking.{noteNumbers, Small, full, notesAfter, rowAfter, tallyAfter, wants, isBarred, Takes}
+use Rattle.name_entries.specs.Named.{Span, literalsIn, notesOf, Standing, pairNumbers, overValues, Left, Held}
+use Rattle.value_notes.specs.declared.Tally.{Tally}
+use Rattle.value_notes.proofs.Taken.{Room, room-of}
 
 -- Lists that grow at their ends.
 pub literals-append : (vs ws : List Value) → literals (vs ++ ws) ≡ literals vs ++ literals ws
@@ -407,12 +406,8 @@ module _ (text : List ℕ) (item : Rules.Row) (start : Bool) (ss : List Span) (v
       or-no true b e = apart refl e
       or-no false b e = (refl, e)
 
-      parts : (t .over ≡ false) × (t .values < 8) × (t .literals + wants (weighed item w) ≤ 64)
-      parts =
-          let a = or-no (isBarred (weighed item w)) (full t (wants (weighed item w))) none in
-          let b = or-no (t .over) (leb 8 (t .values) || ltb 64 (t .literals + wants (weighed item w))) (a .1) in
-          let c = or-no (leb 8 (t .values)) (ltb 64 (t .literals + wants (weighed item w))) (b .1) in
-          (b .0, leb-false 8 (t .values) (c .0), ltb-false 64 (t .literals + wants (weighed item w)) (c .1))
+      parts : Room t (wants (weighed item w))
+      parts = room-of t (wants (weighed item w)) (or-no (isBarred (weighed item w)) (full t (wants (weighed item w))) none .1)
 
       by : (x : Bool) → barred (shown item) w ≡ x → (y : Bool) → f .range ≡ y →
           Left text ss (vs ++ w ∷ []) (tallyAfter (weighed item w) t) (rowAfter (weighed item w) t row) (notesAfter (weighed item w) f t notes)
@@ -423,14 +418,14 @@ module _ (text : List ℕ) (item : Rules.Row) (start : Bool) (ss : List Span) (v
           let u : w ≡ range (literalIn text (f .low) (f .mid)) (literalIn text (f .high) (f .end)) = rw j in
           let q : weighed item w ≡ rowsOf (range (literalIn text (f .low) (f .mid)) (literalIn text (f .high) (f .end))) = rw (i, u) in
           let m = subst (λ (x : Value). Small (rowsOf x)) u (small-value text item f s i) in
-          let c : t .literals + 2 ≤ 64 = rw q at (parts .2) in
-          rw q (left-range text item ss vs t row notes f s (h .left (parts .0)) j (parts .1) c n (m .0) (m .1))
+          let c : t .literals + 2 ≤ 64 = rw q at (parts .literals) in
+          rw q (left-range text item ss vs t row notes f s (h .left (parts .«open»)) j (parts .values) c n (m .0) (m .1))
       by false i false j =
           let u : w ≡ single (literalIn text (f .low) (f .mid)) = rw j in
           let q : weighed item w ≡ rowsOf (single (literalIn text (f .low) (f .mid))) = rw (i, u) in
           let m = subst (λ (x : Value). Small (rowsOf x)) u (small-value text item f s i) in
-          let c : t .literals + 1 ≤ 64 = rw q at (parts .2) in
-          rw q (left-single text item ss vs t row notes f s (h .left (parts .0)) j (parts .1) c n m)
+          let c : t .literals + 1 ≤ 64 = rw q at (parts .literals) in
+          rw q (left-single text item ss vs t row notes f s (h .left (parts .«open»)) j (parts .values) c n m)
 
   pub held-more : Held text item start ss (vs ++ w ∷ []) r row-after notes-after
   held-more = record { over = over-more; left = left-more }

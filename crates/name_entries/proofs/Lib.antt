@@ -1,4 +1,3 @@
-pub mod Taken
-pub mod Cells
+pub mod Sparing
 pub mod Holding
 pub mod Going

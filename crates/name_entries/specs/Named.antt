@@ -1,10 +1,10 @@
 -- Level 88 entries as the code reads them: what a whole entry leaves in the buffers.
 use mathlib.Core.Path.{_≡_}
-use mathlib.Core.Bool.{Bool, true, false, cond, _||_}
+use mathlib.Core.Bool.{Bool, true, false, _||_}
 use mathlib.Core.Option.{none}
-use mathlib.Core.List.{List, [], _∷_, _++_, map}
-use Prim.Native.Nat.{ℕ, zero, suc, _+_, _*_, _-_, _≤_, _<_}
-use lib.Dec.{leb, ltb}
+use mathlib.Core.List.{List, [], _∷_, _++_}
+use Prim.Native.Nat.{ℕ, _+_, _*_, _-_, _≤_, _<_}
+use lib.Dec.{ltb}
 use lib.ListN.{length, take, drop, replicate}
 use Rattle.content.specs.declared.Row as Rules
 use Rattle.description.specs.Grammar.{Row, Literal, literalRow, Value, Pair, pairs, literals, literalBytes}
@@ -12,8 +12,8 @@ use Rattle.description.specs.Limits.{ruled, anyBarred}
 use Rattle.description.specs.Reader.{Naming, label, values, labelled, faulty}
 use Rattle.description.specs.Stages.{inked, joined, isLiteral, literalIn}
 use Rattle.value_weights.specs.Weights.{shown}
-use Rattle.name_entries.specs.Taking.{noteNumbers}
-use Rattle.name_entries.specs.declared.Tally.{Tally}
+use Rattle.value_notes.specs.Taking.{noteNumbers}
+use Rattle.value_notes.specs.declared.Tally.{Tally}
 use Rattle.name_entries.specs.declared.NameRead.{NameRead}
 use Rattle.name_entries.specs.declared.NameRead.the-variants.{Whole, Fault}
 use Rattle.tables.specs.Rows.{nameWidth}
@@ -88,13 +88,24 @@ pub record Held (text : List ℕ) (item : Rules.Row) (start : Bool) (ss : List S
   pub over : t .over ≡ start || overValues (length ss) (shown item) vs
   pub left : t .over ≡ false → Left text ss vs t row notes
 
+-- What every entry leaves, with k literals before it: their notes and all from number 448 on as they were, and two zeros where the row will
+-- name the item and count the pairs. Free where the entry is not whole or passes a limit: the rest of the row, and the notes between.
+pub record Spared (k : ℕ) (notes rowLeft notesLeft : List ℕ) : Type 0 where
+  pub wide : length rowLeft ≡ nameWidth
+  pub unnamed : take 2 rowLeft ≡ 0 ∷ 0 ∷ []
+  pub long : length notesLeft ≡ length notes
+  pub counted : take (k * 7) notesLeft ≡ take (k * 7) notes
+  pub beyond : drop 448 notesLeft ≡ drop 448 notes
+
 abbrev pub ReadAs : List ℕ → ℕ → List Value → NameRead → Type 0
 ReadAs text n vs (Whole t e) = (h : Naming) (p : ℕ) → joined text n (values h p [] none) ≡ joined text e (labelled h p vs)
 ReadAs text n vs (Fault k) = (h : Naming) (p : ℕ) → joined text n (values h p [] none) ≡ faulty (h .earlier) k
 
+-- where no limit is passed, the notes after those that `Held` tells are as they were
 abbrev pub HeldBy : List ℕ → ℕ → Rules.Row → Tally → List ℕ → List Value → NameRead → List ℕ → List ℕ → Type 0
 HeldBy text n item start notes vs (Whole t e) rowLeft notesLeft =
     (e ≤ length text) × (n < e) × ((ss : List Span) → (start .over ≡ false → Noted text notes start ss) → Held text item (start .over) ss vs t rowLeft notesLeft)
+    × (t .over ≡ false → drop (t .literals * 7) notesLeft ≡ drop (t .literals * 7) notes)
 HeldBy text n item start notes vs (Fault k) rowLeft notesLeft = Unit {0}
 
 -- The values of an entry, from n on.
@@ -102,6 +113,7 @@ pub record ValuesBy (text : List ℕ) (n : ℕ) (item : Rules.Row) (start : Tall
   pub values : List Value
   pub reads : ReadAs text n values r
   pub held : HeldBy text n item start notes values r rowLeft notesLeft
+  pub spared : Spared (start .literals) notes rowLeft notesLeft
 
 -- A whole entry, whose level number stands before n.
 abbrev pub LabelledAs : List ℕ → ℕ → List Value → NameRead → Type 0
@@ -112,3 +124,4 @@ pub record NamedBy (text : List ℕ) (n : ℕ) (item : Rules.Row) (start : Tally
   pub values : List Value
   pub reads : LabelledAs text n values r
   pub held : HeldBy text n item start notes values r rowLeft notesLeft
+  pub spared : Spared (start .literals) notes rowLeft notesLeft

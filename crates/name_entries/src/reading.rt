@@ -5,13 +5,13 @@ ghost use lib.ListN.{length, replicate};
 ghost use Rattle.name_entries.specs.Named.{Begun, Ready, ValuesBy, NamedBy};
 ghost use Rattle.tables.specs.Rows.{nameWidth};
 use crate::NameRead;
-use crate::Tally;
-use crate::notes::clear;
-use crate::taking::take_value;
 use condition_names::ValueRead;
 use condition_names::scan::value_at;
 use content::Row;
 use description::Reached;
+use value_notes::Tally;
+use value_notes::notes::clear;
+use value_notes::taking::take_value;
 use value_weights::weights::weigh;
 use wanted_words::literals::literal;
 use words::names::label_at;
@@ -47,8 +47,8 @@ fn read_values(
     }
 }
 
-// The entry whose level number ends at n: its name, VALUE and its values. `row` is for their pairs. Free: what it and `notes` hold
-// where the entry is not whole or passes a limit.
+// The entry whose level number ends at n: its name, VALUE and its values. `row` is for their pairs. What is free of it and
+// of `notes` afterwards: `Spared`.
 pub fn read_name(
     text: &[u8],
     n: usize,

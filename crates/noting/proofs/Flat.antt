@@ -40,6 +40,11 @@ module _ (flat : List ℕ) (i : ℕ) (x : Noted) (l : i * 7 + 6 < length flat) w
       let a : getD stored (i * 7) 0 ≡ x .level = rw z at (there 0) in
       rw (a, there 1, there 2, there 3, there 4, there 5, there 6)
 
+pub noted-length : (flat : List ℕ) (i n : ℕ) → length (notedFrom flat i n) ≡ n
+unfolding notedFrom
+noted-length flat i zero = refl
+noted-length flat i (suc n) = ap suc (noted-length flat (suc i) n)
+
 -- The same numbers, the same entries.
 pub noted-same : (l k : List ℕ) (i n : ℕ) → ((m : ℕ) → m < (i + n) * 7 → getD l m 0 ≡ getD k m 0) → notedFrom l i n ≡ notedFrom k i n
 unfolding notedFrom

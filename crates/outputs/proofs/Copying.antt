@@ -5,12 +5,12 @@ use Prim.Native.Nat.{ℕ, zero, suc, _+_, _*_, _-_, _≤_, _<_}
 use native.Mathlib.Omega.{arith}
 use native.Mathlib.Numerals.{add-one}
 use borrow.Rule.Slice.PartMut.{putMid}
-use lib.ListN.{length, getD, take, drop, set, length-append, length-take, length-drop}
+use lib.ListN.{length, getD, take, drop, set, length-append, length-take, length-drop, length-map}
 use lib.Seq.{sets, take-suc}
 use Rattle.tables.proofs.Front.{Front, front-none, front-length, front-store, front-part}
 use Rattle.entries.specs.declared.Noted.{Noted}
 use Rattle.noting.specs.Stored.{notedAt, notedFrom}
-use Rattle.noting.proofs.Flat.{noted-snoc}
+use Rattle.noting.proofs.Flat.{noted-length, noted-snoc}
 use Rattle.literal_bytes.specs.Written.{literalBy, writtenOver}
 use Rattle.outputs.specs.Noted.{namedOf, rowAt, wordAt, bytesAt, rowsFrom, bytesFrom, Words}
 
@@ -21,17 +21,8 @@ copy-more from before i l m f =
     let k : take (i + 1) from ≡ take i from ++ getD from i 0 ∷ [] = rw (add-one i) (take-suc from i 0 l) in
     rw k (front-store f (getD from i 0) m)
 
-noted-length : (flat : List ℕ) (i n : ℕ) → length (notedFrom flat i n) ≡ n
-unfolding notedFrom
-noted-length flat i zero = refl
-noted-length flat i (suc n) = ap suc (noted-length flat (suc i) n)
-
-map-length : {A B : Type 0} (f : A → B) (xs : List A) → length (map f xs) ≡ length xs
-map-length f [] = refl
-map-length f (x ∷ xs) = ap suc (map-length f xs)
-
 pub named-length : (flat : List ℕ) (n : ℕ) → length (map namedOf (notedFrom flat 0 n)) ≡ n
-named-length flat n = map-length namedOf (notedFrom flat 0 n) ∙ noted-length flat 0 n
+named-length flat n = length-map (notedFrom flat 0 n) namedOf ∙ noted-length flat 0 n
 
 map-snoc : (xs : List Noted) (x : Noted) → map namedOf (xs ++ x ∷ []) ≡ map namedOf xs ++ namedOf x ∷ []
 map-snoc [] x = refl

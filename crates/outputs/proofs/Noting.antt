@@ -10,9 +10,9 @@ use Rattle.description.specs.Limits.{ruled}
 use Rattle.description.specs.Stages.{literalIn}
 use Rattle.literal_bytes.specs.Written.{literalBy}
 use Rattle.literal_rows.proofs.Words.{literal-bytes, literal-long}
-use Rattle.name_entries.specs.Taking.{noteNumbers}
+use Rattle.value_notes.specs.Taking.{noteNumbers}
 use Rattle.name_entries.specs.Named.{Span, literalsIn, notesOf, Standing, Noted}
-use Rattle.name_entries.specs.declared.Tally.{Tally}
+use Rattle.value_notes.specs.declared.Tally.{Tally}
 use Rattle.layouts.specs.Layouts.{rowNumbers}
 use Rattle.outputs.specs.Noted.{rowAt, wordAt, bytesAt, rowsFrom, bytesFrom, WordAt, Words}
 use Rattle.outputs.proofs.Copying.{bytes-one}

@@ -23,7 +23,8 @@ use Rattle.grammar.proofs.Sound.{Differ}
 use Rattle.grammar.proofs.Spelling.{is-or, is-and, is-not, is-opening, is-closing, or-token, and-token, not-token, opening-token, closing-token}
 use Rattle.plans.proofs.Retarget.{rows-bracketed, rows-negated, rows-both, rows-either}
 use Rattle.grammar.proofs.Segment.{rows-count}
-use Rattle.plans.proofs.Buffer.{flat-append, earlier-front, later-rest, added-parts, turned-rows}
+use Rattle.tables.proofs.Front.{earlier-front, later-rest}
+use Rattle.plans.proofs.Buffer.{flat-append, added-parts, turned-rows}
 use Rattle.simples.proofs.Looking.{stands, from-here, take-on, pass-on}
 use Rattle.simples.proofs.Resolving.{at-short, at-no-short}
 

@@ -6,7 +6,7 @@ use native.Mathlib.Omega.{arith}
 use native.Mathlib.Nat.{zero-add, suc-add}
 use native.Mathlib.Numerals.{add-one, add-two, add-three, add-four}
 use lib.ListN.{length, getD, take, drop, set, length-append, length-drop, length-map, take-append-drop}
-use lib.Seq.{getD-append-add, sets, sets-eq, take-at, drop-at, take-take, drop-drop, length-take-le}
+use lib.Seq.{getD-append-add, sets, sets-eq, take-at, drop-at, length-take-le}
 use Rattle.grammar.specs.declared.PlanRow.{PlanRow}
 use Rattle.grammar.specs.Grammar.{simple}
 use Rattle.grammar.specs.Plan.{onTrue, onFalse, rowsOf, flat}
@@ -18,17 +18,6 @@ unfolding flat
 flat-append [] m = refl
 flat-append (r ∷ l) m =
     ap (λ (w : List ℕ). r .subject ∷ r .relation ∷ r .object ∷ r .holds ∷ r .fails ∷ w) (flat-append l m)
-
--- what is alike up to a number is so up to an earlier one, and what is alike from a number on is so from a later one on
-module _ (l m : List ℕ) (a b : ℕ) (le : a ≤ b) where
-  pub earlier-front : take b l ≡ take b m → take a l ≡ take a m
-  earlier-front h = sym (take-take a b l le) ∙ ap (take a) h ∙ take-take a b m le
-
-  pub later-rest : drop a l ≡ drop a m → drop b l ≡ drop b m
-  later-rest h =
-      let k = b - a in
-      let e : a + k ≡ b = omega arith in
-      ap (λ n. drop n l) (sym e) ∙ sym (drop-drop k a l) ∙ ap (drop k) h ∙ drop-drop k a m ∙ ap (λ n. drop n m) e
 
 -- the numbers of row number `row`, each stored in its place
 pub added : (row : ℕ) (before : List ℕ) (a n b : ℕ) → row < 128 → 640 ≤ length before →

@@ -1,13 +1,13 @@
 -- Refusals of the printer, in their order.
 use mathlib.Core.Path.{_≡_, refl, sym, ap, ap₂, _∙_, subst}
-use mathlib.Core.Bool.{Bool, true, false, cond, not, _&&_, _||_}
-use mathlib.Core.List.{List, [], _∷_, _++_, map}
-use Prim.Native.Nat.{ℕ, zero, suc, _+_, _-_, _/_, _%_, _≤_, _<_}
+use mathlib.Core.Bool.{Bool, true, false, cond, _&&_}
+use mathlib.Core.List.{List, [], _∷_}
+use Prim.Native.Nat.{ℕ, zero, suc, _+_, _-_, _/_, _≤_, _<_}
 use native.Mathlib.Omega.{arith}
 use native.Mathlib.Decide.{ℕ-discrete}
 use lib.Dec.{eqb, leb, ltb}
-use lib.ListN.{length, getD, take, drop}
-use borrow.Author.Tests.{leb-true, lt-ltb, le-ltb, le-leb, lt-leb, ltb-true, ltb-false, eq-eqb, not-true}
+use lib.ListN.{length, getD, take}
+use borrow.Author.Tests.{leb-true, lt-ltb, le-ltb, le-leb, lt-leb, ltb-true, ltb-false}
 use Rattle.tables.specs.declared.Refusal.{Refusal}
 use Rattle.tables.specs.declared.Refusal.the-variants.{LiteralTable, LiteralRow, TokenCount as WrongCount, Token, Room as Short}
 use Rattle.tables.specs.declared.Check.{Check}
@@ -16,11 +16,11 @@ use Rattle.tables.specs.Rows.{rowCount, rowAt}
 use Rattle.tables.specs.Operands.{lend}
 use Rattle.tables.specs.Refusals.{number, place, firstFailing, firstOf, unless}
 use Rattle.tables.specs.Tables.{lengthSound, literalSound, tableLines, literalTableCheck, literalRowCheck, tokenCountCheck}
-use Rattle.description.specs.Limits.{Outcome, table, refusal as undescribed, describe}
-use Rattle.spelling.specs.Names.{Known, knownOf}
-use Rattle.naming.specs.Named.{Listed, knownAt}
+use Rattle.description.specs.Limits.{Outcome}
+use Rattle.spelling.specs.Names.{Known}
+use Rattle.naming.specs.Named.{knownAt}
 use Rattle.spelling.specs.Reading.{Found, none, refusal, before}
-use Rattle.spelling.specs.Printing.{Print, text, refused, found, firstToken, printable, hasName, printed, printFault, printResult, printing, printAfter, printCondition}
+use Rattle.spelling.specs.Printing.{Print, text, refused, found, firstToken, printable, hasName, printed, printResult, printing, printAfter, printCondition}
 use Rattle.naming.proofs.Finding.{items-length, conditions-length}
 use Rattle.printer.proofs.Wording.{item-row, condition-there}
 use Rattle.printable.specs.Passing.{passing, mayPrint, AllThere}
@@ -31,8 +31,8 @@ use Rattle.books.specs.declared.Printed.the-variants.{Count, Description, Refus
 use Rattle.books.specs.declared.Named.{Named}
 use Rattle.books.specs.declared.Book.{Book}
 use Rattle.books.specs.declared.Named.the-variants.{Given, Faulty}
-use Rattle.books.specs.Calls.{unprintedAs, lineOut, PrintedAs, Sized, Prepared, NamesFound, NamedBy}
-use Rattle.books.proofs.Giving.{book-found}
+use Rattle.books.specs.Calls.{unprintedAs, lineOut, PrintedAs, Sized, NamedBy}
+use Rattle.books.proofs.Finding.{book-found, book-refused}
 
 one-more : (a b : ℕ) → ltb (suc a) (suc b) ≡ ltb a b
 one-more a b = by (ltb a b) refl
@@ -223,7 +223,8 @@ module _ {P : Print} {t out : List ℕ} (e : P ≡ text t) {size : ℕ} (q : siz
 pub as-print : {P Q : Print} {out after : List ℕ} {answer : Printed} → P ≡ Q → PrintedAs P out answer after → PrintedAs Q out answer after
 as-print e r = rw (← e) r
 
-module _ {description : List ℕ} (d : Named) {places table-rows table-bytes : List ℕ} (N : NamedBy description d places table-rows table-bytes) (rows content tokens : List ℕ) where
+module _ {description lent-places lent-rows lent-bytes : List ℕ} (d : Named) {places table-rows table-bytes : List ℕ}
+    (N : NamedBy description lent-places lent-rows lent-bytes d places table-rows table-bytes) (rows content tokens : List ℕ) where
   pub named-print : {b : Book} → d ≡ Given b
       → printing (knownAt description (b .items) (take (b .places) places)) rows content tokens ≡ printCondition description rows content tokens
   named-print {b} e =
@@ -232,6 +233,4 @@ module _ {description : List ℕ} (d : Named) {places table-rows table-bytes : L
       ∙ sym (ap (λ (o : Outcome). printAfter description o rows content tokens) (F .described))
 
   pub undescribed-print : {p : ℕ} → d ≡ Faulty p → printCondition description rows content tokens ≡ refused 14 p
-  undescribed-print e =
-      let f = subst (λ (y : Named). NamedBy description y places table-rows table-bytes) e N .gives in
-      ap (λ (o : Outcome). printAfter description o rows content tokens) f
+  undescribed-print e = ap (λ (o : Outcome). printAfter description o rows content tokens) (book-refused d N e)

@@ -27,7 +27,7 @@ use Rattle.grammar.proofs.Reading.{sound}
 use Rattle.grammar.proofs.Depth.{depth-inside}
 use Rattle.grammar.proofs.Segment.{planned-length}
 use Rattle.grammar.proofs.Size.{few-rows}
-use Rattle.plans.proofs.Buffer.{later-rest}
+use Rattle.tables.proofs.Front.{later-rest}
 use Rattle.rules.proofs.Deep.{deep-enough}
 use Rattle.grammar.proofs.Shapes.{shaped, rows-shaped, rows-typed}
 use Rattle.resolver.specs.declared.Prepared.the-variants.{Rows, Refused as Unprepared}

@@ -1,23 +1,20 @@
 -- A level 88 entry as the code takes it.
-use mathlib.Core.Path.{_≡_, refl, sym, ap, subst, _∙_}
+use mathlib.Core.Path.{_≡_, refl, sym, _∙_}
 use mathlib.Core.Bool.{Bool, true, false, cond, _||_}
-use mathlib.Core.List.{List, [], _∷_, _++_}
-use Prim.Native.Nat.{ℕ, _+_, _*_, _-_, _≤_, _<_}
-use native.Mathlib.Omega.{arith}
+use mathlib.Core.List.{List}
+use Prim.Native.Nat.{ℕ, _+_, _-_, _≤_, _<_}
 use borrow.Author.Tests.{leb-false}
 use lib.Dec.{leb}
-use lib.ListN.{length}
 use Rattle.content.specs.declared.Row as Rules
-use Rattle.description.specs.Reader.{Naming}
 use Rattle.description.specs.Stages.{inked}
 use Rattle.description.proofs.Bytes.{apart}
-use Rattle.name_entries.specs.Taking.{tally}
-use Rattle.name_entries.specs.Named.{Span, Ready, Left, Held, NamedBy, Noted as NotesHold}
-use Rattle.name_entries.specs.declared.Tally.{Tally}
+use Rattle.value_notes.specs.Taking.{tally}
+use Rattle.name_entries.specs.Named.{Span, Ready, NamedBy, Noted as NotesHold}
+use Rattle.value_notes.specs.declared.Tally.{Tally}
 use Rattle.name_entries.specs.declared.NameRead.{NameRead}
 use Rattle.name_entries.specs.declared.NameRead.the-variants.{Whole, Fault}
 use Rattle.noting.specs.Stored.{notedAt}
-use Rattle.storing.specs.Naming.{itemRow, names, startOf, passedBy, NameReady, NameStored, Stepped, NameBy}
+use Rattle.storing.specs.Naming.{itemRow, names, startOf, passedBy, NameReady, NameStored, NotStored, NameBy}
 use Rattle.storing.specs.declared.Names.{Names}
 use Rattle.storing.specs.declared.NameStep.the-variants.{Read, Fault as Faulty}
 
@@ -55,22 +52,33 @@ module _ {text : List ℕ} {p : ℕ} {flat : List ℕ} {count : ℕ} {s : Names}
         let a = or-left (s .over || leb 64 (s .count)) _ (sym (h .over) ∙ o) in
         (leb-false 64 (s .count) (or-right (s .over) (leb 64 (s .count)) a), h .left o .few)
 
-    pub named-step : {t : Tally} {e : ℕ} → r ≡ Whole t e → {next : Names} → next ≡ cond (t .over) (passedBy s p) (names false 0 (s .count + 1) (t .literals) (t .bytes)) →
-        {rows-after places-after : List ℕ} → (t .over ≡ false → NameStored (s .count) (count - 1) (t .values) (inked text (p + 2)) rows places row-after rows-after places-after) →
-        NameBy text p flat count s rows places notes (Read next e) rows-after places-after notes-after
-    named-step {t} {e} u m f =
-        let w = whole u in
-        record {
-          values = w .values;
-          by = (
-            w .reads,
-            w .held .0,
-            w .held .1,
-            record { tallied = t; row = row-after; held = w .held .2; is = m; stored = f },
-          );
-        }
+    module _ {t : Tally} {e : ℕ} (u : r ≡ Whole t e) {next : Names} where
+      stepped : next ≡ cond (t .over) (passedBy s p) (names false 0 (s .count + 1) (t .literals) (t .bytes)) → {rows-after places-after row-last : List ℕ} →
+          (t .over ≡ false → NameStored (s .count) (count - 1) (t .values) (inked text (p + 2)) rows places row-after rows-after places-after row-last) →
+          (t .over ≡ true → NotStored s rows places notes rows-after places-after notes-after row-last) →
+          NameBy text p flat count s rows places notes (Read next e) rows-after places-after notes-after row-last
+      stepped m f g =
+          let w = whole u in
+          record {
+            values = w .values;
+            by = (
+              w .reads,
+              w .held .0,
+              w .held .1,
+              record { tallied = t; row = row-after; held = w .held .2; is = m; stored = f; beyond = w .held .3; passed = g },
+            );
+          }
 
-    pub named-fault : {k : ℕ} → r ≡ Fault k → {rows-after places-after : List ℕ} → NameBy text p flat count s rows places notes (Faulty k) rows-after places-after notes-after
+      pub named-step : t .over ≡ false → next ≡ names false 0 (s .count + 1) (t .literals) (t .bytes) → {rows-after places-after row-last : List ℕ} →
+          NameStored (s .count) (count - 1) (t .values) (inked text (p + 2)) rows places row-after rows-after places-after row-last →
+          NameBy text p flat count s rows places notes (Read next e) rows-after places-after notes-after row-last
+      named-step o m f = stepped (m ∙ sym (rw o)) (λ _. f) (λ x. apart x o)
+
+      pub named-over : t .over ≡ true → next ≡ passedBy s p → NameBy text p flat count s rows places notes (Read next e) rows places notes-after row-after
+      named-over o m =
+          stepped (m ∙ sym (rw o)) (λ x. apart o x) (λ _. record { named = refl; placed = refl; spared = whole u .spared })
+
+    pub named-fault : {k : ℕ} → r ≡ Fault k → NameBy text p flat count s rows places notes (Faulty k) rows places notes-after row-after
     named-fault {k} u =
-        let w : NamedBy text (p + 2) item start notes (Fault k) row-after notes-after = rw (← u) N in
-        record { values = w .values; by = w .reads }
+        let w : NamedBy text (p + 2) (itemRow (notedAt flat (count - 1))) (startOf s) notes (Fault k) row-after notes-after = rw (← u, ← i, ← q) N in
+        record { values = w .values; by = (w .reads, record { named = refl; placed = refl; spared = w .spared }) }

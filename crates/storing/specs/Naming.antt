@@ -3,19 +3,19 @@ use mathlib.Core.Path.{_≡_}
 use mathlib.Core.Bool.{Bool, true, false, cond, _||_}
 use mathlib.Core.Option.{Option, none, some}
 use mathlib.Core.List.{List, [], _∷_, _++_, map}
-use Prim.Native.Nat.{ℕ, zero, suc, _+_, _*_, _-_, _≤_, _<_}
+use Prim.Native.Nat.{ℕ, _+_, _*_, _-_, _≤_, _<_}
 use lib.Dec.{leb}
 use lib.ListN.{length, take, drop, set, replicate}
 use lib.Seq.{sets}
 use Rattle.content.specs.declared.Row as Rules
-use Rattle.description.specs.Grammar.{Entry, Value, Condition, condition, NameRow, Pair, nameRows, literals, literalsOf}
+use Rattle.description.specs.Grammar.{Entry, Value, Condition, NameRow, nameRows, literals, literalsOf}
 use Rattle.description.specs.Limits.{nameMarks}
 use Rattle.description.specs.Reader.{Naming, label, labelled, faulty}
 use Rattle.description.specs.Stages.{inked, joined, firstOver, ownRows}
 use Rattle.entries.specs.declared.Noted.{Noted}
-use Rattle.name_entries.specs.Taking.{tally}
-use Rattle.name_entries.specs.Named.{Span, literalsIn, pairNumbers, Held, Noted as NotesHold}
-use Rattle.name_entries.specs.declared.Tally.{Tally}
+use Rattle.value_notes.specs.Taking.{tally}
+use Rattle.name_entries.specs.Named.{Span, literalsIn, pairNumbers, Held, Spared, Noted as NotesHold}
+use Rattle.value_notes.specs.declared.Tally.{Tally}
 use Rattle.noting.specs.Stored.{notedAt}
 use Rattle.storing.specs.declared.Names.{Names}
 use Rattle.storing.specs.declared.NameStep.{NameStep}
@@ -53,7 +53,7 @@ abbrev pub Items : ℕ → List Condition → Type 0
 Items n [] = Unit {0}
 Items n (c ∷ cs) = (c .item < n) × Items n cs
 
--- The buffers hold the names, where none passes a limit.
+-- The buffers hold the names.
 pub record Stores (text : List ℕ) (cs : List Condition) (s : Names) (rows places notes : List ℕ) : Type 0 where
   pub spans : List Span
   pub noted : NotesHold text notes (tally false 0 (s .literals) (s .bytes)) spans
@@ -63,15 +63,24 @@ pub record Stores (text : List ℕ) (cs : List Condition) (s : Names) (rows plac
   pub named : take (s .count * nameWidth) rows ≡ nameNumbers (nameRows 0 cs)
   pub placed : take (s .count) places ≡ map nameOf cs
 
+-- Those before the first that passes a limit are stored: all of them, where none does.
 pub record Kept (text : List ℕ) (es : List Entry) (cs : List Condition) (s : Names) (rows places notes : List ℕ) : Type 0 where
   pub limit : firstOver (nameMarks 0 0 (ownRows es) cs) ≡ limitOf s
-  pub stores : s .over ≡ false → Stores text cs s rows places notes
+  pub stores : Stores text (take (s .count) cs) s rows places notes
+  pub all : s .over ≡ false → s .count ≡ length cs
   pub items : Items (length es) cs
 
 -- What private functions promise. A name's row and its place:
-pub record NameStored (i item values named : ℕ) (rows places row rowsAfter placesAfter : List ℕ) : Type 0 where
-  pub stored : rowsAfter ≡ sets rows (i * nameWidth) (item ∷ values ∷ drop 2 row)
+pub record NameStored (i item values named : ℕ) (rows places row rowsAfter placesAfter rowAfter : List ℕ) : Type 0 where
+  pub is : rowAfter ≡ item ∷ values ∷ drop 2 row
+  pub stored : rowsAfter ≡ sets rows (i * nameWidth) rowAfter
   pub placed : placesAfter ≡ set places i named
+
+-- An entry that is not whole or passes a limit: no name more. Free is what `Spared` leaves free of the row and the notes.
+pub record NotStored (s : Names) (rows places notes rowsAfter placesAfter notesAfter rowAfter : List ℕ) : Type 0 where
+  pub named : rowsAfter ≡ rows
+  pub placed : placesAfter ≡ places
+  pub spared : Spared (s .literals) notes rowAfter notesAfter
 
 pub record NameReady (text : List ℕ) (p : ℕ) (flat : List ℕ) (count : ℕ) (s : Names) (rows places notes row : List ℕ) : Type 0 where
   pub inside : p + 2 ≤ length text
@@ -83,22 +92,26 @@ pub record NameReady (text : List ℕ) (p : ℕ) (flat : List ℕ) (count : ℕ)
   pub spans : List Span
   pub noted : s .over ≡ false → NotesHold text notes (tally false 0 (s .literals) (s .bytes)) spans
 
--- One entry more, judged with the item's own entry.
+-- One entry more, judged with the item's own entry. Where it passes no limit, its row is stored and the notes after its own are as they were.
 pub record Stepped (text : List ℕ) (p : ℕ) (flat : List ℕ) (count : ℕ) (s : Names) (rows places notes : List ℕ) (vs : List Value) (r : Names)
-    (rowsAfter placesAfter notesAfter : List ℕ) : Type 0 where
+    (rowsAfter placesAfter notesAfter rowAfter : List ℕ) : Type 0 where
   pub tallied : Tally
   pub row : List ℕ
   pub held : (ss : List Span) → (s .over || leb 64 (s .count) ≡ false → NotesHold text notes (startOf s) ss) →
       Held text (itemRow (notedAt flat (count - 1))) (s .over || leb 64 (s .count)) ss vs tallied row notesAfter
   pub is : r ≡ cond (tallied .over) (passedBy s p) (names false 0 (s .count + 1) (tallied .literals) (tallied .bytes))
-  pub stored : tallied .over ≡ false → NameStored (s .count) (count - 1) (tallied .values) (inked text (p + 2)) rows places row rowsAfter placesAfter
+  pub stored : tallied .over ≡ false → NameStored (s .count) (count - 1) (tallied .values) (inked text (p + 2)) rows places row rowsAfter placesAfter rowAfter
+  pub beyond : tallied .over ≡ false → drop (tallied .literals * 7) notesAfter ≡ drop (tallied .literals * 7) notes
+  pub passed : tallied .over ≡ true → NotStored s rows places notes rowsAfter placesAfter notesAfter rowAfter
 
-abbrev pub StepBy : List ℕ → ℕ → List ℕ → ℕ → Names → List ℕ → List ℕ → List ℕ → List Value → NameStep → List ℕ → List ℕ → List ℕ → Type 0
-StepBy text p flat count s rows places notes vs (Read r e) rowsAfter placesAfter notesAfter =
+abbrev pub StepBy : List ℕ → ℕ → List ℕ → ℕ → Names → List ℕ → List ℕ → List ℕ → List Value → NameStep → List ℕ → List ℕ → List ℕ → List ℕ → Type 0
+StepBy text p flat count s rows places notes vs (Read r e) rowsAfter placesAfter notesAfter rowAfter =
     ((h : Naming) → joined text (p + 2) (label h) ≡ joined text e (labelled h (inked text (p + 2)) vs)) × (e ≤ length text) × (p + 2 < e)
-    × Stepped text p flat count s rows places notes vs r rowsAfter placesAfter notesAfter
-StepBy text p flat count s rows places notes vs (Fault k) rowsAfter placesAfter notesAfter = (h : Naming) → joined text (p + 2) (label h) ≡ faulty (h .earlier) k
+    × Stepped text p flat count s rows places notes vs r rowsAfter placesAfter notesAfter rowAfter
+StepBy text p flat count s rows places notes vs (Fault k) rowsAfter placesAfter notesAfter rowAfter =
+    ((h : Naming) → joined text (p + 2) (label h) ≡ faulty (h .earlier) k) × NotStored s rows places notes rowsAfter placesAfter notesAfter rowAfter
 
-pub record NameBy (text : List ℕ) (p : ℕ) (flat : List ℕ) (count : ℕ) (s : Names) (rows places notes : List ℕ) (r : NameStep) (rowsAfter placesAfter notesAfter : List ℕ) : Type 0 where
+pub record NameBy (text : List ℕ) (p : ℕ) (flat : List ℕ) (count : ℕ) (s : Names) (rows places notes : List ℕ) (r : NameStep)
+    (rowsAfter placesAfter notesAfter rowAfter : List ℕ) : Type 0 where
   pub values : List Value
-  pub by : StepBy text p flat count s rows places notes values r rowsAfter placesAfter notesAfter
+  pub by : StepBy text p flat count s rows places notes values r rowsAfter placesAfter notesAfter rowAfter

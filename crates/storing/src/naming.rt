@@ -11,10 +11,10 @@ use crate::NameStep;
 use crate::Names;
 use content::Row;
 use name_entries::NameRead;
-use name_entries::Tally;
 use name_entries::reading::read_name;
 use tables::rows::NAME_WIDTH;
 use text_bytes::blanks::next_ink;
+use value_notes::Tally;
 
 // What entry i tells of its row.
 fn item_row(entries: &[u32], i: usize) -> Row
@@ -83,7 +83,7 @@ fn store_name(
 )
     requires { ⌜ (i * nameWidth + 17 < length (now names)) × ((i < length (now places)) × (length (now row) ≡ nameWidth)) ⌝ }
     requires { ⌜ (item ≤ 4096) × ((values ≤ 4096) × (named ≤ 4096)) ⌝ }
-    ensures { λ _. ⌜ NameStored i item values named (now (names .entry)) (now (places .entry)) (now (row .entry)) (now (names .exit)) (now (places .exit)) ⌝ }
+    ensures { λ _. ⌜ NameStored i item values named (now (names .entry)) (now (places .entry)) (now (row .entry)) (now (names .exit)) (now (places .exit)) (now (row .exit)) ⌝ }
 {
     row[0] = item as u32;
     row[1] = values as u32;
@@ -91,7 +91,8 @@ fn store_name(
     places[i] = named as u32;
 }
 
-// The level 88 entry at p, of the last of `count` entries. `row` is for its pairs. Free: what it holds afterwards.
+// The level 88 entry at p, of the last of `count` entries. `row` is for its pairs. What is free of it
+// and of `notes` afterwards: `NotStored`.
 pub fn name_step(
     text: &[u8],
     p: usize,
@@ -104,7 +105,7 @@ pub fn name_step(
     row: &mut [u32],
 ) -> NameStep
     requires { ⌜ NameReady (now text) p (now entries) count kept (now names) (now places) (now notes) (now row) ⌝ }
-    ensures { λ r. ⌜ NameBy (now (text .entry)) p (now (entries .entry)) count kept (now (names .entry)) (now (places .entry)) (now (notes .entry)) r (now (names .exit)) (now (places .exit)) (now (notes .exit)) ⌝ }
+    ensures { λ r. ⌜ NameBy (now (text .entry)) p (now (entries .entry)) count kept (now (names .entry)) (now (places .entry)) (now (notes .entry)) r (now (names .exit)) (now (places .exit)) (now (notes .exit)) (now (row .exit)) ⌝ }
 {
     let last = count - 1;
     let item = item_row(entries, last);

@@ -1,5 +1,5 @@
 -- An output that is written from its start on, number by number or by whoever is lent the rest of it.
-use mathlib.Core.Path.{_≡_, refl, sym, ap}
+use mathlib.Core.Path.{_≡_, refl, sym, ap, _∙_}
 use mathlib.Core.List.{List, [], _∷_, _++_, append-nil, append-assoc}
 use Prim.Native.Nat.{ℕ, _+_, _-_, _≤_, _<_}
 use native.Mathlib.Omega.{arith}
@@ -7,7 +7,18 @@ use native.Mathlib.Numerals.{add-one}
 use borrow.Rule.Slice.PartAt.{part-to-end}
 use borrow.Rule.Slice.PartMut.{putMid}
 use lib.ListN.{length, take, drop, set, length-append, length-drop, drop-of-length-le}
-use lib.Seq.{drop-cons, set-at, take-at, take-all, take-add, drop-at, drop-drop}
+use lib.Seq.{drop-cons, set-at, take-at, take-all, take-add, take-take, drop-at, drop-drop}
+
+-- what is alike up to a number is so up to an earlier one, and what is alike from a number on is so from a later one on
+module _ (l m : List ℕ) (a b : ℕ) (le : a ≤ b) where
+  pub earlier-front : take b l ≡ take b m → take a l ≡ take a m
+  earlier-front h = sym (take-take a b l le) ∙ ap (take a) h ∙ take-take a b m le
+
+  pub later-rest : drop a l ≡ drop a m → drop b l ≡ drop b m
+  later-rest h =
+      let k = b - a in
+      let e : a + k ≡ b = omega arith in
+      ap (λ n. drop n l) (sym e) ∙ sym (drop-drop k a l) ∙ ap (drop k) h ∙ drop-drop k a m ∙ ap (λ n. drop n m) e
 
 -- `now` is `before` with `w`, k numbers, written over its start.
 pub record Front (w before : List ℕ) (k : ℕ) (now : List ℕ) : Type 0 where

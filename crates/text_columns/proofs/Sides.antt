@@ -25,7 +25,8 @@ use Rattle.text_words.proofs.Outcomes.{texts-by-words}
 use Rattle.block_truths.specs.Columns.{recordAt, outcomeAt, Judgeable}
 use Rattle.block_truths.proofs.Firsts.{small}
 use Rattle.block_truths.proofs.Sides.{sideWord, field-of}
-use Rattle.text_columns.specs.TextColumns.{byTexts, TextOf, Literal}
+use Rattle.record_texts.specs.Texts.{TextOf}
+use Rattle.text_columns.specs.TextColumns.{byTexts, Literal}
 
 -- a row that is read as a text has at most 8 bytes
 text-size : (row : Row) → fitsText row ≡ true → row .size ≤ 8

@@ -2,4 +2,3 @@
 // branch.
 
 pub mod rows; // which relations are judged so
-pub mod words; // the words of a text, record by record

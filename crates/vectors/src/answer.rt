@@ -1,4 +1,6 @@
 // An answer as numbers.
+ghost use mathlib.Core.Path.{_≡_};
+ghost use Rattle.vectors.specs.Answers.{refusedAs, writtenAs, judgedAs, sameAnswer};
 use refusal_numbers::byte_of;
 use refusal_numbers::number_of;
 use refusal_numbers::place_of;
@@ -15,7 +17,9 @@ pub struct Answer {
     pub judged: usize,
 }
 
-fn of_refusal(refusal: Refusal, judged: usize) -> Answer {
+fn of_refusal(refusal: Refusal, judged: usize) -> Answer
+    ensures { λ r. ⌜ r ≡ refusedAs refusal judged ⌝ }
+{
     Answer {
         number: number_of(refusal) as usize,
         value: place_of(refusal),
@@ -24,7 +28,9 @@ fn of_refusal(refusal: Refusal, judged: usize) -> Answer {
     }
 }
 
-pub(crate) fn of_written(given: Written) -> Answer {
+pub(crate) fn of_written(given: Written) -> Answer
+    ensures { λ r. ⌜ r ≡ writtenAs given ⌝ }
+{
     match given {
         Written::Count(n) => Answer {
             number: 0,
@@ -36,7 +42,9 @@ pub(crate) fn of_written(given: Written) -> Answer {
     }
 }
 
-pub(crate) fn of_judged(given: Judged) -> Answer {
+pub(crate) fn of_judged(given: Judged) -> Answer
+    ensures { λ r. ⌜ r ≡ judgedAs given ⌝ }
+{
     let verdict = given.verdict;
     let judged = given.count;
     match verdict {
@@ -56,7 +64,9 @@ pub(crate) fn of_judged(given: Judged) -> Answer {
     }
 }
 
-pub(crate) fn same(one: Answer, other: Answer) -> bool {
+pub(crate) fn same(one: Answer, other: Answer) -> bool
+    ensures { λ r. ⌜ r ≡ sameAnswer one other ⌝ }
+{
     (one.number == other.number)
         & (one.value == other.value)
         & (one.byte == other.byte)

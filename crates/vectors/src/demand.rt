@@ -1,5 +1,10 @@
 // Demand 3 on a case, by the calls themselves: where a plan is written, its run answers and counts as judge does, expand succeeds, and the
-// expanded form, if at most 256 tokens, has the same plan.
+// expanded form, if at most 256 tokens, has the same plan. It holds on every case: that is promised here, and tried on what is compiled.
+ghost use mathlib.Core.Path.{_≡_};
+ghost use mathlib.Core.Bool.{true};
+ghost use Rattle.vectors.specs.Parts.{lentIn, tokensIn};
+ghost use Rattle.vectors.specs.Sums.{SameNumbers};
+ghost use Rattle.vectors.specs.Kept.{HasPlan, FormHasPlan, Kept};
 use crate::answer::of_judged;
 use crate::answer::same;
 use crate::lent;
@@ -11,7 +16,9 @@ use tables::Written;
 // Room for every expanded form (634 tokens) and every plan.
 const ENOUGH: usize = 640;
 
-fn same_numbers(one: &[u32], other: &[u32]) -> bool {
+fn same_numbers(one: &[u32], other: &[u32]) -> bool
+    ensures { λ r. ⌜ SameNumbers (now (one .entry)) (now (other .entry)) r ⌝ }
+{
     if one.len() != other.len() {
         return false;
     }
@@ -25,7 +32,9 @@ fn same_numbers(one: &[u32], other: &[u32]) -> bool {
     true
 }
 
-fn has_plan(words: &[u32], bytes: &[u8], tokens: &[u32], rows: &[u32]) -> bool {
+fn has_plan(words: &[u32], bytes: &[u8], tokens: &[u32], rows: &[u32]) -> bool
+    ensures { λ r. ⌜ (HasPlan (lentIn (now (words .entry)) (now (bytes .entry))) (now (tokens .entry)) (now (rows .entry)) → r ≡ true) ⌝ }
+{
     let mut again = [0u32; ENOUGH];
     let planned = lent::plan(words, bytes, tokens, &mut again);
     match planned {
@@ -34,7 +43,9 @@ fn has_plan(words: &[u32], bytes: &[u8], tokens: &[u32], rows: &[u32]) -> bool {
     }
 }
 
-fn expanded_has_plan(words: &[u32], bytes: &[u8], rows: &[u32]) -> bool {
+fn expanded_has_plan(words: &[u32], bytes: &[u8], rows: &[u32]) -> bool
+    ensures { λ r. ⌜ (FormHasPlan (lentIn (now (words .entry)) (now (bytes .entry))) (tokensIn (now (words .entry))) (now (rows .entry)) → r ≡ true) ⌝ }
+{
     let mut form = [0u32; ENOUGH];
     let expanded = lent::expand(words, bytes, &mut form);
     match expanded {
@@ -48,7 +59,9 @@ fn expanded_has_plan(words: &[u32], bytes: &[u8], rows: &[u32]) -> bool {
     }
 }
 
-fn of_plan<'a>(words: &[u32], bytes: &'a [u8], record: &'a [u8], rows: &[u32]) -> bool {
+fn of_plan<'a>(words: &[u32], bytes: &'a [u8], record: &'a [u8], rows: &[u32]) -> bool
+    ensures { λ r. ⌜ (Kept (now (words .entry)) (now (bytes .entry)) (now («record» .entry)) (now (rows .entry)) → r ≡ true) ⌝ }
+{
     let judged = lent::judge(words, bytes, record);
     let ran = lent::run(words, bytes, rows, record);
     if same(of_judged(ran), of_judged(judged)) {
@@ -57,7 +70,9 @@ fn of_plan<'a>(words: &[u32], bytes: &'a [u8], record: &'a [u8], rows: &[u32]) -
     false
 }
 
-pub(crate) fn holds<'a>(words: &[u32], bytes: &'a [u8], record: &'a [u8]) -> bool {
+pub(crate) fn holds<'a>(words: &[u32], bytes: &'a [u8], record: &'a [u8]) -> bool
+    ensures { λ r. ⌜ r ≡ true ⌝ }
+{
     let mut rows = [0u32; ENOUGH];
     let planned = lent::plan(words, bytes, part(words, TOKENS), &mut rows);
     match planned {

@@ -61,7 +61,7 @@ copy-numbers-requires c κs =
     let p = c25 .pre in
     let f = (few (c14 .describe .result) (c14 .describe .ensures) (omega arith) (p .0) (omega arith) (omega arith) (p .1) (p .2) (c .before .before .before .described .given .1))
     in
-    (f .3, f .4)
+    (omega (arith, f .1, f .3), omega (arith, f .1, f .4))
 
 add-t31 : tie.Need-add-t31
 add-t31 c =
@@ -125,13 +125,13 @@ same-length-9 : tie.Need-same-length-9
 same-length-9 c = search needs
 
 returns-3 : tie.Need-returns-3
-returns-3 c = never-room (c .before .before .before .before .before .before .before .before .before .before .before .before .describe .result)
+returns-3 c = absurd (never-room (c .before .before .before .before .before .before .before .before .before .before .before .before .describe .result)
     (c .before .before .before .before .before .before .before .before .before .before .before .before .describe .ensures) (omega arith)
     (c .before .before .before .before .before .before .before .before .before .before .before .before .before .before .before .before .before .before .before .before .before .before .before .pre .0)
     (omega arith) (omega arith)
     (c .before .before .before .before .before .before .before .before .before .before .before .before .before .before .before .before .before .before .before .before .before .before .before .pre .1)
     (c .before .before .before .before .before .before .before .before .before .before .before .before .before .before .before .before .before .before .before .before .before .before .before .pre .2)
-    (c .before .described3 .given .1)
+    (c .before .described3 .given .1))
 
 pub book-of-spec : {M : Type 1} → statement M
 book-of-spec =

@@ -1,10 +1,11 @@
 -- By what the row tests.
 use mathlib.Core.Path.{_≡_, sym, ap, _∙_, refl}
-use mathlib.Core.Bool.{true, false, false≢true}
+use mathlib.Core.Bool.{false}
 use native.Mathlib.Omega.{arith}
 use lib.Dec.{ltb}
 use borrow.Author.Needs.{needs}
 use borrow.Author.Tests.{lt-ltb, le-ltb, eq-eqb, ne-eqb}
+use Rattle.block_truths.proofs.Passing.{unjudged}
 use Rattle.columns.proofs.rows.judge_columns.Statement.{statement}
 use Rattle.columns.proofs.rows.judge_columns.Tie as tie
 
@@ -13,7 +14,7 @@ far : (c : tie.Else1) → ltb (c .before .before .before .before .before .before
 far c = le-ltb (c .before .before .before .before .before .before .before .before .args .block .from) 8 (omega (arith, c .if1 .left))
 
 returns : tie.Need-returns
-returns c = (λ e. absurd (false≢true e), (λ _. refl, rw (lt-ltb (c .before .before .before .before .before .before .before .before .args .block .from) 8 (omega (arith, c .if1 .taken)))))
+returns c = unjudged (rw (lt-ltb (c .before .before .before .before .before .before .before .before .args .block .from) 8 (omega (arith, c .if1 .taken)))) refl refl
 
 test-of-requires : tie.Need-test-of-requires
 test-of-requires c κs = search needs
@@ -35,7 +36,7 @@ returns-2 : tie.Need-returns-2
 returns-2 c =
     let f = far (c .before .before .before .before .before) in
     let e = sym (c .before .before .before .before .test-of .ensures) ∙ c .before .before .test2 .given .1 in
-    (λ e. absurd (false≢true e), (λ _. refl, rw (f, e, ne-eqb (c .before .before .test2 .given .0 .0) 10 (c .if2 .taken))))
+    unjudged (rw (f, e, ne-eqb (c .before .before .test2 .given .0 .0) 10 (c .if2 .taken))) refl refl
 
 judge-numeric-requires : tie.Need-judge-numeric-requires
 judge-numeric-requires c κs =
@@ -76,17 +77,17 @@ returns-4 c =
 returns-5 : tie.Need-returns-5
 returns-5 c =
     let f = far (c .before .before .before) in
-    (λ e. absurd (false≢true e), (λ _. refl, rw (f, sym (c .before .before .test-of .ensures) ∙ c .enum-told .given .1)))
+    unjudged (rw (f, sym (c .before .before .test-of .ensures) ∙ c .enum-told .given .1)) refl refl
 
 returns-6 : tie.Need-returns-6
 returns-6 c =
     let f = far (c .before .before .before .before) in
-    (λ e. absurd (false≢true e), (λ _. refl, rw (f, sym (c .before .before .before .test-of .ensures) ∙ c .before .test3 .given .1)))
+    unjudged (rw (f, sym (c .before .before .before .test-of .ensures) ∙ c .before .test3 .given .1)) refl refl
 
 returns-7 : tie.Need-returns-7
 returns-7 c =
     let f = far (c .before .before .before) in
-    (λ e. absurd (false≢true e), (λ _. refl, rw (f, sym (c .before .before .test-of .ensures) ∙ c .enum-told2 .given .1)))
+    unjudged (rw (f, sym (c .before .before .test-of .ensures) ∙ c .enum-told2 .given .1)) refl refl
 
 pub judge-columns-spec : {M : Type 1} → statement M
 judge-columns-spec =

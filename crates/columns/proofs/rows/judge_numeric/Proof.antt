@@ -1,6 +1,6 @@
 -- One field.
 use mathlib.Core.Path.{_≡_, sym, ap₂, _∙_, refl}
-use mathlib.Core.Bool.{true, _&&_, false≢true}
+use mathlib.Core.Bool.{true, _&&_}
 use mathlib.Core.List.{List}
 use Prim.Native.Nat.{ℕ, _+_, _-_}
 use lib.ListN.{take, drop}
@@ -15,7 +15,7 @@ use Rattle.values.proofs.Reading.{read-class}
 use Rattle.digit_words.specs.Words.{fitsWord}
 use Rattle.byte_words.proofs.WordLaws.{bytes-of}
 use Rattle.block_truths.proofs.Firsts.{first-readable, item-inside}
-use Rattle.block_truths.proofs.Passing.{retold}
+use Rattle.block_truths.proofs.Passing.{retold, judged, unjudged}
 use Rattle.block_truths.proofs.Sides.{field-of}
 use Rattle.columns.proofs.Sides.{word-size, numeric-right}
 use Rattle.columns.proofs.rows.judge_numeric.Statement.{statement}
@@ -53,7 +53,7 @@ is-item-requires c κs = search needs
 returns : tie.Need-returns
 returns c =
     let unfit = ap₂ _&&_ (sym (c .before .before .fits-word .ensures)) (sym (c .before .is-item .ensures)) ∙ not-true _ (c .if1 .taken) in
-    (λ e. absurd (false≢true e), (λ _. refl, sym (rw (c .before .before .before .row-of .ensures) at unfit)))
+    unjudged (sym (rw (c .before .before .before .row-of .ensures) at unfit)) refl refl
 
 bits-of-requires : tie.Need-bits-of-requires
 bits-of-requires c κs = search needs
@@ -69,19 +69,18 @@ same-length : tie.Need-same-length
 same-length c = search needs
 
 returns-2 : tie.Need-returns-2
-returns-2 c = (
-  λ _.
-      let bits = c .before .before .before .before in
-      let e = bits .before in
-      let s = entry e in
-      let row = e .before .before .before in
-      retold (rw (bits .bits-of .ensures, row .row-of .ensures) at (c .before .before .test-field .ensures))
-      (λ k _ v h. numeric-right (lent s) (now (s .args .records)) (s .args .block .from) (s .args .block .size) (s .args .switches) (s .args .condition)
-      (bytes-of (now (s .args .records)) (λ i. row .before .before .shared-slice-known5 .given i .fits))
-      (bytes-of (now (s .args .bytes)) (λ i. row .before .before .before .before .shared-slice-known3 .given i .fits)) k (s .pre .1) (fits e) (item e)
-      (item-inside (s .pre .0 .0) (subject s) (item e)) h),
-  (λ e. absurd (false≢true (sym e)), let e = c .before .before .before .before .before in sym (rw (fits e, item e))),
-)
+returns-2 c =
+    let bits = c .before .before .before .before in
+    let e = bits .before in
+    let s = entry e in
+    let row = e .before .before .before in
+    judged (sym (rw (fits e, item e))) refl (
+    retold (rw (bits .bits-of .ensures, row .row-of .ensures) at (c .before .before .test-field .ensures))
+    (λ k _ v h. numeric-right (lent s) (now (s .args .records)) (s .args .block .from) (s .args .block .size) (s .args .switches) (s .args .condition)
+    (bytes-of (now (s .args .records)) (λ i. row .before .before .shared-slice-known5 .given i .fits))
+    (bytes-of (now (s .args .bytes)) (λ i. row .before .before .before .before .shared-slice-known3 .given i .fits)) k (s .pre .1) (fits e) (item e)
+    (item-inside (s .pre .0 .0) (subject s) (item e)) h)
+    )
 
 pub judge-numeric-spec : {M : Type 1} → statement M
 judge-numeric-spec =

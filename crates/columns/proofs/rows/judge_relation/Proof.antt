@@ -1,6 +1,6 @@
 -- By the kinds of the two sides.
 use mathlib.Core.Path.{_≡_, sym, ap₂, _∙_, refl}
-use mathlib.Core.Bool.{true, false, _&&_, false≢true}
+use mathlib.Core.Bool.{true, false, _&&_}
 use mathlib.Core.List.{List}
 use Prim.Native.Nat.{ℕ, _+_, _-_, _≤_}
 use native.Mathlib.Omega.{arith}
@@ -16,6 +16,7 @@ use Rattle.byte_words.proofs.WordLaws.{Bytes, bytes-of}
 use Rattle.byte_words.specs.Words.{digitWord, digitsIn}
 use Rattle.block_truths.proofs.Firsts.{first-within, within-unnamed}
 use Rattle.block_truths.proofs.Sides.{field-of, first-sides, items-judged, object-judged, subject-judged}
+use Rattle.block_truths.proofs.Passing.{judged, unjudged}
 use Rattle.columns.proofs.Sides.{Worded, sizes, by-sides, literal-digits, by-words}
 use Rattle.columns.proofs.rows.judge_relation.Statement.{statement}
 use Rattle.columns.proofs.rows.judge_relation.Tie as tie
@@ -110,14 +111,13 @@ returns-2 c =
     let s = entry e in
     let rows = e .before .before .before .before .before in
     let i = sym (c .before .before .before .before .before .before .before .is-item .ensures) ∙ c .before .before .before .before .before .before .if2 .taken in
-    let j = sym (c .before .before .before .before .before .is-item2 .ensures) ∙ c .before .before .before .before .if3 .taken in (
-      λ _.
-          items-judged (s .pre .0 .0) (s .pre .1) digitWord (digitsIn 8) (s .args .switches)
-          (λ k _. by-words (lent s) (now (s .args .records)) (s .args .block .from) (s .args .block .size) (s .args .switches) (s .args .condition) (in-file e .0) (in-file e .1) k
-          (s .pre .1) (worded e)) i j
-          (rw (rows .before .row-of .ensures, rows .row-of2 .ensures, c .before .before .before .before .before .before .before .before .asked-of .ensures) at
-          (c .before .before .relate-fields .ensures)),
-      (λ e. absurd (false≢true (sym e)), sym (by-sides (worded e) ∙ rw (i, j))),
+    let j = sym (c .before .before .before .before .before .is-item2 .ensures) ∙ c .before .before .before .before .if3 .taken in
+    judged (sym (by-sides (worded e) ∙ rw (i, j))) refl (
+    items-judged (s .pre .0 .0) (s .pre .1) digitWord (digitsIn 8) (s .args .switches)
+    (λ k _. by-words (lent s) (now (s .args .records)) (s .args .block .from) (s .args .block .size) (s .args .switches) (s .args .condition) (in-file e .0) (in-file e .1) k
+    (s .pre .1) (worded e)) i j
+    (rw (rows .before .row-of .ensures, rows .row-of2 .ensures, c .before .before .before .before .before .before .before .before .asked-of .ensures) at
+    (c .before .before .relate-fields .ensures))
     )
 
 relate-literal-requires : tie.Need-relate-literal-requires
@@ -198,7 +198,7 @@ returns-5 c =
     let e = c .before .before .before .before .before in
     let i = sym (c .before .before .before .is-item .ensures) ∙ c .before .before .if2 .left in
     let j = sym (c .before .is-item3 .ensures) ∙ c .if4 .left in
-    (λ f. absurd (false≢true f), (λ _. refl, sym (by-sides (worded e) ∙ rw (i, j))))
+    unjudged (sym (by-sides (worded e) ∙ rw (i, j))) refl refl
 
 pub judge-relation-spec : {M : Type 1} → statement M
 judge-relation-spec =

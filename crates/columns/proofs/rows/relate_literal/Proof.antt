@@ -1,10 +1,10 @@
 -- The literal's word, and then the field.
 use mathlib.Core.Path.{_≡_, sym, ap, _∙_, refl}
-use mathlib.Core.Bool.{false≢true}
 use native.Mathlib.Omega.{arith}
 use borrow.Author.Needs.{needs}
 use borrow.Author.Tests.{not-false, not-true}
 use Rattle.byte_words.specs.Words.{digitWord}
+use Rattle.block_truths.proofs.Passing.{judged, unjudged}
 use Rattle.columns.proofs.rows.relate_literal.Statement.{statement}
 use Rattle.columns.proofs.rows.relate_literal.Tie as tie
 
@@ -32,7 +32,7 @@ all-digits-requires c κs = search needs
 returns : tie.Need-returns
 returns c =
     let e = c .before .before .short-word .ensures ∙ ap digitWord (c .before .before .before .operand-bytes .ensures) in
-    (λ f. absurd (false≢true f), (λ _. refl, sym (rw e at (sym (c .before .all-digits .ensures) ∙ not-true _ (c .if1 .taken)))))
+    unjudged (sym (rw e at (sym (c .before .all-digits .ensures) ∙ not-true _ (c .if1 .taken)))) refl refl
 
 order-bits-requires : tie.Need-order-bits-requires
 order-bits-requires c κs = search needs
@@ -47,10 +47,8 @@ returns-2 : tie.Need-returns-2
 returns-2 c =
     let c5 = c .before .before .before .before .before in
     let e = c5 .before .before .short-word .ensures ∙ ap digitWord (c5 .before .before .before .operand-bytes .ensures) in
-    let d = rw e at (sym (c5 .before .all-digits .ensures) ∙ not-false _ (c5 .if1 .left)) in (
-      λ _. record { digits = d; numbers = rw (c .before .before .before .before .order-bits .ensures, e) at (c .before .before .compare-field .ensures) },
-      (λ f. absurd (false≢true (sym f)), sym d),
-    )
+    let d = rw e at (sym (c5 .before .all-digits .ensures) ∙ not-false _ (c5 .if1 .left)) in
+    judged (sym d) refl (record { digits = d; numbers = rw (c .before .before .before .before .order-bits .ensures, e) at (c .before .before .compare-field .ensures) })
 
 pub relate-literal-spec : {M : Type 1} → statement M
 relate-literal-spec =

@@ -1,13 +1,17 @@
 -- `read_entries` meets its contract: from the laws of proofs/ and what its callees ensure. Assumes nothing.
 use denote.Ref.{now}
-use mathlib.Core.Path.{_≡_, refl, sym, ap, _∙_}
-use Prim.Native.Nat.{_-_, _+_, _≤_}
+use mathlib.Core.Path.{_≡_, refl, sym, _∙_}
+use mathlib.Core.Bool.{true}
+use Prim.Native.Nat.{_-_, _≤_}
 use native.Mathlib.Omega.{arith}
 use lib.ListN.{length}
 use borrow.Author.Needs.{needs}
 use borrow.Author.Tests.{not-true, not-false}
 use Rattle.text_bytes.proofs.Laws.{inked-le}
-use Rattle.describer.proofs.Going.{Going, begins, over, faults, fits, fits-stack, level-fits, stops, goes-on, further, name-ready, name-stops, name-goes, name-further, name-fault, step-as}
+use Rattle.describer.proofs.Going.{Going, begins, over, faults, fits, fits-stack, level-fits, stops, goes-on, further}
+use Rattle.describer.proofs.Going.{name-ready, name-stops, name-goes, name-further, name-fault, name-beyond, item-beyond, step-as}
+use Rattle.describer.proofs.Past.{found, beyond-first, beyond-as, beyond-fault}
+use Rattle.storing.specs.Reads.{Beyond}
 use Rattle.describer.proofs.reading.read_entries.Statement.{statement}
 use Rattle.describer.proofs.reading.read_entries.Tie as tie
 
@@ -15,6 +19,7 @@ abbrev Inv-loop : tie.InvT-loop
 Inv-loop text entries₀ stack₀ names₀ places₀ notes₀ row₀ depth₀ waiting₀ count₀ at₀ kept₀ entries stack names places notes row depth waiting count at kept =
     Going text entries stack names places notes depth waiting count at kept × (length entries ≡ length entries₀) × (length stack ≡ length stack₀)
     × (length names ≡ length names₀) × (length places ≡ length places₀) × (length notes ≡ length notes₀) × (length row ≡ length row₀)
+    × Beyond (found count true 0 kept) entries₀ stack₀ names₀ places₀ notes₀ entries stack names places notes row
 
 abbrev μ-loop : tie.MeasureT-loop
 μ-loop text entries₀ stack₀ names₀ places₀ notes₀ row₀ depth₀ waiting₀ count₀ at₀ kept₀ entries stack names places notes row depth waiting count at kept = length text - at
@@ -30,6 +35,7 @@ loop-holds c =
       refl,
       refl,
       refl,
+      beyond-first (p7 .pre .1 .1 .1 .1),
     )
 
 next-ink-requires : tie.Need-next-ink-requires Inv-loop μ-loop
@@ -60,10 +66,12 @@ returns : tie.Need-returns Inv-loop μ-loop
 returns c =
     let p2 = c .before .before in
     let p3 = p2 .before in
-    let p11 = p3 .before .before .before .before .before .before .before .before in
-    over (now (p11 .args .text)) (p3 .loop .entries) (p3 .loop .stack) (p3 .loop .names) (p3 .loop .places) (p3 .loop .notes) (p3 .loop .depth)
-    (p3 .loop .waiting) (p3 .loop .count) (p3 .loop .at) (p3 .loop .kept) (p3 .loop .inv .0) (p11 .pre .0 .0) (p2 .next-ink .ensures)
-    (c .before .if1 .taken) (c .found .ensures)
+    let p11 = p3 .before .before .before .before .before .before .before .before in (
+      over (now (p11 .args .text)) (p3 .loop .entries) (p3 .loop .stack) (p3 .loop .names) (p3 .loop .places) (p3 .loop .notes) (p3 .loop .depth)
+          (p3 .loop .waiting) (p3 .loop .count) (p3 .loop .at) (p3 .loop .kept) (p3 .loop .inv .0) (p11 .pre .0 .0) (p2 .next-ink .ensures)
+          (c .before .if1 .taken) (c .found .ensures),
+      beyond-as (p3 .loop .inv .7) (c .found .ensures),
+    )
 
 entry-at-requires : tie.Need-entry-at-requires Inv-loop μ-loop
 entry-at-requires c κs =
@@ -91,7 +99,7 @@ same-length-7 : tie.Need-same-length-7 Inv-loop μ-loop
 same-length-7 c = c .before .before .before .before .before .before .before .before .loop .inv .1
 
 same-length-8 : tie.Need-same-length-8 Inv-loop μ-loop
-same-length-8 c = c .before .before .before .before .before .before .before .before .loop .inv .2
+same-length-8 c = search needs
 
 same-length-9 : tie.Need-same-length-9 Inv-loop μ-loop
 same-length-9 c = c .before .before .before .before .before .before .before .before .loop .inv .3
@@ -112,10 +120,12 @@ returns-2 c =
     let p6 = p4 .before .before in
     let p7 = p6 .before in
     let p8 = p7 .before in
-    let p16 = p8 .before .before .before .before .before .before .before .before in
-    faults (now (p16 .args .text)) (p8 .loop .entries) (p8 .loop .stack) (p8 .loop .names) (p8 .loop .places) (p8 .loop .notes) (p8 .loop .depth)
-    (p8 .loop .waiting) (p8 .loop .count) (p8 .loop .at) (p8 .loop .kept) (p8 .loop .inv .0) (p16 .pre .0 .0) (p7 .next-ink .ensures) (p6 .if1 .left)
-    (p4 .entry-at .ensures) (p2 .k .given .1) (c .found2 .ensures)
+    let p16 = p8 .before .before .before .before .before .before .before .before in (
+      faults (now (p16 .args .text)) (p8 .loop .entries) (p8 .loop .stack) (p8 .loop .names) (p8 .loop .places) (p8 .loop .notes) (p8 .loop .depth)
+          (p8 .loop .waiting) (p8 .loop .count) (p8 .loop .at) (p8 .loop .kept) (p8 .loop .inv .0) (p16 .pre .0 .0) (p7 .next-ink .ensures) (p6 .if1 .left)
+          (p4 .entry-at .ensures) (p2 .k .given .1) (c .found2 .ensures),
+      beyond-as (p8 .loop .inv .7) (c .found2 .ensures),
+    )
 
 enum-told : tie.Need-enum-told Inv-loop μ-loop
 enum-told c = search needs
@@ -196,13 +206,19 @@ returns-3 c =
     let p25 = p24 .before in
     let p26 = p25 .before in
     let p34 = p26 .before .before .before .before .before .before .before .before in
-    name-stops (now (p34 .args .text)) (p26 .loop .entries) (p26 .loop .stack) (p26 .loop .names) (p26 .loop .places) (p26 .loop .notes)
-    (p26 .loop .depth) (p26 .loop .waiting) (p26 .loop .count) (p26 .loop .at) (p26 .loop .kept) (p26 .loop .inv .0) (p34 .pre .0 .0)
-    (p25 .next-ink .ensures) (p24 .if1 .left) (p22 .entry-at .ensures) (p20 .enum-told .given .1) (
+    let w : (1152 ≤ length (p26 .loop .names)) × (64 ≤ length (p26 .loop .places)) = (
       omega (arith, p34 .pre .1 .0, p26 .loop .inv .3),
       omega (arith, p34 .pre .1 .1 .0, p26 .loop .inv .4),
-    ) (step-as (p14 .name-step .ensures) (p4 .next .given .1)) (sym (p2 .parted-at .ensures) ∙
-    not-true _ (c .before .if2 .taken)) (c .found3 .ensures)
+    ) in (
+      name-stops (now (p34 .args .text)) (p26 .loop .entries) (p26 .loop .stack) (p26 .loop .names) (p26 .loop .places) (p26 .loop .notes)
+          (p26 .loop .depth) (p26 .loop .waiting) (p26 .loop .count) (p26 .loop .at) (p26 .loop .kept) (p26 .loop .inv .0) (p34 .pre .0 .0)
+          (p25 .next-ink .ensures) (p24 .if1 .left) (p22 .entry-at .ensures) (p20 .enum-told .given .1) w (step-as (p14 .name-step .ensures) (p4 .next .given .1))
+          (sym (p2 .parted-at .ensures) ∙ not-true _ (c .before .if2 .taken)) (c .found3 .ensures),
+      beyond-as (name-beyond (now (p34 .args .text)) (p26 .loop .entries) (p26 .loop .stack) (p26 .loop .names) (p26 .loop .places) (p26 .loop .notes)
+          (p26 .loop .depth) (p26 .loop .waiting) (p26 .loop .count) (p26 .loop .at) (p26 .loop .kept) (p26 .loop .inv .0) (p34 .pre .0 .0)
+          (p25 .next-ink .ensures) (p24 .if1 .left) (p22 .entry-at .ensures) (p20 .enum-told .given .1) w (step-as (p14 .name-step .ensures) (p4 .next .given .1))
+          (p26 .loop .inv .7) (p14 .name-step .kept .1 .1 .1 .1 .1 .1 .1 .1 .0 ∙ p26 .loop .inv .6 ∙ p34 .pre .1 .1 .1 .1)) (c .found3 .ensures),
+    )
 
 loop-less : tie.Need-loop-less Inv-loop μ-loop
 loop-less c =
@@ -237,20 +253,26 @@ loop-again c =
     let p23 = p21 .before .before in
     let p24 = p23 .before in
     let p25 = p24 .before in
-    let p33 = p25 .before .before .before .before .before .before .before .before in (
+    let p33 = p25 .before .before .before .before .before .before .before .before in
+    let w : (1152 ≤ length (p25 .loop .names)) × (64 ≤ length (p25 .loop .places)) = (
+      omega (arith, p33 .pre .1 .0, p25 .loop .inv .3),
+      omega (arith, p33 .pre .1 .1 .0, p25 .loop .inv .4),
+    ) in (
       name-goes (now (p33 .args .text)) (p25 .loop .entries) (p25 .loop .stack) (p25 .loop .names) (p25 .loop .places) (p25 .loop .notes)
           (p25 .loop .depth) (p25 .loop .waiting) (p25 .loop .count) (p25 .loop .at) (p25 .loop .kept) (p25 .loop .inv .0) (p33 .pre .0 .0)
-          (p24 .next-ink .ensures) (p23 .if1 .left) (p21 .entry-at .ensures) (p19 .enum-told .given .1) (
-            omega (arith, p33 .pre .1 .0, p25 .loop .inv .3),
-            omega (arith, p33 .pre .1 .1 .0, p25 .loop .inv .4),
-          ) (step-as (p13 .name-step .ensures) (p3 .next .given .1)) (sym (c .before .parted-at .ensures)
-          ∙ not-false _ (c .if2 .left)),
+          (p24 .next-ink .ensures) (p23 .if1 .left) (p21 .entry-at .ensures) (p19 .enum-told .given .1) w
+          (step-as (p13 .name-step .ensures) (p3 .next .given .1)) (sym (c .before .parted-at .ensures) ∙ not-false _ (c .if2 .left)),
       p25 .loop .inv .1,
       p25 .loop .inv .2,
       p13 .name-step .kept .1 .1 .1 .1 .1 .0 ∙ p25 .loop .inv .3,
       p13 .name-step .kept .1 .1 .1 .1 .1 .1 .0 ∙ p25 .loop .inv .4,
       p13 .name-step .kept .1 .1 .1 .1 .1 .1 .1 .0 ∙ p25 .loop .inv .5,
       p13 .name-step .kept .1 .1 .1 .1 .1 .1 .1 .1 .0 ∙ p25 .loop .inv .6,
+      name-beyond (now (p33 .args .text)) (p25 .loop .entries) (p25 .loop .stack) (p25 .loop .names) (p25 .loop .places) (p25 .loop .notes)
+          (p25 .loop .depth) (p25 .loop .waiting) (p25 .loop .count) (p25 .loop .at) (p25 .loop .kept) (p25 .loop .inv .0) (p33 .pre .0 .0)
+          (p24 .next-ink .ensures) (p23 .if1 .left) (p21 .entry-at .ensures) (p19 .enum-told .given .1) w
+          (step-as (p13 .name-step .ensures) (p3 .next .given .1)) (p25 .loop .inv .7)
+          (p13 .name-step .kept .1 .1 .1 .1 .1 .1 .1 .1 .0 ∙ p25 .loop .inv .6 ∙ p33 .pre .1 .1 .1 .1),
     )
 
 enum-known-k-2 : tie.Need-enum-known-k-2 Inv-loop μ-loop
@@ -307,10 +329,12 @@ returns-4 c =
     let p23 = p22 .before in
     let p24 = p23 .before in
     let p32 = p24 .before .before .before .before .before .before .before .before in
-    name-fault (now (p32 .args .text)) (p24 .loop .entries) (p24 .loop .stack) (p24 .loop .names) (p24 .loop .places) (p24 .loop .notes)
-    (p24 .loop .depth) (p24 .loop .waiting) (p24 .loop .count) (p24 .loop .at) (p24 .loop .kept) (p24 .loop .inv .0) (p32 .pre .0 .0)
-    (p23 .next-ink .ensures) (p22 .if1 .left) (p20 .entry-at .ensures) (p18 .enum-told .given .1) (step-as (p12 .name-step .ensures)
-    (p2 .k2 .given .1)) (c .found4 .ensures)
+    let n = step-as (p12 .name-step .ensures) (p2 .k2 .given .1) in (
+      name-fault (now (p32 .args .text)) (p24 .loop .entries) (p24 .loop .stack) (p24 .loop .names) (p24 .loop .places) (p24 .loop .notes)
+          (p24 .loop .depth) (p24 .loop .waiting) (p24 .loop .count) (p24 .loop .at) (p24 .loop .kept) (p24 .loop .inv .0) (p32 .pre .0 .0)
+          (p23 .next-ink .ensures) (p22 .if1 .left) (p20 .entry-at .ensures) (p18 .enum-told .given .1) n (c .found4 .ensures),
+      beyond-fault (p24 .loop .inv .7) (c .found4 .ensures) (n .by .1),
+    )
 
 enum-known-x : tie.Need-enum-known-x Inv-loop μ-loop
 enum-known-x c = search needs
@@ -406,20 +430,23 @@ same-length-30 c =
 returns-5 : tie.Need-returns-5 Inv-loop μ-loop
 returns-5 c =
     let p2 = c .before .before in
-    let p10 = p2 .before .before .before .before .before .before .before .before in
+    let p6 = p2 .before .before .before .before in
+    let p10 = p6 .before .before .before .before in
     let p13 = p10 .before .before .before in
     let p15 = p13 .before .before in
     let p17 = p15 .before .before in
     let p18 = p17 .before in
     let p19 = p18 .before in
     let p27 = p19 .before .before .before .before .before .before .before .before in
-    rw (p10 .store .ensures) (stops (now (p27 .args .text)) (p19 .loop .entries) (p19 .loop .stack) (p19 .loop .names) (p19 .loop .places)
-    (p19 .loop .notes) (p19 .loop .depth) (p19 .loop .waiting) (p19 .loop .count) (p19 .loop .at) (p19 .loop .kept) (p19 .loop .inv .0)
-    (p27 .pre .0 .0) (p18 .next-ink .ensures) (p17 .if1 .left) (p15 .entry-at .ensures) (p13 .x .given .1) (omega (
-      arith,
-      p27 .pre .0 .1 .0,
-      p19 .loop .inv .1,
-    )) (sym (p2 .parted-at2 .ensures) ∙ not-true _ (c .before .if3 .taken)) (c .found5 .ensures))
+    let m : 5747 ≤ length (p19 .loop .entries) = omega (arith, p27 .pre .0 .1 .0, p19 .loop .inv .1) in (
+      rw (p10 .store .ensures) (stops (now (p27 .args .text)) (p19 .loop .entries) (p19 .loop .stack) (p19 .loop .names) (p19 .loop .places)
+          (p19 .loop .notes) (p19 .loop .depth) (p19 .loop .waiting) (p19 .loop .count) (p19 .loop .at) (p19 .loop .kept) (p19 .loop .inv .0)
+          (p27 .pre .0 .0) (p18 .next-ink .ensures) (p17 .if1 .left) (p15 .entry-at .ensures) (p13 .x .given .1) m
+          (sym (p2 .parted-at2 .ensures) ∙ not-true _ (c .before .if3 .taken)) (c .found5 .ensures)),
+      rw (p10 .store .ensures, p6 .push .ensures) (beyond-as (item-beyond (now (p27 .args .text)) (p19 .loop .entries) (p19 .loop .stack) (p19 .loop .names) (p19 .loop .places)
+          (p19 .loop .notes) (p19 .loop .depth) (p19 .loop .waiting) (p19 .loop .count) (p19 .loop .at) (p19 .loop .kept) (p19 .loop .inv .0)
+          (p27 .pre .0 .0) (p18 .next-ink .ensures) (p17 .if1 .left) (p15 .entry-at .ensures) (p13 .x .given .1) m (p19 .loop .inv .7)) (c .found5 .ensures)),
+    )
 
 loop-less-2 : tie.Need-loop-less-2 Inv-loop μ-loop
 loop-less-2 c =
@@ -446,11 +473,12 @@ loop-again-2 c =
     let p16 = p14 .before .before in
     let p17 = p16 .before in
     let p18 = p17 .before in
-    let p26 = p18 .before .before .before .before .before .before .before .before in (
+    let p26 = p18 .before .before .before .before .before .before .before .before in
+    let m : 5747 ≤ length (p18 .loop .entries) = omega (arith, p26 .pre .0 .1 .0, p18 .loop .inv .1) in (
       rw (p9 .store .ensures, p5 .push .ensures, p2 .waiting-after .ensures) (goes-on (now (p26 .args .text)) (p18 .loop .entries) (p18 .loop .stack)
           (p18 .loop .names) (p18 .loop .places) (p18 .loop .notes) (p18 .loop .depth) (p18 .loop .waiting) (p18 .loop .count) (p18 .loop .at)
           (p18 .loop .kept) (p18 .loop .inv .0) (p26 .pre .0 .0) (p17 .next-ink .ensures) (p16 .if1 .left) (p14 .entry-at .ensures) (p12 .x .given .1)
-          (omega (arith, p26 .pre .0 .1 .0, p18 .loop .inv .1)) (sym (c .before .parted-at2 .ensures) ∙ not-false _ (c .if3 .left))),
+          m (sym (c .before .parted-at2 .ensures) ∙ not-false _ (c .if3 .left))),
       p9 .store .kept .0 ∙
           p18 .loop .inv .1,
       p5 .push .kept .0 ∙ p18 .loop .inv .2,
@@ -458,6 +486,10 @@ loop-again-2 c =
       p18 .loop .inv .4,
       p18 .loop .inv .5,
       p18 .loop .inv .6,
+      rw (p9 .store .ensures, p5 .push .ensures) (item-beyond (now (p26 .args .text)) (p18 .loop .entries) (p18 .loop .stack)
+          (p18 .loop .names) (p18 .loop .places) (p18 .loop .notes) (p18 .loop .depth) (p18 .loop .waiting) (p18 .loop .count) (p18 .loop .at)
+          (p18 .loop .kept) (p18 .loop .inv .0) (p26 .pre .0 .0) (p17 .next-ink .ensures) (p16 .if1 .left) (p14 .entry-at .ensures) (p12 .x .given .1)
+          m (p18 .loop .inv .7)),
     )
 
 pub read-entries-spec : {M : Type 1} → statement M

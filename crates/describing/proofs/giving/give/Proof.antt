@@ -21,42 +21,12 @@ mul-t23 c =
     let p15 = c .before .before .before .before .before .before .before .before .before .before .before .before .before .before .before in
     omega (arith, p15 .pre .few, p15 .pre .fewNames, p15 .pre .fewLiterals)
 
-room-for-requires : tie.Need-room-for-requires
-room-for-requires c κs = search needs
-
-enum-told : tie.Need-enum-told
-enum-told c = search needs
-
 write-requires : tie.Need-write-requires
 write-requires c κs =
     let p6 = c .before .before .before .before .before .before in
     let p8 = p6 .before .before in
     let p24 = p8 .before .before .before .before .before .before .before .before .before .before .before .before .before .before .before .before in
     (p24 .pre, all-room (p24 .args .found) _ (sym (p8 .room-for .ensures) ∙ p6 .enum-told .given .1))
-
-enum-known-told : tie.Need-enum-known-told
-enum-known-told c = search needs
-
-enum-known-told-2 : tie.Need-enum-known-told-2
-enum-known-told-2 c = search needs
-
-same-length : tie.Need-same-length
-same-length c = search needs
-
-same-length-2 : tie.Need-same-length-2
-same-length-2 c = search needs
-
-same-length-3 : tie.Need-same-length-3
-same-length-3 c = search needs
-
-same-length-4 : tie.Need-same-length-4
-same-length-4 c = search needs
-
-same-length-5 : tie.Need-same-length-5
-same-length-5 c = search needs
-
-same-length-6 : tie.Need-same-length-6
-same-length-6 c = search needs
 
 returns : tie.Need-returns
 returns c =
@@ -78,17 +48,12 @@ give-spec =
     mul-t21
     mul-t22
     mul-t23
-    room-for-requires
-    enum-told
+    (λ c κs. search needs)
+    (λ c. search needs)
     write-requires
-    enum-known-told
-    enum-known-told-2
-    same-length
-    same-length-2
-    same-length-3
-    same-length-4
-    same-length-5
-    same-length-6
+    (λ c. search needs) (λ c. search needs) (λ c. search needs) (λ c. search needs) (λ c. search needs) (λ c. search needs)
+    (λ c. search needs)
+    (λ c. search needs)
     returns
     returns-2
     returns-3)

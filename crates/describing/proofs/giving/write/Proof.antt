@@ -52,24 +52,6 @@ copy-words-requires c κs =
     let p35 = p32 .before .before .before in
     (p35 .pre .0 .words, omega (arith, p35 .pre .0 .sized, p35 .pre .1 .forBytes))
 
-same-length : tie.Need-same-length
-same-length c = search needs
-
-same-length-2 : tie.Need-same-length-2
-same-length-2 c = search needs
-
-same-length-3 : tie.Need-same-length-3
-same-length-3 c = search needs
-
-same-length-4 : tie.Need-same-length-4
-same-length-4 c = search needs
-
-same-length-5 : tie.Need-same-length-5
-same-length-5 c = search needs
-
-same-length-6 : tie.Need-same-length-6
-same-length-6 c = search needs
-
 returns : tie.Need-returns
 returns c =
     let p6 = c .before .before .before .before .before .before in
@@ -93,10 +75,5 @@ write-spec =
     copy-numbers-requires-3
     copy-rows-requires
     copy-words-requires
-    same-length
-    same-length-2
-    same-length-3
-    same-length-4
-    same-length-5
-    same-length-6
+    (λ c. search needs) (λ c. search needs) (λ c. search needs) (λ c. search needs) (λ c. search needs) (λ c. search needs)
     returns)

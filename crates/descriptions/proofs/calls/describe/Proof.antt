@@ -1,4 +1,5 @@
 -- `describe` meets its contract: from the laws of proofs/ and what its callees ensure. Assumes nothing.
+use mathlib.Core.Path.{sym}
 use denote.Ref.{now}
 use native.Mathlib.Omega.{arith}
 use borrow.Author.Tests.{not-true, not-false}
@@ -42,19 +43,19 @@ returns c =
     (c .before .before .enum-told .given .1) (not-true _ (c .if1 .taken))
 
 slice-aggregate-give : tie.Need-slice-aggregate-give
-slice-aggregate-give c = search needs
+slice-aggregate-give c = sym (c .before .before .before .before .before .before .before .before .before .before .before .parse .kept .1 .1 .1 .1 .1 .0)
 
 slice-aggregate-give-2 : tie.Need-slice-aggregate-give-2
-slice-aggregate-give-2 c = search needs
+slice-aggregate-give-2 c = sym (c .before .before .before .before .before .before .before .before .before .before .before .before .parse .kept .1 .0)
 
 slice-aggregate-give-3 : tie.Need-slice-aggregate-give-3
-slice-aggregate-give-3 c = search needs
+slice-aggregate-give-3 c = sym (c .before .before .before .before .before .before .before .before .before .before .before .before .before .parse .kept .1 .1 .0)
 
 slice-aggregate-give-4 : tie.Need-slice-aggregate-give-4
-slice-aggregate-give-4 c = search needs
+slice-aggregate-give-4 c = sym (c .before .before .before .before .before .before .before .before .before .before .before .before .before .before .parse .kept .1 .1 .1 .0)
 
 slice-aggregate-give-5 : tie.Need-slice-aggregate-give-5
-slice-aggregate-give-5 c = search needs
+slice-aggregate-give-5 c = sym (c .before .before .before .before .before .before .before .before .before .before .before .before .before .before .before .parse .kept .1 .1 .1 .1 .0)
 
 give-requires : tie.Need-give-requires
 give-requires c κs =
@@ -79,22 +80,22 @@ returns-2 c =
     (c .before .over .given .1)
 
 same-length : tie.Need-same-length
-same-length c = search needs
+same-length c = c .before .before .before .before .before .before .before .before .before .before .before .before .give .kept .1 .1 .1 .1 .1 .1 .1 .0
 
 same-length-2 : tie.Need-same-length-2
-same-length-2 c = search needs
+same-length-2 c = c .before .before .before .before .before .before .before .before .before .before .before .before .give .kept .1 .1 .1 .1 .1 .1 .1 .1 .0
 
 same-length-3 : tie.Need-same-length-3
-same-length-3 c = search needs
+same-length-3 c = c .before .before .before .before .before .before .before .before .before .before .before .before .give .kept .1 .1 .1 .1 .1 .1 .1 .1 .1 .0
 
 same-length-4 : tie.Need-same-length-4
-same-length-4 c = search needs
+same-length-4 c = c .before .before .before .before .before .before .before .before .before .before .before .before .give .kept .1 .1 .1 .1 .1 .1 .1 .1 .1 .1 .0
 
 same-length-5 : tie.Need-same-length-5
-same-length-5 c = search needs
+same-length-5 c = c .before .before .before .before .before .before .before .before .before .before .before .before .give .kept .1 .1 .1 .1 .1 .1 .1 .1 .1 .1 .1 .0
 
 same-length-6 : tie.Need-same-length-6
-same-length-6 c = search needs
+same-length-6 c = c .before .before .before .before .before .before .before .before .before .before .before .before .give .kept .1 .1 .1 .1 .1 .1 .1 .1 .1 .1 .1 .1 .0
 
 returns-3 : tie.Need-returns-3
 returns-3 c =

@@ -34,16 +34,16 @@ read-entries-requires c κs =
     )
 
 same-length : tie.Need-same-length
-same-length c = search needs
+same-length c = c .before .before .before .before .before .before .before .before .before .before .before .before .before .read-entries .kept .1 .0
 
 same-length-2 : tie.Need-same-length-2
-same-length-2 c = search needs
+same-length-2 c = c .before .before .before .before .before .before .before .before .before .before .before .before .before .read-entries .kept .1 .1 .1 .0
 
 same-length-3 : tie.Need-same-length-3
-same-length-3 c = search needs
+same-length-3 c = c .before .before .before .before .before .before .before .before .before .before .before .before .before .read-entries .kept .1 .1 .1 .1 .0
 
 same-length-4 : tie.Need-same-length-4
-same-length-4 c = search needs
+same-length-4 c = c .before .before .before .before .before .before .before .before .before .before .before .before .before .read-entries .kept .1 .1 .1 .1 .1 .0
 
 returns : tie.Need-returns
 returns c =
@@ -51,19 +51,19 @@ returns c =
     let at-readable = at-read-entries .before .before .before .before .before .before .before .before in
     let start = at-readable .before .before .before .before .before .before in
     within-whole (now (start .args .text)) _ _ _ _ (at-read-entries .read-entries .result) (at-readable .readable .ensures)
-    (at-read-entries .read-entries .ensures) (c .if1 .taken)
+    (at-read-entries .read-entries .ensures .0) (c .if1 .taken)
 
 same-length-5 : tie.Need-same-length-5
-same-length-5 c = search needs
+same-length-5 c = c .before .before .before .before .before .before .before .before .before .before .before .before .before .read-entries .kept .1 .0
 
 same-length-6 : tie.Need-same-length-6
-same-length-6 c = search needs
+same-length-6 c = c .before .before .before .before .before .before .before .before .before .before .before .before .before .read-entries .kept .1 .1 .1 .0
 
 same-length-7 : tie.Need-same-length-7
-same-length-7 c = search needs
+same-length-7 c = c .before .before .before .before .before .before .before .before .before .before .before .before .before .read-entries .kept .1 .1 .1 .1 .0
 
 same-length-8 : tie.Need-same-length-8
-same-length-8 c = search needs
+same-length-8 c = c .before .before .before .before .before .before .before .before .before .before .before .before .before .read-entries .kept .1 .1 .1 .1 .1 .0
 
 returns-2 : tie.Need-returns-2
 returns-2 c =
@@ -71,7 +71,7 @@ returns-2 c =
     let at-readable = at-read-entries .before .before .before .before .before .before .before .before in
     let start = at-readable .before .before .before .before .before .before in
     within-rest (now (start .args .text)) _ _ _ _ (at-read-entries .read-entries .result) (at-readable .readable .ensures)
-    (at-read-entries .read-entries .ensures) (c .if1 .left)
+    (at-read-entries .read-entries .ensures .0) (c .if1 .left)
 
 pub read-within-spec : {M : Type 1} → statement M
 read-within-spec =

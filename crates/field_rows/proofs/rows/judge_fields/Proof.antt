@@ -1,13 +1,13 @@
 -- By what the row tests.
 use mathlib.Core.Path.{sym, _∙_, _≡_, refl}
-use mathlib.Core.Bool.{false≢true}
 use borrow.Author.Needs.{needs}
 use Rattle.typing.specs.declared.Test.the-variants.{Class}
 use Rattle.typing.specs.Tests.{testOf}
 use Rattle.values.proofs.Reading.{read-class}
 use Rattle.block_truths.proofs.Firsts.{first-readable}
-use Rattle.block_truths.proofs.Passing.{retold-at}
-use Rattle.field_rows.proofs.Fitting.{right-for, item-fits, class-is}
+use Rattle.block_truths.proofs.Passing.{retold-at, judged, unjudged}
+use Rattle.record_fields.proofs.Fitting.{right-for}
+use Rattle.field_rows.proofs.Fitting.{item-fits, class-is}
 use Rattle.field_rows.proofs.rows.judge_fields.Statement.{statement}
 use Rattle.field_rows.proofs.rows.judge_fields.Tie as tie
 
@@ -57,7 +57,7 @@ same-length c = search needs
 returns : tie.Need-returns
 returns c =
     let e = sym (c .before .before .before .before .before .before .before .test-of .ensures) ∙ c .before .before .before .before .before .test .given .1 in
-    (λ t. c .before .before .judge-relation .ensures, (λ e. absurd (false≢true (sym e)), rw e))
+    judged (rw e) refl (c .before .before .judge-relation .ensures)
 
 same-length-2 : tie.Need-same-length-2
 same-length-2 c = search needs
@@ -65,20 +65,18 @@ same-length-2 c = search needs
 returns-2 : tie.Need-returns-2
 returns-2 c =
     let start = c .before .before .before .before .before .before .before .before .before .before .before .before .before .before .before .before in
-    let t = class-test (c .before .before .before .before .before .before) in (
-      λ _. retold-at (c .before .before .classify-each .ensures)
-          (λ k l v. right-for (class-is t (c .before .before .before .before .row-of .ensures) (start .pre .0 .readable k l) (start .args .switches))),
-      (λ e. absurd (false≢true (sym e)), rw t),
-    )
+    let t = class-test (c .before .before .before .before .before .before) in
+    judged (rw t) refl (retold-at (c .before .before .classify-each .ensures)
+    (λ k l v. right-for (class-is t (c .before .before .before .before .row-of .ensures) (start .pre .0 .readable k l) (start .args .switches))))
 
 returns-3 : tie.Need-returns-3
-returns-3 c = (λ e. absurd (false≢true e), (λ _. refl, rw (sym (c .before .before .test-of .ensures) ∙ c .enum-told .given .1)))
+returns-3 c = unjudged (rw (sym (c .before .before .test-of .ensures) ∙ c .enum-told .given .1)) refl refl
 
 returns-4 : tie.Need-returns-4
-returns-4 c = (λ e. absurd (false≢true e), (λ _. refl, rw (sym (c .before .before .before .test-of .ensures) ∙ c .before .test3 .given .1)))
+returns-4 c = unjudged (rw (sym (c .before .before .before .test-of .ensures) ∙ c .before .test3 .given .1)) refl refl
 
 returns-5 : tie.Need-returns-5
-returns-5 c = (λ e. absurd (false≢true e), (λ _. refl, rw (sym (c .before .before .test-of .ensures) ∙ c .enum-told2 .given .1)))
+returns-5 c = unjudged (rw (sym (c .before .before .test-of .ensures) ∙ c .enum-told2 .given .1)) refl refl
 
 pub judge-fields-spec : {M : Type 1} → statement M
 judge-fields-spec =

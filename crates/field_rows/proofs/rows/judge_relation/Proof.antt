@@ -9,7 +9,8 @@ use Rattle.values.proofs.Reading.{read-relation}
 use Rattle.block_truths.specs.Columns.{recordAt}
 use Rattle.block_truths.proofs.Firsts.{first-readable, first-within, within-unnamed}
 use Rattle.block_truths.proofs.Passing.{retold-at}
-use Rattle.field_rows.proofs.Fitting.{right-for, side-here, side-fits, relation-is}
+use Rattle.record_fields.proofs.Fitting.{right-for}
+use Rattle.field_rows.proofs.Fitting.{side-here, side-fits, relation-is}
 use Rattle.field_rows.proofs.rows.judge_relation.Statement.{statement}
 use Rattle.field_rows.proofs.rows.judge_relation.Tie as tie
 

@@ -1,22 +1,22 @@
 -- `lay_rows` meets its contract: from the laws of proofs/ and what its callees ensure. Assumes nothing.
 use Prim.Native.Nat.{_-_}
 use native.Mathlib.Omega.{arith}
-use mathlib.Core.Path.{_≡_, refl, sym, _∙_}
-use lib.ListN.{length}
+use mathlib.Core.Path.{sym, _∙_}
 use denote.Ref.{now}
+use Rattle.tables.proofs.Front.{front-length}
 use Rattle.layouts.specs.Layouts.{shownRow}
 use Rattle.layouts.proofs.Laying.{Laying, lay-none, lay-over, lay-more, lay-end, not-over, row-small}
 use Rattle.layouts.proofs.rows.lay_rows.Statement.{statement}
 use Rattle.layouts.proofs.rows.lay_rows.Tie as tie
 
 abbrev Inv-loop : tie.InvT-loop
-Inv-loop entries n rows₀ offset₀ i₀ rows offset i = Laying entries n rows offset i × (length rows ≡ length rows₀)
+Inv-loop entries n rows₀ offset₀ i₀ rows offset i = Laying entries n rows₀ rows offset i
 
 abbrev μ-loop : tie.MeasureT-loop
 μ-loop entries n rows₀ offset₀ i₀ rows offset i = n - i
 
 loop-holds : tie.Need-loop-holds Inv-loop μ-loop
-loop-holds c = (lay-none (now (c .before .before .args .entries)) (c .before .before .args .n) (now (c .before .before .args .rows)), refl)
+loop-holds c = lay-none (now (c .before .before .args .entries)) (c .before .before .args .n) (now (c .before .before .args .rows))
 
 row-of-requires : tie.Need-row-of-requires Inv-loop μ-loop
 row-of-requires c κs = (c .loop-test .taken, (c .before .before .before .before .pre .0, c .before .before .before .before .pre .1 .0))
@@ -40,7 +40,7 @@ returns : tie.Need-returns Inv-loop μ-loop
 returns c = lay-over (now (c .before .before .before .before .before .before .before .before .before .args .entries))
     (c .before .before .before .before .before .before .before .before .before .args .n) (c .before .before .before .before .before .before .loop .rows)
     (c .before .before .before .before .before .before .loop .offset) (c .before .before .before .before .before .before .loop .i)
-    (c .before .before .before .before .before .before .loop .inv .0) (c .before .before .before .before .before .loop-test .taken)
+    (c .before .before .before .before .before .before .loop .inv) (c .before .before .before .before .before .loop-test .taken)
     (c .before .before .before .before .row-of .ensures) (sym (c .before .before .before .is-over .ensures) ∙ c .before .before .if1 .taken) (c .wide .ensures)
 
 store-row-requires : tie.Need-store-row-requires Inv-loop μ-loop
@@ -51,7 +51,7 @@ store-row-requires c κs = (
         (sym (c .before .before .is-over .ensures)
         ∙ c .before .if1 .left) .0,
     c .before .before .before .before .before .before .before .before .pre .1 .1,
-    c .before .before .before .before .before .loop .inv .1,
+    front-length (c .before .before .before .before .before .loop .inv .front),
   ),
   row-small (c .before .before .before .before .before .loop .i) (shownRow (c .before .before .before .row-of .result)) (sym (c .before .before .is-over .ensures) ∙ c .before .if1 .left),
 )
@@ -65,7 +65,7 @@ add-offset c =
     let p8 = c .before .before .before .before .before .before .before .before in
     let p9 = p8 .before in
     let p12 = p9 .before .before .before in
-    omega (arith, p9 .loop .inv .0 .low, c .size-at .ensures .small, p12 .pre .0, p8 .loop-test .taken)
+    omega (arith, p9 .loop .inv .low, c .size-at .ensures .small, p12 .pre .0, p8 .loop-test .taken)
 
 add-i : tie.Need-add-i Inv-loop μ-loop
 add-i c =
@@ -80,31 +80,20 @@ loop-less c =
     omega (arith, p12 .pre .1 .0, p8 .loop-test .taken)
 
 loop-again : tie.Need-loop-again Inv-loop μ-loop
-loop-again c = (
-  rw (c .before .before .before .store-row .ensures)
-      (lay-more (now (c .before .before .before .before .before .before .before .before .before .before .before .before .args .entries))
-      (c .before .before .before .before .before .before .before .before .before .before .before .before .args .n)
-      (c .before .before .before .before .before .before .before .before .before .loop .rows)
-      (c .before .before .before .before .before .before .before .before .before .loop .offset)
-      (c .before .before .before .before .before .before .before .before .before .loop .i)
-      (c .before .before .before .before .before .before .before .before .before .loop .inv .0)
-      (c .before .before .before .before .before .before .before .before .loop-test .taken) (c .before .before .before .before .before .before .before .row-of .ensures)
-      (sym (c .before .before .before .before .before .before .is-over .ensures) ∙ c .before .before .before .before .before .if1 .left)
-      (omega (
-        arith,
-        not-over (c .before .before .before .before .before .before .before .before .before .loop .i)
-            (shownRow (c .before .before .before .before .before .before .before .row-of .result))
-            (sym (c .before .before .before .before .before .before .is-over .ensures)
-            ∙ c .before .before .before .before .before .if1 .left) .0,
-        c .before .before .before .before .before .before .before .before .before .before .before .before .pre .1 .1,
-        c .before .before .before .before .before .before .before .before .before .loop .inv .1,
-      )) (c .size-at .ensures)),
-  c .before .before .before .store-row .kept .0 ∙ c .before .before .before .before .before .before .before .before .before .loop .inv .1,
-)
+loop-again c =
+    let p3 = c .before .before .before in
+    let p6 = p3 .before .before .before in
+    let p8 = p6 .before .before in
+    let p9 = p8 .before in
+    let p12 = p9 .before .before .before in
+    let kept = sym (p6 .is-over .ensures) ∙ p3 .before .before .if1 .left in
+    rw (p3 .store-row .ensures)
+    (lay-more (now (p12 .args .entries)) (p12 .args .n) (p9 .loop .rows) (p9 .loop .offset) (p9 .loop .i) (p9 .loop .inv) (p8 .loop-test .taken)
+    (p6 .before .row-of .ensures) kept (omega (arith, not-over (p9 .loop .i) (shownRow (p6 .before .row-of .result)) kept .0, p12 .pre .1 .1)) (c .size-at .ensures))
 
 returns-2 : tie.Need-returns-2 Inv-loop μ-loop
 returns-2 c = lay-end (now (c .before .before .before .before .args .entries)) (c .before .before .before .before .args .n) (c .before .loop .rows)
-    (c .before .loop .offset) (c .before .loop .i) (c .before .loop .inv .0) (c .loop-test .left)
+    (c .before .loop .offset) (c .before .loop .i) (c .before .loop .inv) (c .loop-test .left)
 
 pub lay-rows-spec : {M : Type 1} → statement M
 lay-rows-spec =
@@ -112,5 +101,5 @@ lay-rows-spec =
     (tie.spec
     Inv-loop μ-loop loop-holds row-of-requires
     (λ c κs. omega (arith, c .before .before .before .before .before .pre .1 .0, c .before .loop-test .taken)) mul-at add-wide mul-wide
-    shared-slice-read-wide wide-requires (λ c. c .before .before .before .before .before .before .loop .inv .1) returns store-row-requires
-    size-at-requires add-offset add-i loop-less loop-again (λ c. c .before .loop .inv .1) returns-2)
+    shared-slice-read-wide wide-requires (λ c. front-length (c .before .before .before .before .before .before .loop .inv .front)) returns store-row-requires
+    size-at-requires add-offset add-i loop-less loop-again (λ c. front-length (c .before .loop .inv .front)) returns-2)

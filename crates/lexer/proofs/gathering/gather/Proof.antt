@@ -7,8 +7,8 @@ use denote.Ref.{now}
 use borrow.Author.Needs.{needs}
 use Rattle.naming.specs.Named.{knownAt}
 use Rattle.spelling.specs.Names.{Book}
-use Rattle.lexer.specs.Gathers.{totalOf, bookIn, Gathers, Bounds}
-use Rattle.lexer.proofs.Ending.{nothing, few-yet, rooms-stay, on-step, whole-past, long-past, whole-end, long-end, fault-end}
+use Rattle.lexer.specs.Gathers.{totalOf, bookIn, Gathers, Bounds, Beyond}
+use Rattle.lexer.proofs.Ending.{nothing, few-yet, none-beyond, rooms-stay, on-step, whole-past, long-past, whole-end, long-end, fault-end}
 use Rattle.lexer.proofs.gathering.gather.Statement.{statement}
 use Rattle.lexer.proofs.gathering.gather.Tie as tie
 
@@ -19,6 +19,7 @@ Inv-loop description places items text literals content tokens₀ rows₀ bytes�
     × (length tokens ≡ length tokens₀)
     × (length rows ≡ length rows₀)
     × (length bytes ≡ length bytes₀)
+    × (Beyond held tokens₀ rows₀ bytes₀ tokens rows bytes)
 
 abbrev μ-loop : tie.MeasureT-loop
 μ-loop description places items text literals content tokens₀ rows₀ bytes₀ held₀ tokens rows bytes held = 2048 - held .past
@@ -48,6 +49,7 @@ loop-holds c =
       refl,
       refl,
       refl,
+      none-beyond _ _ _ _,
     )
 
 step-requires : tie.Need-step-requires Inv-loop μ-loop
@@ -69,7 +71,7 @@ loop-less c =
     let start = first s in
     omega (
       arith,
-      on-step (book start) (now (start .args .text)) (l .inv .0) (l .inv .1) (s .step .result) (s .step .ensures) (c .before .stepped .given .1) .2,
+      on-step (book start) (now (start .args .text)) _ _ _ (l .inv .0) (l .inv .1) (l .inv .5) (s .step .result) (s .step .ensures) (c .before .stepped .given .1) .2 .readOn,
       s .before .before .before .before .if1 .taken,
     )
 
@@ -78,42 +80,42 @@ loop-again c =
     let s = c .before .before .before .before .before .before .before .before .before in
     let l = s .before .before .before .before .before .before .loop in
     let start = first s in
-    let on = on-step (book start) (now (start .args .text)) (l .inv .0) (l .inv .1) (s .step .result) (s .step .ensures) (c .before .stepped .given .1) in
-    (on .0, on .1, still s .0, still s .1, still s .2)
+    let on = on-step (book start) (now (start .args .text)) _ _ _ (l .inv .0) (l .inv .1) (l .inv .5) (s .step .result) (s .step .ensures) (c .before .stepped .given .1) in
+    (on .0, on .1, still s .0, still s .1, still s .2, on .3)
 
 returns : tie.Need-returns Inv-loop μ-loop
 returns c =
     let s = c .before .before .before .before .before .before .before .before .before in
     let l = s .before .before .before .before .before .before .loop in
     let start = first s in
-    whole-end (book start) (now (start .args .text)) (l .inv .0) (l .inv .1) (s .step .result) (s .step .ensures) (c .before .enum-told .given .1) (c .if2 .taken)
+    whole-end (book start) (now (start .args .text)) _ _ _ (l .inv .0) (l .inv .1) (l .inv .5) (s .step .result) (s .step .ensures) (c .before .enum-told .given .1) (c .if2 .taken)
 
 returns-2 : tie.Need-returns-2 Inv-loop μ-loop
 returns-2 c =
     let s = c .before .before .before .before .before .before .before .before .before in
     let l = s .before .before .before .before .before .before .loop in
     let start = first s in
-    long-end (book start) (now (start .args .text)) (l .inv .0) (l .inv .1) (s .step .result) (s .step .ensures) (c .before .enum-told .given .1) (c .if2 .left)
+    long-end (book start) (now (start .args .text)) _ _ _ (l .inv .0) (l .inv .1) (l .inv .5) (s .step .result) (s .step .ensures) (c .before .enum-told .given .1) (c .if2 .left)
 
 returns-3 : tie.Need-returns-3 Inv-loop μ-loop
 returns-3 c =
     let s = c .before .before .before .before .before .before .before .before .before .before in
     let l = s .before .before .before .before .before .before .loop in
     let start = first s in
-    fault-end (book start) (now (start .args .text)) (l .inv .0) (l .inv .1) (s .step .result) (s .step .ensures) (c .early .result)
+    fault-end (book start) (now (start .args .text)) _ _ _ (l .inv .0) (l .inv .1) (l .inv .5) (s .step .result) (s .step .ensures) (c .early .result)
     (c .before .before .stepped2 .given .1) (c .early .ensures)
 
 returns-4 : tie.Need-returns-4 Inv-loop μ-loop
 returns-4 c =
     let l = c .before .before .before in
     let start = l .before .before .before .before .before .before .before in
-    whole-past (book start) (now (start .args .text)) (l .loop .inv .0) (l .loop .inv .1) (c .before .if1 .left) (c .if3 .taken)
+    whole-past (book start) (now (start .args .text)) _ _ _ (l .loop .inv .0) (l .loop .inv .1) (l .loop .inv .5) (c .before .if1 .left) (c .if3 .taken)
 
 returns-5 : tie.Need-returns-5 Inv-loop μ-loop
 returns-5 c =
     let l = c .before .before .before in
     let start = l .before .before .before .before .before .before .before in
-    long-past (book start) (now (start .args .text)) (l .loop .inv .0) (l .loop .inv .1) (c .before .if1 .left) (c .if3 .left)
+    long-past (book start) (now (start .args .text)) _ _ _ (l .loop .inv .0) (l .loop .inv .1) (l .loop .inv .5) (c .before .if1 .left) (c .if3 .left)
 
 pub gather-spec : {M : Type 1} → statement M
 gather-spec =

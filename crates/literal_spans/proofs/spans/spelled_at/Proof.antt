@@ -1,12 +1,18 @@
 -- `spelled_at` meets its contract: from the laws of proofs/ and what its callees ensure. Assumes nothing.
 use denote.Ref.{now}
 use mathlib.Core.Path.{sym, _∙_}
+use Prim.Native.Nat.{_≤_}
 use native.Mathlib.Omega.{arith}
-use Rattle.text_bytes.proofs.Laws.{inked-le}
+use lib.ListN.{length}
+use Rattle.text_bytes.proofs.Laws.{ink-within}
 use Rattle.literal_spans.proofs.Shapes.{span-none, span-end, span-ended, span-open, span-point, span-fault, span-some}
 use borrow.Author.Needs.{needs}
 use Rattle.literal_spans.proofs.spans.spelled_at.Statement.{statement}
 use Rattle.literal_spans.proofs.spans.spelled_at.Tie as tie
+
+-- a literal starts inside the text
+begins : (c : tie.After-next-ink) → c .next-ink .result ≤ length (now (c .before .before .args .text))
+begins c = ink-within _ _ _ (c .next-ink .ensures) (c .before .before .pre)
 
 next-ink-requires : tie.Need-next-ink-requires
 next-ink-requires c κs = search needs
@@ -17,14 +23,10 @@ returns c =
     span-none (now (p3 .args .text)) (p3 .args .n) (c .before .next-ink .result) (c .before .next-ink .ensures) (c .if1 .taken)
 
 sub-spell : tie.Need-sub-spell
-sub-spell c =
-    let p3 = c .before .before .before in
-    omega (arith, inked-le (now (p3 .args .text)) (p3 .args .n) (p3 .pre), c .before .next-ink .ensures)
+sub-spell c = begins (c .before)
 
 part-spell-start : tie.Need-part-spell-start
-part-spell-start c =
-    let p3 = c .before .before .before in
-    omega (arith, inked-le (now (p3 .args .text)) (p3 .args .n) (p3 .pre), c .before .next-ink .ensures)
+part-spell-start c = begins (c .before)
 
 part-spell-end : tie.Need-part-spell-end
 part-spell-end c = search needs
@@ -40,8 +42,7 @@ add-k c =
     omega (
       arith,
       span-end (now (p6 .args .text)) (p6 .args .n) (p4 .next-ink .result) (c .before .spell .result .length)
-          (c .before .spell .result .state) (p4 .next-ink .ensures) (p3 .if1 .left) (c .before .spell .ensures .0) (c .before .spell .ensures .1) (omega
-          (arith, inked-le (now (p6 .args .text)) (p6 .args .n) (p6 .pre), p4 .next-ink .ensures)),
+          (c .before .spell .result .state) (p4 .next-ink .ensures) (p3 .if1 .left) (c .before .spell .ensures .0) (c .before .spell .ensures .1) (begins p4),
     )
 
 is-whole-requires : tie.Need-is-whole-requires

@@ -2,10 +2,7 @@
 use denote.Ref.{now}
 use native.Mathlib.Omega.{arith}
 use borrow.Author.Needs.{needs}
-use lib.ListN.{length-set}
-use Prim.Native.Nat.{_*_, _+_}
-use mathlib.Core.Path.{refl, sym, ap, _∙_}
-use lib.Seq.{length-sets}
+use mathlib.Core.Path.{sym, ap, _∙_}
 use Prim.Native.Nat.{ℕ}
 use lib.ListN.{replicate}
 use Rattle.description.specs.Grammar.{bytes}
@@ -90,9 +87,10 @@ returns-2 c =
     let p3 = c .before .before .before in
     let p6 = p3 .before .before .before in
     let p8 = p6 .before .before in
-    let p16 = p8 .before .before .before .before .before .before .before .before in
-    value-fault (now (p16 .args .text)) (p16 .args .n) _ (sym (p6 .k .given .1) ∙ p8 .label-at .ensures) (sym (c .before .e .given .1) ∙
-    p3 .literal .ensures)
+    let p11 = p8 .before .before .before in
+    let p16 = p11 .before .before .before .before .before in
+    value-fault (now (p16 .args .text)) (p16 .args .n) _ (sym (p6 .k .given .1) ∙ p8 .label-at .ensures)
+    (p11 .clear .ensures ∙ ap (λ (n : ℕ). replicate n 0) (p16 .pre .1 .1)) (sym (c .before .e .given .1) ∙ p3 .literal .ensures)
 
 same-length-4 : tie.Need-same-length-4
 same-length-4 c = c .before .before .before .before .before .before .clear .kept .0
@@ -100,8 +98,10 @@ same-length-4 c = c .before .before .before .before .before .before .clear .kept
 returns-3 : tie.Need-returns-3
 returns-3 c =
     let p3 = c .before .before .before in
-    let p11 = p3 .before .before .before .before .before .before .before .before in
-    label-fault (now (p11 .args .text)) (p11 .args .n) (sym (c .before .e2 .given .1) ∙ p3 .label-at .ensures)
+    let p6 = p3 .before .before .before in
+    let p11 = p6 .before .before .before .before .before in
+    label-fault (now (p11 .args .text)) (p11 .args .n) (p6 .clear .ensures ∙ ap (λ (n : ℕ). replicate n 0) (p11 .pre .1 .1))
+    (sym (c .before .e2 .given .1) ∙ p3 .label-at .ensures)
 
 pub read-name-spec : {M : Type 1} → statement M
 read-name-spec =

@@ -2,15 +2,12 @@
 use denote.Ref.{now}
 use native.Mathlib.Omega.{arith}
 use borrow.Author.Needs.{needs}
-use lib.ListN.{length-set}
-use Prim.Native.Nat.{_*_, _+_}
-use mathlib.Core.Path.{refl, sym, ap, _∙_}
-use lib.Seq.{length-sets}
+use mathlib.Core.Path.{sym, ap, _∙_}
 use mathlib.Core.Path.{subst}
 use Prim.Native.Nat.{_-_}
 use lib.ListN.{length}
-use Rattle.name_entries.specs.Taking.{Small}
-use Rattle.name_entries.proofs.Taken.{same-weight}
+use Rattle.value_notes.specs.Taking.{Small}
+use Rattle.value_notes.proofs.Taken.{same-weight}
 use Rattle.name_entries.proofs.Holding.{small-weighed}
 use Rattle.name_entries.proofs.Going.{Going, going-first, stands, stands-ended, rooms, going-more, going-ended, going-fault}
 use Rattle.name_entries.proofs.reading.read_values.Statement.{statement}
@@ -63,8 +60,7 @@ loop-again c =
     let p11 = p9 .before .before in
     let p12 = p11 .before in
     let p16 = p12 .before .before .before .before in
-    going-more (p12 .loop .inv) (omega (arith, p12 .loop .inv .long, p16 .pre .1 .long)) (p4 .take-value .kept .1 .1 .1 .0)
-    (p4 .take-value .kept .1 .1 .1 .1 .0) (same-weight (sym (p7 .weigh .ensures)) (p4 .take-value .ensures)) (sym (p9 .found .given .1) ∙
+    going-more (p12 .loop .inv) (omega (arith, p12 .loop .inv .rest .spared .long, p16 .pre .1 .long)) (same-weight (sym (p7 .weigh .ensures)) (p4 .take-value .ensures)) (sym (p9 .found .given .1) ∙
     p11 .value-at .ensures)
 
 enum-known-found-2 : tie.Need-enum-known-found-2 Inv-loop μ-loop
@@ -91,13 +87,13 @@ same-length c =
     let p4 = c .before .before .before .before in
     let p12 = p4 .before .before .before .before .before .before .before .before in
     let p16 = p12 .before .before .before .before in
-    p4 .take-value2 .kept .1 .1 .1 .0 ∙ p12 .loop .inv .wide ∙ sym (ap length (p16 .pre .1 .zeros))
+    p4 .take-value2 .kept .1 .1 .1 .0 ∙ p12 .loop .inv .rest .spared .wide ∙ sym (ap length (p16 .pre .1 .zeros))
 
 same-length-2 : tie.Need-same-length-2 Inv-loop μ-loop
 same-length-2 c =
     let p4 = c .before .before .before .before in
     let p12 = p4 .before .before .before .before .before .before .before .before in
-    p4 .take-value2 .kept .1 .1 .1 .1 .0 ∙ p12 .loop .inv .long
+    p4 .take-value2 .kept .1 .1 .1 .1 .0 ∙ p12 .loop .inv .rest .spared .long
 
 returns : tie.Need-returns Inv-loop μ-loop
 returns c =
@@ -107,9 +103,8 @@ returns c =
     let p11 = p9 .before .before in
     let p12 = p11 .before in
     let p16 = p12 .before .before .before .before in
-    going-ended (p12 .loop .inv) (omega (arith, p12 .loop .inv .long, p16 .pre .1 .long)) (p4 .take-value2 .kept .1 .1 .1 .0)
-    (p4 .take-value2 .kept .1 .1 .1 .1 .0) (same-weight (sym (p7 .weigh2 .ensures)) (p4 .take-value2 .ensures)) (sym (p9 .found2 .given .1) ∙
-    p11 .value-at .ensures)
+    going-ended (p12 .loop .inv) (omega (arith, p12 .loop .inv .rest .spared .long, p16 .pre .1 .long))
+    (same-weight (sym (p7 .weigh2 .ensures)) (p4 .take-value2 .ensures)) (sym (p9 .found2 .given .1) ∙ p11 .value-at .ensures)
 
 enum-known-k : tie.Need-enum-known-k Inv-loop μ-loop
 enum-known-k c = search needs
@@ -118,10 +113,10 @@ same-length-3 : tie.Need-same-length-3 Inv-loop μ-loop
 same-length-3 c =
     let p4 = c .before .before .before .before in
     let p8 = p4 .before .before .before .before in
-    p4 .loop .inv .wide ∙ sym (ap length (p8 .pre .1 .zeros))
+    p4 .loop .inv .rest .spared .wide ∙ sym (ap length (p8 .pre .1 .zeros))
 
 same-length-4 : tie.Need-same-length-4 Inv-loop μ-loop
-same-length-4 c = c .before .before .before .before .loop .inv .long
+same-length-4 c = search needs
 
 returns-2 : tie.Need-returns-2 Inv-loop μ-loop
 returns-2 c = going-fault (c .before .before .before .before .loop .inv) (sym (c .before .k .given .1) ∙ c .before .before .before .value-at .ensures)

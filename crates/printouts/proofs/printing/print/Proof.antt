@@ -6,7 +6,7 @@ use lib.ListN.{length, getD, take, drop}
 use denote.Ref.{now}
 use borrow.Author.Needs.{needs}
 use lib.Seq.{length-take-le}
-use Rattle.books.proofs.Giving.{book-found, places-listed}
+use Rattle.books.proofs.Finding.{book-found, places-listed}
 use Rattle.printouts.proofs.Refusing.{named-print, undescribed-print, as-print, refused-print}
 use Rattle.printouts.proofs.printing.print.Statement.{statement}
 use Rattle.printouts.proofs.printing.print.Tie as tie

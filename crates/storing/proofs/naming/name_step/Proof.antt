@@ -1,12 +1,10 @@
 -- `name_step` meets its contract: from the laws of proofs/ and what its callees ensure. Assumes nothing.
 use denote.Ref.{now}
 use native.Mathlib.Omega.{arith}
-use lib.ListN.{length, length-set}
-use Prim.Native.Nat.{_*_, _+_, _-_}
-use mathlib.Core.Path.{refl, sym, ap, _∙_}
+use Prim.Native.Nat.{_+_, _-_}
+use mathlib.Core.Path.{refl, _∙_}
 use Rattle.text_bytes.proofs.Laws.{inked-le}
-use Rattle.description.proofs.Bytes.{apart}
-use Rattle.storing.proofs.Steps.{ready, below, named-step, named-fault}
+use Rattle.storing.proofs.Steps.{ready, below, named-step, named-over, named-fault}
 use borrow.Author.Needs.{needs}
 use Rattle.storing.proofs.naming.name_step.Statement.{statement}
 use Rattle.storing.proofs.naming.name_step.Tie as tie
@@ -48,8 +46,8 @@ returns c =
     let p12 = p9 .before .before .before in
     let p13 = p12 .before in
     let p20 = p13 .before .before .before .before .before .before .before in
-    named-step (p20 .pre) (p13 .item-row .ensures) (p12 .start-of .ensures) (p9 .read-name .ensures) (p3 .t .given .1) (c .passed-by .ensures ∙ sym
-    (rw (c .before .if1 .taken))) (λ o. apart (c .before .if1 .taken) o)
+    named-over (p20 .pre) (p13 .item-row .ensures) (p12 .start-of .ensures) (p9 .read-name .ensures) (p3 .t .given .1) (c .before .if1 .taken)
+    (c .passed-by .ensures)
 
 add-next-ink : tie.Need-add-next-ink
 add-next-ink c = search needs
@@ -119,8 +117,8 @@ returns-2 c =
     let p23 = p20 .before .before .before in
     let p24 = p23 .before in
     let p31 = p24 .before .before .before .before .before .before .before in
-    named-step (p31 .pre) (p24 .item-row .ensures) (p23 .start-of .ensures) (p20 .read-name .ensures) (p14 .t .given .1) (sym (rw (p12 .if1 .left)))
-    (λ o. rw (p11 .next-ink .ensures) at (p7 .store-name .ensures))
+    named-step (p31 .pre) (p24 .item-row .ensures) (p23 .start-of .ensures) (p20 .read-name .ensures) (p14 .t .given .1) (p12 .if1 .left) refl
+    (rw (p11 .next-ink .ensures) at (p7 .store-name .ensures))
 
 same-length-7 : tie.Need-same-length-7
 same-length-7 c = search needs

@@ -1,9 +1,5 @@
 -- `passed_by` meets its contract: from the laws of proofs/ and what its callees ensure. Assumes nothing.
-use denote.Ref.{now}
-use native.Mathlib.Omega.{arith}
-use lib.ListN.{length, length-set}
-use Prim.Native.Nat.{_*_, _+_, _-_}
-use mathlib.Core.Path.{refl, sym, ap, _∙_}
+use Prim.Native.Nat.{_-_}
 use borrow.Author.Needs.{needs}
 use Rattle.storing.proofs.naming.passed_by.Statement.{statement}
 use Rattle.storing.proofs.naming.passed_by.Tie as tie

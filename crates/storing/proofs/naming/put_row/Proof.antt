@@ -1,10 +1,7 @@
 -- `put_row` meets its contract: from the laws of proofs/ and what its callees ensure. Assumes nothing.
-use denote.Ref.{now}
 use native.Mathlib.Omega.{arith}
 use borrow.Author.Needs.{needs}
-use lib.ListN.{length, length-set}
-use Prim.Native.Nat.{_*_, _+_, _-_}
-use mathlib.Core.Path.{refl, sym, ap, _∙_}
+use Prim.Native.Nat.{_*_, _-_}
 use Rattle.storing.proofs.Rows.{Copied, copied-none, copied-long, copied-more, copied-all}
 use Rattle.storing.proofs.naming.put_row.Statement.{statement}
 use Rattle.storing.proofs.naming.put_row.Tie as tie

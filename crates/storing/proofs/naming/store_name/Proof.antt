@@ -1,12 +1,8 @@
 -- `store_name` meets its contract: from the laws of proofs/ and what its callees ensure. Assumes nothing.
-use lib.Seq.{sets}
 use Rattle.storing.proofs.Rows.{two-first}
--- `store_name` meets its contract: from the laws of proofs/ and what its callees ensure. Assumes nothing.
 use denote.Ref.{now}
-use native.Mathlib.Omega.{arith}
-use lib.ListN.{length, length-set}
-use Prim.Native.Nat.{_*_, _+_, _-_}
-use mathlib.Core.Path.{refl, sym, ap, _∙_}
+use Prim.Native.Nat.{_-_}
+use mathlib.Core.Path.{refl}
 use borrow.Author.Needs.{needs}
 use Rattle.storing.proofs.naming.store_name.Statement.{statement}
 use Rattle.storing.proofs.naming.store_name.Tie as tie
@@ -49,8 +45,8 @@ returns c =
     let p2 = c .before .before in
     let p8 = p2 .before .before .before .before .before .before in
     record {
-      stored = p2 .put-row .ensures ∙ ap (sets (now (p8 .args .names)) (p8 .args .i * 18)) (two-first (now (p8 .args .row)) (p8 .args .item)
-          (p8 .args .values) (p8 .pre .0 .1 .1));
+      is = two-first (now (p8 .args .row)) (p8 .args .item) (p8 .args .values) (p8 .pre .0 .1 .1);
+      stored = p2 .put-row .ensures;
       placed = refl;
     }
 

@@ -1,6 +1,6 @@
 -- By the kinds of the two sides.
 use mathlib.Core.Path.{_≡_, sym, ap₂, _∙_, refl}
-use mathlib.Core.Bool.{true, _&&_, false≢true}
+use mathlib.Core.Bool.{true, _&&_}
 use mathlib.Core.List.{List}
 use Prim.Native.Nat.{ℕ, _+_, _-_}
 use native.Mathlib.Omega.{arith}
@@ -13,6 +13,7 @@ use Rattle.values.specs.Truth.{Sided}
 use Rattle.byte_words.proofs.WordLaws.{Bytes, bytes-of}
 use Rattle.text_words.specs.Texts.{textWord}
 use Rattle.block_truths.proofs.Firsts.{first-within, within-unnamed}
+use Rattle.block_truths.proofs.Passing.{judged, unjudged}
 use Rattle.block_truths.proofs.Sides.{first-sides, items-judged, object-judged, subject-judged}
 use Rattle.text_columns.proofs.Sides.{Texts, longer, short, text-of, literal-of, by-both, by-texts}
 use borrow.Author.Needs.{needs}
@@ -28,6 +29,24 @@ first s = take (s .args .block .from + s .args .block .size - s .args .block .fr
 
 sides : (s : tie.Start) → Sided (lent s) (first s) (s .args .condition .subject) × Sided (lent s) (first s) (s .args .condition .object)
 sides s = first-sides (s .pre .0 .0) (s .pre .1)
+
+row-of-requires : tie.Need-row-of-requires
+row-of-requires c κs = sides (c .before .before .before .before .before .before) .0 .within .there
+
+row-of-requires-2 : tie.Need-row-of-requires-2
+row-of-requires-2 c κs = sides (c .before .before .before .before .before .before .before) .1 .within .there
+
+fits-text-requires : tie.Need-fits-text-requires
+fits-text-requires c κs = search needs
+
+fits-text-requires-2 : tie.Need-fits-text-requires-2
+fits-text-requires-2 c κs = search needs
+
+returns : tie.Need-returns
+returns c =
+    let unfit = ap₂ _&&_ (sym (c .before .before .fits-text .ensures)) (sym (c .before .fits-text2 .ensures)) ∙ not-true _ (c .if1 .taken) in
+    let rows = c .before .before .before in
+    unjudged (rw (rw (rows .before .row-of .ensures, rows .row-of2 .ensures) at unfit)) refl refl
 
 -- where both are read as texts
 abbrev entry : tie.After-filled-size → tie.Start
@@ -49,24 +68,6 @@ in-file : (c : tie.After-filled-size) → Bytes (now (entry c .args .records)) �
 in-file c =
     let c8 = c .before .before .before .before .before .before .before .before in
     (bytes-of _ (λ i. c8 .shared-slice-known5 .given i .fits), bytes-of _ (λ i. c8 .before .before .shared-slice-known3 .given i .fits))
-
-row-of-requires : tie.Need-row-of-requires
-row-of-requires c κs = sides (c .before .before .before .before .before .before) .0 .within .there
-
-row-of-requires-2 : tie.Need-row-of-requires-2
-row-of-requires-2 c κs = sides (c .before .before .before .before .before .before .before) .1 .within .there
-
-fits-text-requires : tie.Need-fits-text-requires
-fits-text-requires c κs = search needs
-
-fits-text-requires-2 : tie.Need-fits-text-requires-2
-fits-text-requires-2 c κs = search needs
-
-returns : tie.Need-returns
-returns c =
-    let unfit = ap₂ _&&_ (sym (c .before .before .fits-text .ensures)) (sym (c .before .fits-text2 .ensures)) ∙ not-true _ (c .if1 .taken) in
-    let rows = c .before .before .before in
-    (λ e. absurd (false≢true e), (λ _. refl, rw (rw (rows .before .row-of .ensures, rows .row-of2 .ensures) at unfit)))
 
 asked-of-requires : tie.Need-asked-of-requires
 asked-of-requires c κs = search needs
@@ -107,17 +108,16 @@ returns-2 c =
     let e = c8 .before in
     let s = entry e in
     let i = sym (c8 .is-item .ensures) ∙ c5 .before .before .if2 .taken in
-    let j = sym (c5 .before .is-item2 .ensures) ∙ c5 .if3 .taken in (
-      λ _.
-          items-judged (s .pre .0 .0) (s .pre .1) (textWord (longer (lent s) (s .args .condition))) (λ _. true) (s .args .switches)
-          (λ k l _ _. by-texts (s .pre .0 .0) (s .args .switches) (in-file e .0) (in-file e .1) (s .pre .1) (texts e) k l) i j (rw (
-            e .before .before .before .before .before .before .row-of .ensures,
-            e .before .before .before .before .before .row-of2 .ensures,
-            order .order-bits .ensures,
-            e .before .asked-of .ensures,
-            filled e,
-          ) at (c .before .before .compare-texts .ensures)),
-      (λ e. absurd (false≢true (sym e)), sym (by-both (texts e) ∙ rw i)),
+    let j = sym (c5 .before .is-item2 .ensures) ∙ c5 .if3 .taken in
+    judged (sym (by-both (texts e) ∙ rw i)) refl (
+    items-judged (s .pre .0 .0) (s .pre .1) (textWord (longer (lent s) (s .args .condition))) (λ _. true) (s .args .switches)
+    (λ k l _ _. by-texts (s .pre .0 .0) (s .args .switches) (in-file e .0) (in-file e .1) (s .pre .1) (texts e) k l) i j (rw (
+      e .before .before .before .before .before .before .row-of .ensures,
+      e .before .before .before .before .before .row-of2 .ensures,
+      order .order-bits .ensures,
+      e .before .asked-of .ensures,
+      filled e,
+    ) at (c .before .before .compare-texts .ensures))
     )
 
 relate-literal-requires : tie.Need-relate-literal-requires
@@ -142,12 +142,11 @@ returns-3 c =
     let e = c .before .before .before .before .before .before .before .before in
     let s = entry e in
     let i = sym (c .before .before .before .before .before .before .before .is-item .ensures) ∙ c .before .before .before .before .before .before .if2 .taken in
-    let j = sym (c .before .before .before .before .before .is-item2 .ensures) ∙ c .before .before .before .before .if3 .left in (
-      λ _.
-          object-judged (s .pre .0 .0) (s .pre .1) (textWord (longer (lent s) (s .args .condition))) (λ _. true) (s .args .switches)
-          (λ k l _ _. by-texts (s .pre .0 .0) (s .args .switches) (in-file e .0) (in-file e .1) (s .pre .1) (texts e) k l) (first s) i j refl
-          (rw (e .before .before .before .before .before .before .row-of .ensures, e .before .asked-of .ensures, filled e) at (c .before .before .relate-literal .ensures)),
-      (λ e. absurd (false≢true (sym e)), sym (by-both (texts e) ∙ rw i)),
+    let j = sym (c .before .before .before .before .before .is-item2 .ensures) ∙ c .before .before .before .before .if3 .left in
+    judged (sym (by-both (texts e) ∙ rw i)) refl (
+    object-judged (s .pre .0 .0) (s .pre .1) (textWord (longer (lent s) (s .args .condition))) (λ _. true) (s .args .switches)
+    (λ k l _ _. by-texts (s .pre .0 .0) (s .args .switches) (in-file e .0) (in-file e .1) (s .pre .1) (texts e) k l) (first s) i j refl
+    (rw (e .before .before .before .before .before .before .row-of .ensures, e .before .asked-of .ensures, filled e) at (c .before .before .relate-literal .ensures))
     )
 
 is-item-requires-3 : tie.Need-is-item-requires-3
@@ -175,12 +174,11 @@ returns-4 c =
     let e = c .before .before .before .before .before .before .before .before in
     let s = entry e in
     let i = sym (c .before .before .before .before .before .before .before .is-item .ensures) ∙ c .before .before .before .before .before .before .if2 .left in
-    let j = sym (c .before .before .before .before .before .is-item3 .ensures) ∙ c .before .before .before .before .if4 .taken in (
-      λ _.
-          subject-judged (s .pre .0 .0) (s .pre .1) (textWord (longer (lent s) (s .args .condition))) (λ _. true) (s .args .switches)
-          (λ k l _ _. by-texts (s .pre .0 .0) (s .args .switches) (in-file e .0) (in-file e .1) (s .pre .1) (texts e) k l) (first s) i j refl
-          (rw (e .before .before .before .before .before .row-of2 .ensures, e .before .asked-of .ensures, filled e) at (c .before .before .relate-literal2 .ensures)),
-      (λ e. absurd (false≢true (sym e)), sym (by-both (texts e) ∙ rw (i, j))),
+    let j = sym (c .before .before .before .before .before .is-item3 .ensures) ∙ c .before .before .before .before .if4 .taken in
+    judged (sym (by-both (texts e) ∙ rw (i, j))) refl (
+    subject-judged (s .pre .0 .0) (s .pre .1) (textWord (longer (lent s) (s .args .condition))) (λ _. true) (s .args .switches)
+    (λ k l _ _. by-texts (s .pre .0 .0) (s .args .switches) (in-file e .0) (in-file e .1) (s .pre .1) (texts e) k l) (first s) i j refl
+    (rw (e .before .before .before .before .before .row-of2 .ensures, e .before .asked-of .ensures, filled e) at (c .before .before .relate-literal2 .ensures))
     )
 
 returns-5 : tie.Need-returns-5
@@ -188,7 +186,7 @@ returns-5 c =
     let e = c .before .before .before .before in
     let i = sym (c .before .before .before .is-item .ensures) ∙ c .before .before .if2 .left in
     let j = sym (c .before .is-item3 .ensures) ∙ c .if4 .left in
-    (λ e. absurd (false≢true e), (λ _. refl, sym (by-both (texts e) ∙ rw (i, j))))
+    unjudged (sym (by-both (texts e) ∙ rw (i, j))) refl refl
 
 pub judge-texts-spec : {M : Type 1} → statement M
 judge-texts-spec =

@@ -6,7 +6,8 @@ use lib.ListN.{length, getD, take, drop}
 use denote.Ref.{now}
 use borrow.Author.Needs.{needs}
 use lib.Seq.{length-take-le}
-use Rattle.books.proofs.Giving.{book-found, named-reading, undescribed-reading, places-listed, as-reading, refused-reading}
+use Rattle.books.proofs.Finding.{book-found, places-listed}
+use Rattle.books.proofs.Giving.{named-reading, undescribed-reading, as-reading, refused-reading}
 use Rattle.texts.proofs.calls.read.Statement.{statement}
 use Rattle.texts.proofs.calls.read.Tie as tie
 

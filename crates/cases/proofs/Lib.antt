@@ -1,0 +1,4 @@
+pub mod Keeping
+pub mod Listing
+pub mod Storing
+pub mod Wording

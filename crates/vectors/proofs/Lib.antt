@@ -1,0 +1,4 @@
+pub mod Decoding
+pub mod Keeping
+pub mod Parting
+pub mod Summing
