@@ -1,4 +1,6 @@
 // Letters and spaces: the alphabets of the class tests.
+#![tactic(auto)]
+
 ghost use Rattle.std.specs.Prelude.{◌≡◌, true, ◌≤◌, length, take};
 ghost use Rattle.content.specs.Content.{all};
 ghost use Rattle.content.specs.Letters.{in_alphabet};

@@ -1,4 +1,6 @@
 // The truths of one row for the records of a block: 0 for false, 1 for true, 2 where the row stops.
+#![tactic(auto)]
+
 ghost use Rattle.std.specs.Prelude.{◌≡◌, length};
 ghost use Rattle.tables.specs.Operands.{lend_names};
 ghost use Rattle.values.specs.Truth.{outcome, Readable};

@@ -1,4 +1,6 @@
 // Refusal 8: 17 brackets open at once.
+#![tactic(auto)]
+
 ghost use Rattle.std.specs.Prelude.{◌≡◌, cond, suc, pred, ◌<◌, eqb};
 ghost use Rattle.grammar.specs.Depth.{depth_check};
 ghost use Rattle.tables.specs.Words.{OPEN as LEFT, CLOSE as RIGHT};

@@ -1,11 +1,12 @@
 // Comparisons and tests of plain bytes and numbers.
+#![tactic(auto)]
 
 pub mod classes; // class tests
 pub mod orders; // what relation and sign words accept
 pub mod switches; // switches
 
 // How two sides compare.
-#[derive(Drop)]
+#[derive(Clone, Copy)]
 pub enum Order {
     Less,
     Equal,
@@ -13,7 +14,7 @@ pub enum Order {
 }
 
 // What a numeric field holds: whether its content is valid, its sign and its digits.
-#[derive(Drop)]
+#[derive(Clone, Copy)]
 pub struct Number {
     pub valid: bool,
     pub minus: bool,

@@ -1,10 +1,11 @@
 // Level 88 entries: their values in a text.
+#![tactic(auto)]
 
 pub mod scan; // a value in a text
 
 // A value as it stands in a text: where its low end starts and ends, and its high end, alike for a
 // single value.
-#[derive(Drop)]
+#[derive(Clone, Copy)]
 pub struct Found {
     pub low: usize,
     pub mid: usize,
@@ -15,7 +16,7 @@ pub struct Found {
 
 // A value, after which others follow or the entry's period stands, and where it ends; or the first
 // faulty byte.
-#[derive(Drop)]
+#[derive(Clone, Copy)]
 pub enum ValueRead {
     Open(Found, usize),
     Ended(Found, usize),

@@ -1,5 +1,7 @@
 // The calls on conditions for C and COBOL. A slice passes as a pointer and then a length. A call returns the refusal's number, 0 for
 // success, and leaves the rest in a lent answer of nine numbers (answers/specs/Answer.antt), each of which is written.
+#![tactic(auto)]
+
 ghost use Rattle.tables.specs.Operands.{lend_names};
 ghost use Rattle.rules.specs.Calls.{expand_gives, plan_gives, judge_gives, run_gives};
 ghost use Rattle.answers.specs.Answer.{Leaves, Tells};

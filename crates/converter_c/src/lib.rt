@@ -1,4 +1,6 @@
 // The converters of the rules that had switch-off words, for C and COBOL, told as `answers` says.
+#![tactic(auto)]
+
 ghost use Rattle.tables.specs.Operands.{lend_names};
 ghost use Rattle.rules.specs.Converting.{convert_gives, convert_plan_gives};
 ghost use Rattle.answers.specs.Answer.{Leaves};

@@ -1,4 +1,5 @@
 // What the items of three copies become: of the one that two members began from, a first and a second.
+#![tactic(auto)]
 
 ghost use Rattle.std.specs.Prelude.{◌≡◌, cond, ◌+◌, ◌≤◌, length};
 ghost use Rattle.tables.specs.Rows.{part};

@@ -1,4 +1,5 @@
 // Record descriptions as printed: the call.
+#![tactic(auto)]
 
 pub mod calls; // the call that users make
 
@@ -6,7 +7,7 @@ use layouts::Laid;
 use storing::Found;
 
 // What was read of a text, and the smallest place over a limit.
-#[derive(Drop)]
+#[derive(Clone, Copy)]
 pub struct Parsed {
     pub found: Found,
     pub laid: Laid,

@@ -1,4 +1,6 @@
 // Record descriptions for C and COBOL, told as `answers` says.
+#![tactic(auto)]
+
 ghost use Rattle.descriptions_c.specs.Description.{Describes};
 
 use description_answers::described::tell_described;

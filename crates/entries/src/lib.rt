@@ -1,10 +1,11 @@
 // Entries of a record description.
+#![tactic(auto)]
 
 pub mod clauses; // what follows an item's name
 pub mod entry; // a whole entry
 
 // An entry as read: kind 0 is a group, and sizes, scales and counts of digits stop at 65,536.
-#[derive(Drop)]
+#[derive(Clone, Copy)]
 pub struct Noted {
     pub level: u32,
     pub place: u32,
@@ -17,7 +18,7 @@ pub struct Noted {
 
 // A whole entry of an item, how many groups are open at it, and where its period ends; level 88; or the
 // first faulty byte.
-#[derive(Drop)]
+#[derive(Clone, Copy)]
 pub enum EntryRead {
     Whole(Noted, usize, usize),
     Name,

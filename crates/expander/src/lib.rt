@@ -1,3 +1,4 @@
 // Writing a condition in full.
+#![tactic(auto)]
 
 pub mod expand; // the expanded form

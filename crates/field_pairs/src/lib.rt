@@ -1,4 +1,6 @@
 // Two digit fields of each record of a block, compared as words: one test of the two, by what a relation asks.
+#![tactic(auto)]
+
 ghost use Rattle.std.specs.Prelude.{◌≡◌, ◌&&◌, ◌≤◌, eqb, ltb, length};
 ghost use Rattle.byte_words.specs.Words.{digits_in};
 ghost use Rattle.block_truths.specs.Columns.{word_in, field_at, related, tested_at, Numbered, Laid, Field, FieldOf, There};
@@ -15,7 +17,7 @@ use places::choose;
 const UNJUDGED: u8 = 2;
 
 // The words of two fields of a record, and whether both are digits.
-#[derive(Drop)]
+#[derive(Clone, Copy)]
 struct Pair {
     a: u64,
     b: u64,

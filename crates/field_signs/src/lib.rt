@@ -1,3 +1,4 @@
 // The sign of a numeric field.
+#![tactic(auto)]
 
 pub mod signs; // signs

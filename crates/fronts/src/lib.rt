@@ -1,4 +1,6 @@
 // Parts of lent numbers and bytes, and numbers as bytes: what the programs' calls take.
+#![tactic(auto)]
+
 ghost use Rattle.std.specs.Prelude.{◌≡◌, take};
 ghost use Rattle.fronts.specs.Fronts.{low_byte, Narrows};
 

@@ -1,7 +1,8 @@
 // The condition grammar and the plan of a condition: definitions and theorems. Crate parser has the code.
+#![tactic(auto)]
 
 // A row of a plan: a simple condition, its target if true and its target if false.
-#[derive(Drop)]
+#[derive(Clone, Copy)]
 pub struct PlanRow {
     pub subject: u32,
     pub relation: u32,

@@ -1,4 +1,6 @@
 // Words that are no names.
+#![tactic(auto)]
+
 ghost use Rattle.std.specs.Prelude.{◌≡◌, [], ◌∷◌};
 ghost use Rattle.description.specs.Grammar.{same, within, keywords};
 ghost use Rattle.keywords.specs.Initials.{beginning};

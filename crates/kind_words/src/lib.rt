@@ -1,4 +1,6 @@
 // The kind of an item in words.
+#![tactic(auto)]
+
 ghost use Rattle.std.specs.Prelude.{◌++◌, ◌-◌, length, replicate};
 ghost use Rattle.lines.specs.Put.{Puts};
 ghost use Rattle.kind_words.specs.Kinds.{kind_words};

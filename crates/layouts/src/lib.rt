@@ -1,10 +1,11 @@
 // Item rows of entries, and the limits that rows have.
+#![tactic(auto)]
 
 mod limits; // whether a row passes a limit
 pub mod rows; // the rows of the entries that were read
 
 // A row of the item table, before it is known to keep the limits.
-#[derive(Drop)]
+#[derive(Clone, Copy)]
 pub struct ItemRow {
     pub kind: u32,
     pub offset: usize,
@@ -14,14 +15,14 @@ pub struct ItemRow {
 }
 
 // What the entries of a group come to: its bytes, and whether a picture has an S.
-#[derive(Drop)]
+#[derive(Clone, Copy)]
 pub struct Below {
     pub size: usize,
     pub signed: bool,
 }
 
 // The place of the first entry whose row passes a limit, or none does.
-#[derive(Drop)]
+#[derive(Clone, Copy)]
 pub enum Laid {
     Over(usize),
     Fine,

@@ -1,10 +1,11 @@
 // Level numbers and the groups that are open.
+#![tactic(auto)]
 
 pub mod level; // a level number in a text
 pub mod open; // the groups that are open at an entry
 
 // How many groups are open at an entry, where its level may stand.
-#[derive(Drop)]
+#[derive(Clone, Copy)]
 pub enum Entered {
     Depth(usize),
     Not,

@@ -1,4 +1,5 @@
 // Literals as they are written: their bytes.
+#![tactic(auto)]
 
 pub mod copies; // the bytes of a literal, written
 pub mod points; // where a number's point stands

@@ -1,4 +1,6 @@
 // What a rule looks at, for C and COBOL, told as `answers` says.
+#![tactic(auto)]
+
 ghost use Rattle.tables.specs.Operands.{lend_names};
 ghost use Rattle.look_lists.specs.Looked.{looked_gives, looked_plan_gives, named_gives};
 ghost use Rattle.answers.specs.Answer.{Lists};

@@ -1,4 +1,6 @@
 // The merge desk, for C and COBOL, told as `answers` says.
+#![tactic(auto)]
+
 ghost use Rattle.tables.specs.Operands.{lend_names};
 ghost use Rattle.merging.specs.Merge.{merge_gives};
 ghost use Rattle.merger_c.specs.Merging.{MergesTo};

@@ -1,3 +1,4 @@
 // One item mended.
+#![tactic(auto)]
 
 pub mod kinds; // one item

@@ -1,11 +1,12 @@
 // Level 88 entries in a text: their names, and their values as rows of numbers.
+#![tactic(auto)]
 
 pub mod reading; // a whole entry
 
 use value_notes::Tally;
 
 // The values of an entry, and where its period ends; or the first faulty byte.
-#[derive(Drop)]
+#[derive(Clone, Copy)]
 pub enum NameRead {
     Whole(Tally, usize),
     Fault(usize),

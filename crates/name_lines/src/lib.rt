@@ -1,4 +1,6 @@
 // The heading over a table of items, and a condition-name with its values under its item.
+#![tactic(auto)]
+
 ghost use Rattle.std.specs.Prelude.{◌≡◌};
 ghost use Rattle.lines.specs.Put.{Puts};
 ghost use Rattle.name_lines.specs.Names.{heading, name_shown, value_shown};

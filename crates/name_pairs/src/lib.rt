@@ -1,4 +1,6 @@
 // The values of a condition-name: a pair of literal rows that its item may be compared with.
+#![tactic(auto)]
+
 ghost use Rattle.std.specs.Prelude.{◌≡◌, [], ◌<◌};
 ghost use Rattle.tables.specs.Rows.{row_count};
 ghost use Rattle.tables.specs.Operands.{lend};

@@ -1,4 +1,6 @@
 // Refusal 18: the rows of the name table, of tables that 1 to 4 let pass.
+#![tactic(auto)]
+
 ghost use Rattle.std.specs.Prelude.{◌≡◌, ◌+◌, ◌*◌, ◌<◌, length};
 ghost use Rattle.tables.specs.declared.Check.TheVariants.{Sound};
 ghost use Rattle.tables.specs.Rows.{name_width};

@@ -1,4 +1,6 @@
 // 19: elementary items that share a byte.
+#![tactic(auto)]
+
 ghost use Rattle.std.specs.Prelude.{◌≡◌, true, ◌*◌, ◌+◌, ◌<◌, length};
 ghost use Rattle.tables.specs.declared.Check.TheVariants.{Sound};
 ghost use Rattle.items.specs.Items.{apart, clear_at};

@@ -1,31 +1,32 @@
 // Pictures, byte by byte. Counts stop at 131,072: half of it, a packed item's size, is above every limit.
+#![tactic(auto)]
 
 mod drawings; // one byte of a picture, and what a picture is where it ends
 pub mod scan; // a picture in a text
 pub mod tallies; // one byte of a repeated character and its counts
 
 // Of one repeated character: whether the last one stands alone so far, or its count is being read.
-#[derive(Drop)]
+#[derive(Clone, Copy)]
 pub enum Pending {
     Settled,
     Last,
     Counting(u32),
 }
 
-#[derive(Drop)]
+#[derive(Clone, Copy)]
 pub struct Tally {
     pub count: u32,
     pub pending: Pending,
 }
 
-#[derive(Drop)]
+#[derive(Clone, Copy)]
 pub enum Tallied {
     On(Tally),
     Stuck,
 }
 
 // How often a repeated character stands, where no count is being read.
-#[derive(Drop)]
+#[derive(Clone, Copy)]
 pub enum Counted {
     Times(u32),
     Open,
@@ -33,7 +34,7 @@ pub enum Counted {
 
 // What has been read of a picture: nothing; X or A; 9s before V, signed or not; 9s after it, and how many
 // digits stand before.
-#[derive(Drop)]
+#[derive(Clone, Copy)]
 pub enum Drawn {
     Nothing,
     Letters(u8, Tally),
@@ -41,14 +42,14 @@ pub enum Drawn {
     Pointed(bool, u32, Tally),
 }
 
-#[derive(Drop)]
+#[derive(Clone, Copy)]
 pub enum Drew {
     On(Drawn),
     Stuck,
 }
 
 // A picture in a text: how many bytes it goes on for, and what has been read of it there.
-#[derive(Drop)]
+#[derive(Clone, Copy)]
 pub struct Sketch {
     pub len: usize,
     pub drawn: Drawn,

@@ -1,5 +1,7 @@
 // Where the records of a block stand in a plan: each at a row, at a verdict, or where no more is known of it here.
 // The loops are over all 64 places and store in every turn, so that sixteen records are done at once.
+#![tactic(auto)]
+
 ghost use Rattle.std.specs.Prelude.{◌≡◌, cond, ℕ, ◌+◌, ◌<◌, ◌≤◌, length, get_or};
 ghost use Rattle.places.specs.Places.{start_place, next_place, next_count, UpTo, Lowest};
 

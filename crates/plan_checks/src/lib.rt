@@ -1,4 +1,5 @@
 // Rows of a plan that was lent: their soundness (refusal 11).
+#![tactic(auto)]
 
 ghost use Rattle.std.specs.Prelude.{◌≡◌, [], ◌+◌, ◌<◌};
 ghost use Rattle.tables.specs.Operands.{lend_names, under};

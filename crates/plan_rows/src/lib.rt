@@ -1,3 +1,4 @@
 // A plan's rows, read.
+#![tactic(auto)]
 
 pub mod rows; // one row

@@ -1,10 +1,11 @@
 // The rows of a plan: writing them, and their targets.
+#![tactic(auto)]
 
 pub mod rows; // one more row, and where its verdicts lead
 pub mod targets; // later rows and verdicts
 
 // Where judging goes after a row: to a later row, or to a verdict.
-#[derive(Drop)]
+#[derive(Clone, Copy)]
 pub struct Target {
     pub number: u32,
 }

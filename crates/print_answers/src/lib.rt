@@ -1,3 +1,4 @@
 // How print's answer is told to C and COBOL, as `answers` says.
+#![tactic(auto)]
 
 pub mod printed; // of print

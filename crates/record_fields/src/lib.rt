@@ -1,4 +1,6 @@
 // A relation or a class test of the records that stand at a row: 0 for false, 1 for true, 2 where it stops.
+#![tactic(auto)]
+
 ghost use Rattle.std.specs.Prelude.{◌≡◌, Bool, true, cond, ◌&&◌, ℕ, ◌+◌, ◌<◌, ◌≤◌, length};
 ghost use Rattle.tables.specs.Rows.{part, is_numeric};
 ghost use Rattle.values.specs.Comparison.{side};

@@ -1,4 +1,6 @@
 // The words of one text or of two, record by record, filled to one length.
+#![tactic(auto)]
+
 ghost use Rattle.std.specs.Prelude.{◌≡◌, true, ◌≤◌, length};
 ghost use Rattle.block_truths.specs.Columns.{compared, Numbered, Laid, There};
 ghost use Rattle.record_texts.specs.Texts.{text_in, text_of, TextOf};

@@ -1,4 +1,6 @@
 // The number, the place and the byte of a refusal.
+#![tactic(auto)]
+
 ghost use Rattle.std.specs.Prelude.{◌≡◌};
 ghost use Rattle.tables.specs.Refusals.{number, place, byte_of};
 

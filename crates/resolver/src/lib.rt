@@ -1,4 +1,6 @@
 // Refusals 7 to 9, and the rows of a condition that none of them refuses.
+#![tactic(auto)]
+
 ghost use Rattle.std.specs.Prelude.{◌≡◌, [], ◌≤◌, length};
 ghost use Rattle.tables.specs.Operands.{lend};
 ghost use Rattle.grammar.specs.Depth.{depth_check};
@@ -13,7 +15,7 @@ use row_typing::rows::check_typing;
 use tables::{Check, Refusal};
 
 // What the refusals leave of a condition: the number of its rows, or a refusal.
-#[derive(Drop)]
+#[derive(Clone, Copy)]
 pub enum Prepared {
     Rows(usize),
     Refused(Refusal),

@@ -1,3 +1,4 @@
 // What makes a row of a table sound.
+#![tactic(auto)]
 
 pub mod sound; // what makes a row sound

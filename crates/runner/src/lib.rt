@@ -1,4 +1,6 @@
 // Running the rows of a plan on a record and a switch byte.
+#![tactic(auto)]
+
 ghost use Rattle.std.specs.Prelude.{◌≡◌};
 ghost use Rattle.tables.specs.Operands.{lend_names};
 ghost use Rattle.values.specs.Truth.{outcome};

@@ -1,5 +1,7 @@
 // Comparison by value. The products D1 × 10^s2 and D2 × 10^s1 can have 36 digits, so they are not made: the side of the greater scale is divided by
 // the power of ten that the scales differ by, and the whole part is compared first, then the rest.
+#![tactic(auto)]
+
 ghost use Rattle.std.specs.Prelude.{◌≡◌, ◌*◌, ◌^◌, ◌≤◌, pos};
 ghost use Rattle.content.specs.Content.{signed};
 ghost use Rattle.compare.specs.Order.{order, orderℤ};

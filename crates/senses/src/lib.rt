@@ -1,4 +1,5 @@
 // What the words of a condition mean.
+#![tactic(auto)]
 
 mod meanings; // what a word means
 pub mod pieces; // a word and the words that join it
@@ -8,7 +9,7 @@ use content::Row;
 
 // What a word means: a token that nothing joins, an item, a literal by its row at offset 0, GREATER or
 // LESS by their tokens without and with OR EQUAL, EQUAL, or a refusal's number.
-#[derive(Drop)]
+#[derive(Clone, Copy)]
 pub enum Sense {
     Token(u32),
     Item(u32),
@@ -19,7 +20,7 @@ pub enum Sense {
 }
 
 // What a word and those that join it add to what is read.
-#[derive(Drop)]
+#[derive(Clone, Copy)]
 pub enum Met {
     Token(u32),
     Literal(Row),
@@ -27,7 +28,7 @@ pub enum Met {
 }
 
 // With the place after them.
-#[derive(Drop)]
+#[derive(Clone, Copy)]
 pub struct Piece {
     pub met: Met,
     pub past: usize,

@@ -1,4 +1,6 @@
 // The shape of a simple condition: its tokens are within their tables, and of the kinds that its relation number asks.
+#![tactic(auto)]
+
 ghost use Rattle.std.specs.Prelude.{◌≡◌, ◌&&◌, ◌||◌, [], ℕ, eqb};
 ghost use Rattle.tables.specs.Operands.{lend, lend_names, under, operand_sound};
 ghost use Rattle.tables.specs.Tokens.{is_operand, is_switch, is_name, exists, name_there};

@@ -1,4 +1,6 @@
 // Demand 3 shown of the code: plan, run, expand and plan again, called one after the other in buffers that the caller lends.
+#![tactic(auto)]
+
 ghost use Rattle.tables.specs.Operands.{lend_names};
 ghost use Rattle.show.specs.Shown.{Shows};
 
@@ -7,7 +9,7 @@ use forms::calls::{expand, plan};
 use tables::{Judged, Refusal, Written};
 
 // What plan, run, expand and plan again gave.
-#[derive(Drop)]
+#[derive(Clone, Copy)]
 pub enum Shown {
     Refused(Refusal),
     Calls {

@@ -1,10 +1,11 @@
 // Level 88 entries of a description in lent buffers, and what reading a text leaves in them.
+#![tactic(auto)]
 
 pub mod naming; // a level 88 entry in lent buffers
 
 // The level 88 entries of a text: whether one passes a limit, and where the first such starts; if none,
 // how many there are, how many literals they have, and how many bytes these.
-#[derive(Drop)]
+#[derive(Clone, Copy)]
 pub struct Names {
     pub over: bool,
     pub place: usize,
@@ -14,7 +15,7 @@ pub struct Names {
 }
 
 // One level 88 entry more, and where its period ends; or the first faulty byte.
-#[derive(Drop)]
+#[derive(Clone, Copy)]
 pub enum NameStep {
     Read(Names, usize),
     Fault(usize),
@@ -22,7 +23,7 @@ pub enum NameStep {
 
 // The entries of a text: how many of items are complete; whether the text is a description; if not, its
 // first faulty byte; and those of level 88.
-#[derive(Drop)]
+#[derive(Clone, Copy)]
 pub struct Found {
     pub count: usize,
     pub whole: bool,

@@ -1,4 +1,6 @@
 // Conditions as printed, for C and COBOL, told as `answers` says.
+#![tactic(auto)]
+
 ghost use Rattle.texts_c.specs.Texts.{Reads, Prints};
 
 use print_answers::printed::tell_printed;

@@ -1,3 +1,4 @@
 // The truth of a simple condition.
+#![tactic(auto)]
 
 pub mod conditions; // relation, class, sign and switch conditions, condition-names

@@ -1,9 +1,10 @@
 // Typing of a simple condition.
+#![tactic(auto)]
 
 pub mod sides; // what a relation number asks, and the typing of a simple condition
 
 // What a relation number asks: a token that is a condition alone, a relation, a class or a sign, and whether NOT belongs to it.
-#[derive(Drop)]
+#[derive(Clone, Copy)]
 pub enum Test {
     Alone,
     Relation { word: u32, negated: bool },

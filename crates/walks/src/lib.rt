@@ -1,4 +1,6 @@
 // The items that the rows of a plan name, and those that a run of it comes to.
+#![tactic(auto)]
+
 ghost use Rattle.std.specs.Prelude.{◌≡◌, ◌≤◌, length};
 ghost use Rattle.tables.specs.Operands.{lend_names};
 ghost use Rattle.tables.specs.Rows.{row_count};

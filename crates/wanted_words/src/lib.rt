@@ -1,3 +1,4 @@
 // Words that are asked for, in a text.
+#![tactic(auto)]
 
 pub mod literals; // words that are asked for
