@@ -8,7 +8,7 @@ use native.Mathlib.Omega.{arith}
 use native.Mathlib.Numerals.{add-one}
 use borrow.Author.Tests.{ltb-true}
 use lib.Dec.{eqb, ltb}
-use lib.ListN.{length, get_or, take, drop, length-set, length-append, get_or-map}
+use lib.ListN.{set, length, get_or, take, drop, length-set, length-append, get_or-map}
 use lib.Seq.{sets}
 use Rattle.description.specs.Grammar.{Entry, row, Condition, condition}
 use Rattle.description.specs.Reader.{Groups, enters, begins_level, awaiting, inside, level, label, Parts, parts, has_item, ends, read, faulty, read_text}
@@ -403,7 +403,7 @@ module _ (text flat stack rows places notes : List ℕ) (depth waiting count at 
         where
           by : (d : ℕ) → d ≤ length stack → opened (pushed stack d x.level) d ≡ topped stack x.level d
           by zero l = refl
-          by (suc d) l = let z : suc d - 1 ≡ d = omega arith in rw z at (stored_top stack x.level (suc d) (omega arith) l)
+          by (suc d) l = let z : suc d - 1 ≡ d = omega arith in subst (λ i. opened (set stack i x.level) (suc d) ≡ topped stack x.level (suc d)) z (stored_top stack x.level (suc d) (omega arith) l)
 
       groups : groups_after stack X.y n ≡ groups_of (pushed stack n x.level) n (waiting_after x)
       groups =

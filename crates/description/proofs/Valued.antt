@@ -196,7 +196,8 @@ module _ (h : Naming) (n : ℕ) (vs : List Value) where
   thru-begins : (x : Literal) (bs : List ℕ) (k : ℕ) → get_or bs 0 0 ≡ 0x54 → begins (values h n vs (some x)) (take (suc k) bs) ≡ prefix (take (suc k) bs) (bytes "THRU")
   unfolding begins prefix after unended result
   thru-begins x [] k e = absurd (omega arith)
-  thru-begins x (b ∷ bs) k e = rw e (by k bs)
+  thru-begins x (b ∷ bs) k e =
+      subst (λ (c : ℕ). begins (values h n vs (some x)) (c ∷ take k bs) ≡ prefix (c ∷ take k bs) (bytes "THRU")) (sym e) (by k bs)
     where
       none_ended : (w : List ℕ) → ended_by is_literal (0x54 ∷ w) ≡ false
       none_ended [] = refl
@@ -214,7 +215,9 @@ module _ (h : Naming) (n : ℕ) (vs : List Value) where
   unfolding next same unended result after
   thru-next p x bs zero e = refl
   thru-next p x [] (suc k) e = absurd (omega arith)
-  thru-next p x (b ∷ bs) (suc k) e = rw e (none_ended (take k bs))
+  thru-next p x (b ∷ bs) (suc k) e =
+      subst (λ (c : ℕ). next (values h n vs (some x)) p (c ∷ take k bs) ≡ given (same (c ∷ take k bs) (bytes "THRU")) (high h n vs x)) (sym e)
+      (none_ended (take k bs))
     where
       met : (t : Bool) → bind (given t (some x)) (thru h n vs) ≡ given t (high h n vs x)
       met true = refl

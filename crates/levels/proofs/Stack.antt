@@ -1,5 +1,5 @@
 -- The stack of open groups is the definition's list of them.
-use mathlib.Core.Path.{◌≡◌, refl, sym, ap, ◌∙◌}
+use mathlib.Core.Path.{◌≡◌, refl, sym, ap, subst, ◌∙◌}
 use mathlib.Core.Bool.{Bool, true, false, not, cond, ◌&&◌, ◌||◌}
 use mathlib.Core.Option.{Option, none, some}
 use mathlib.Core.List.{List, [], ◌∷◌}
@@ -168,7 +168,7 @@ unfolding opened
 stored_top stack l zero h k = absurd (omega arith)
 stored_top stack l (suc d) h k =
     let z : suc d - 1 ≡ d = omega arith in
-    rw (z, get_or-set_same stack d l 0, opened-set stack d l d (omega arith))
+    subst (λ i. opened (set stack i l) (suc d) ≡ l ∷ opened stack d) (sym z) (rw (get_or-set_same stack d l 0, opened-set stack d l d (omega arith)))
 
 -- At most one group more is open.
 back_le : (stack : List ℕ) (d l : ℕ) → back_depth stack d l ≤ d

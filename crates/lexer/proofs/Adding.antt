@@ -188,7 +188,8 @@ module _ {known : Known} {text : List ℕ} {g : Gathered} {tokens rows bytes : L
       let rows_wide : v * 5 ≤ length rows = omega (arith, R.rooms.rows_room) in
       let bytes_wide : o ≤ length bytes = omega (arith, B.few_bytes, R.soon, R.rooms.bytes_room) in
       let four : v * 5 + 5 ≡ (v + 1) * 5 = omega arith in
-      rw (D.counts, D.token_laid, D.row_laid, D.bytes_laid, the_bytes, the_row)
+      let row_laid = D.row_laid ∙ ap (λ (x : Row). over_at (v * 5) (laid x) rows) the_row in
+      rw (D.counts, D.token_laid, row_laid, D.bytes_laid, the_bytes)
       record {
         gives = (
           λ u G.

@@ -1,0 +1,12 @@
+-- The laws of the first line that applies.
+use mathlib.Core.Path.{sym, ◌∙◌}
+use native.Mathlib.Omega.{arith}
+use Rattle.std.proofs.lemmas.Grind.{common_steps}
+use Rattle.differences.proofs.Marks.{table_stops, ends_decide}
+use Rattle.differences.proofs.calls.check_copies.Goals as goal
+
+pub returns-in-Refused : goal.returns-in-Refused
+returns-in-Refused c = grind (arith, common_steps, table_stops)
+
+pub returns : goal.returns
+returns c = grind (arith, common_steps, ends_decide)

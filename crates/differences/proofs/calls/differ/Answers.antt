@@ -1,0 +1,20 @@
+-- The laws of the whole answer, by what the checks ensure.
+use Prim.Native.Nat.{ℕ}
+use mathlib.Core.Path.{sym, ap, ◌∙◌}
+use lib.ListN.{length}
+use native.Mathlib.Omega.{arith}
+use Rattle.std.proofs.lemmas.Grind.{common_steps}
+use Rattle.tables.specs.declared.Written.TheVariants.{Count}
+use Rattle.items.specs.Lines.{room_check}
+use Rattle.differences.specs.Differ.{differences, Differing}
+use Rattle.differences.proofs.Marks.{stopped, crowded, done}
+use Rattle.differences.proofs.calls.differ.Goals as goal
+
+pub returns-in-Refused : goal.returns-in-Refused
+returns-in-Refused c = grind (arith, common_steps, stopped)
+
+pub returns-in-Refused-room : goal.returns-in-Refused-room
+returns-in-Refused-room c = grind (arith, common_steps, length, crowded)
+
+pub returns : goal.returns
+returns c = grind (arith, common_steps, length, done)

@@ -1,0 +1,31 @@
+use Prim.Native.Nat.{◌-◌}
+use lib.ListN.{length}
+use native.Mathlib.Omega.{arith}
+use Rattle.std.proofs.lemmas.Grind.{common_steps}
+use Rattle.literal_bytes.proofs.Copying.{first-length, first-room, no_point, rest_room, number-copied}
+use Rattle.literal_bytes.proofs.copies.copy_number.Reads as reads
+use Rattle.literal_bytes.proofs.copies.copy_number.Lts as lts
+use Rattle.literal_bytes.proofs.copies.copy_bytes.Reads as copy-bytes-reads
+use Rattle.literal_bytes.proofs.points.point_place.Reads as point-place-reads
+use Rattle.literal_bytes.proofs.copies.copy_number.Goals as goal
+
+-- src/copies.rt:29:16
+pub slice_bounds-copy_bytes-end : goal.slice_bounds-copy_bytes-end
+slice_bounds-copy_bytes-end c =
+    let c4 = c in
+    first-length c4.args.word.now c4.args.to.now c.point_place-point.result c.point_place-point.ensures c4.requires
+
+-- src/copies.rt:29:5
+pub copy_bytes-requires : goal.copy_bytes-requires
+copy_bytes-requires c =
+    let c5 = c in
+    first-room c5.args.word.now c5.args.to.now c.point_place-point.result c.point_place-point.ensures c5.requires
+
+pub copy_bytes-requires-then-point-word : goal.copy_bytes-requires-then-point-word
+copy_bytes-requires-then-point-word c = grind (arith, common_steps, rest_room)
+
+pub returns-then-point-word : goal.returns-then-point-word
+returns-then-point-word c = grind (arith, common_steps, number-copied)
+
+pub returns-else-point-word : goal.returns-else-point-word
+returns-else-point-word c = grind (arith, common_steps, no_point)

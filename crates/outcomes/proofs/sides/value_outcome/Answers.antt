@@ -1,0 +1,37 @@
+-- Rests on what the number that is read of a numeric side says of it, and on what the other callees return.
+use mathlib.Core.Path.{refl, sym, ◌∙◌}
+use mathlib.Core.Bool.{false}
+use Rattle.values.specs.Comparison.{side}
+use Rattle.values.proofs.Reading.{by_value}
+use Rattle.values.proofs.Faults.{number_faulty, object-stops, relation_goes}
+use Rattle.outcomes.proofs.sides.value_outcome.Goals as goal
+
+pub returns-then-item2-right : goal.returns-then-item2-right
+returns-then-item2-right c =
+    let two = c in
+    let start = two in
+    let a = start.args in
+    let s = side a.item1 a.row1 a.bytes1.now in
+    let o = side a.item2 a.row2 a.bytes2.now in
+    let one = number_faulty s o.row start.requires.1.kind two.read_number-left.ensures in
+    let other = number_faulty o s.row start.requires.0.kind two.read_number-right.ensures in
+    object-stops a.word a.negated {s = s} {s' = s} {o = o} {o' = o} refl refl
+    (sym one ∙ c.if-item1-left.false) (sym other ∙ c.if-item2-right.true) c.stop_at-then-item2-right.ensures
+
+pub returns : goal.returns
+returns c =
+    let go = c in
+    let two = go in
+    let start = two in
+    let a = start.args in
+    let s = side a.item1 a.row1 a.bytes1.now in
+    let o = side a.item2 a.row2 a.bytes2.now in
+    let m = start.requires.0.kind in
+    let n = start.requires.1.kind in
+    let one = two.read_number-left.ensures in
+    let other = two.read_number-right.ensures in
+    let order = rw (one, other) at c.compare_scaled-order.ensures in
+    rw c.relation_holds.ensures at c.truth_value.ensures
+    ∙ relation_goes a.word a.negated {s = s} {s' = s} {o = o} {o' = o} refl refl
+    (sym (number_faulty s o.row n one) ∙ go.if-item1-left.false) (sym (number_faulty o s.row m other) ∙ go.if-item2-right.false)
+    (order ∙ sym (by_value s o m n))

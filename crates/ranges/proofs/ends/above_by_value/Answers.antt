@@ -1,0 +1,18 @@
+-- `above_by_value` meets its contract: from the laws of proofs/ and what its callees ensure. Assumes nothing.
+use mathlib.Core.Path.{sym, ap, ◌∙◌}
+use mathlib.Core.Bool.{false}
+use Rattle.compare.specs.Order.{is_greater}
+use Rattle.values.specs.Comparison.{side}
+use Rattle.values.proofs.Reading.{by_value}
+use Rattle.ranges.proofs.ends.above_by_value.Goals as goal
+
+pub returns : goal.returns
+returns c =
+    let p2 = c in
+    let p3 = p2 in
+    let p6 = p3 in
+    let a = p6.args in
+    let s = side false a.low a.left.now in
+    let o = side false a.high a.right.now in
+    let order = rw (p3.read_number-one.ensures, p2.read_number-other.ensures) at c.compare_scaled-order.ensures in
+    c.relation_holds.ensures ∙ ap is_greater (order ∙ sym (by_value s o p6.requires.0.kind p6.requires.1.kind))

@@ -1,0 +1,16 @@
+-- The number's whole part decides where it is not d, and else its rest.
+use mathlib.Core.Path.{sym, ◌∙◌}
+use native.Mathlib.Omega.{arith}
+use Rattle.numbers.proofs.NumberLaws.{ten_pos, second_whole}
+use Rattle.scaled.proofs.raised_second.Goals as goal
+
+pub nonzero_div-whole : goal.nonzero_div-whole
+nonzero_div-whole c = omega (arith, ten_pos c.args.k)
+
+pub nonzero_rem-other : goal.nonzero_rem-other
+nonzero_rem-other c = omega (arith, ten_pos c.args.k)
+
+pub returns : goal.returns
+returns c =
+    let a = c.args in
+    c.order_of-2.ensures ∙ sym (second_whole a.d a.k a.other c.power_of_ten-p.ensures c.if-whole-d.false)

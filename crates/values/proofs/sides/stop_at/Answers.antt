@@ -1,0 +1,10 @@
+-- Rests on what `first_wrong` returns, which stands inside the field, and on the kind, which picks the stop.
+use native.Mathlib.Omega.{arith}
+use Rattle.content.proofs.WrongByte.{wrong_within}
+use Rattle.values.proofs.sides.stop_at.Goals as goal
+
+pub overflow_add-byte : goal.overflow_add-byte
+overflow_add-byte c =
+    let start = c in
+    let inside = wrong_within start.args.row.kind start.args.row.digits start.args.bytes.now c.first_wrong.ensures in
+    record { fits = omega (arith, inside, start.requires.0.offset, start.requires.0.most) }

@@ -1,0 +1,9 @@
+-- Three parts.
+use Rattle.lines.proofs.Lining.{begun, with_number, with_text}
+use Rattle.verdict_lines.proofs.verdicts.put_judged.Goals as goal
+
+pub returns : goal.returns
+returns c =
+    let line1 = with_text (begun _ _) c.put-lead.ensures in
+    let line2 = with_number line1 c.put_number-figure.ensures in
+    with_text line2 c.put.ensures

@@ -1,0 +1,16 @@
+-- `word_index` meets its contract. The loop's invariant: none of the first k words is it.
+use mathlib.Core.Path.{sym, ◌∙◌}
+use Prim.Native.Nat.{◌-◌}
+use native.Mathlib.Omega.{arith}
+use Rattle.std.proofs.lemmas.Grind.{common_steps}
+use Rattle.vocabulary.proofs.Cells.{word_here, word_later, word_none}
+use Rattle.vocabulary.proofs.spellings.word_index.Goals as goal
+
+pub returns-then-is_word : goal.returns-then-is_word
+returns-then-is_word c = grind (arith, common_steps, word_here)
+
+pub loop-k-preserved : goal.loop-k-preserved
+loop-k-preserved c = grind (arith, common_steps, word_later)
+
+pub returns : goal.returns
+returns c = omega (arith, c.loop-k.invariant.1, word_none c.loop-k.k c.loop-k-test.false c.args.w.now)
