@@ -21,12 +21,12 @@ fn expand_in(store: &[u32], bytes: &[u8], output: &mut [u32]) -> Written
     forms::calls::expand(items, literals, bytes, names, tokens, output)
 }
 
-pub(crate) fn expand(store: &[u32], bytes: &[u8], room: usize) {
+pub(crate) fn expand(rt: &impl Print, store: &[u32], bytes: &[u8], room: usize) {
     let mut output = [7u32; ROOM];
     if room <= ROOM {
         let lent = &mut output[0..room];
         let given = expand_in(store, bytes, lent);
-        print::written(b"expand in ", given, lent);
+        print::written(rt, b"expand in ", given, lent);
     }
 }
 
@@ -41,26 +41,26 @@ fn plan_in(store: &[u32], bytes: &[u8], output: &mut [u32]) -> Written
 }
 
 // What is written is the plan to run from now on.
-fn plan_kept(store: &mut [u32], bytes: &[u8], output: &mut [u32])
+fn plan_kept(rt: &impl Print, store: &mut [u32], bytes: &[u8], output: &mut [u32])
     ensures { (store.new ≡ plan_kept store.old (plan_gives (lent_in store.old bytes.now) (tokens_in store.old) output.old)) × (output.new ≡ (plan_gives (lent_in store.old bytes.now) (tokens_in store.old) output.old).output) }
 {
     let given = plan_in(store, bytes, output);
-    print::written(b"plan in ", given, output);
+    print::written(rt, b"plan in ", given, output);
     if let Written::Count(n) = given {
         keep(store, PLAN, front(output, n));
     }
 }
 
-pub(crate) fn plan(store: &mut [u32], bytes: &[u8], room: usize)
+pub(crate) fn plan(rt: &impl Print, store: &mut [u32], bytes: &[u8], room: usize)
     ensures { store.new ≡ planned_in store.old bytes.now room }
 {
     let mut output = [7u32; ROOM];
     if room <= ROOM {
-        plan_kept(store, bytes, &mut output[0..room]);
+        plan_kept(rt, store, bytes, &mut output[0..room]);
     }
 }
 
-pub(crate) fn judge<'a>(store: &[u32], bytes: &'a [u8], record: &'a [u8]) {
+pub(crate) fn judge<'a>(rt: &impl Print, store: &[u32], bytes: &'a [u8], record: &'a [u8]) {
     let items = part(store, ITEMS);
     let literals = part(store, LITERALS);
     let names = part(store, NAMES);
@@ -74,10 +74,10 @@ pub(crate) fn judge<'a>(store: &[u32], bytes: &'a [u8], record: &'a [u8]) {
         record,
         switches(store),
     );
-    print::judged(b"judge: ", given);
+    print::judged(rt, b"judge: ", given);
 }
 
-pub(crate) fn run<'a>(store: &[u32], bytes: &'a [u8], record: &'a [u8]) {
+pub(crate) fn run<'a>(rt: &impl Print, store: &[u32], bytes: &'a [u8], record: &'a [u8]) {
     let items = part(store, ITEMS);
     let literals = part(store, LITERALS);
     let names = part(store, NAMES);
@@ -91,17 +91,23 @@ pub(crate) fn run<'a>(store: &[u32], bytes: &'a [u8], record: &'a [u8]) {
         record,
         switches(store),
     );
-    print::judged(b"run: ", given);
+    print::judged(rt, b"run: ", given);
 }
 
 // All four; run only where there is a plan.
-pub(crate) fn all<'a>(store: &mut [u32], bytes: &'a [u8], record: &'a [u8], room: usize)
+pub(crate) fn all<'a>(
+    rt: &impl Print,
+    store: &mut [u32],
+    bytes: &'a [u8],
+    record: &'a [u8],
+    room: usize,
+)
     ensures { store.new ≡ planned_in store.old bytes.now room }
 {
-    expand(store, bytes, room);
-    plan(store, bytes, room);
-    judge(store, bytes, record);
+    expand(rt, store, bytes, room);
+    plan(rt, store, bytes, room);
+    judge(rt, store, bytes, record);
     if part(store, PLAN).len() > 0 {
-        run(store, bytes, record);
+        run(rt, store, bytes, record);
     }
 }

@@ -1,13 +1,15 @@
 // Document 01's cases through the compiled calls: the sixteen that are proved, and the edges of every refusal. Standard input
 // has the cases, a thing to a line, and standard output the same lines with the answers.
+#![tactic(auto)]
+
 mod answers;
 mod lists;
 mod print;
 mod store;
 mod words;
 
+use console::streams::read_full;
 use fronts::{front_bytes, narrow};
-use libc::STDIN_FILENO;
 use store::{BYTES, ITEMS, LITERALS, NAMES, PLAN, RECORD, STEP, STORE, SWITCHES, TOKENS, part};
 use words::{digits, find, first};
 
@@ -40,21 +42,29 @@ fn set(store: &mut [u32], line: &[u8], list: &[u8]) {
 }
 
 // Expand, plan, judge, run, answers; the number is an output's room. An empty line asks nothing.
-fn call<'a>(store: &mut [u32], bytes: &'a [u8], record: &'a [u8], letter: u8, room: usize) {
+fn call<'a>(
+    rt: &impl Print,
+    store: &mut [u32],
+    bytes: &'a [u8],
+    record: &'a [u8],
+    letter: u8,
+    room: usize,
+) {
     match letter {
-        b'e' => answers::expand(store, bytes, room),
-        b'p' => answers::plan(store, bytes, room),
-        b'j' => answers::judge(store, bytes, record),
-        b'r' => answers::run(store, bytes, record),
-        b'a' => answers::all(store, bytes, record, room),
-        _ => print::text(b"\n"),
+        b'e' => answers::expand(rt, store, bytes, room),
+        b'p' => answers::plan(rt, store, bytes, room),
+        b'j' => answers::judge(rt, store, bytes, record),
+        b'r' => answers::run(rt, store, bytes, record),
+        b'a' => answers::all(rt, store, bytes, record, room),
+        _ => print::text(rt, b"\n"),
     }
 }
 
-fn call_on(store: &mut [u32], bytes: &[u8], line: &[u8]) {
+fn call_on(rt: &impl Print, store: &mut [u32], bytes: &[u8], line: &[u8]) {
     let mut record = [0u8; STEP];
     let n = narrow(part(store, RECORD), &mut record);
     call(
+        rt,
         store,
         bytes,
         front_bytes(&record, n),
@@ -63,15 +73,15 @@ fn call_on(store: &mut [u32], bytes: &[u8], line: &[u8]) {
     );
 }
 
-fn call_line(store: &mut [u32], line: &[u8]) {
+fn call_line(rt: &impl Print, store: &mut [u32], line: &[u8]) {
     let mut bytes = [0u8; STEP];
     let n = narrow(part(store, BYTES), &mut bytes);
-    call_on(store, front_bytes(&bytes, n), line);
+    call_on(rt, store, front_bytes(&bytes, n), line);
 }
 
-fn echo(line: &[u8]) {
-    print::text(line);
-    print::text(b"\n");
+fn echo(rt: &impl Print, line: &[u8]) {
+    print::text(rt, line);
+    print::text(rt, b"\n");
 }
 
 // What stands behind a colon and a space.
@@ -85,30 +95,30 @@ fn behind(line: &[u8], colon: usize) -> &[u8] {
 }
 
 // A comment, a setting, or a call.
-fn line(store: &mut [u32], line: &[u8]) {
+fn line(rt: &impl Print, store: &mut [u32], line: &[u8]) {
     let colon = find(line, 0, b':');
     if first(line) == b'#' {
-        echo(line);
+        echo(rt, line);
     } else if colon < line.len() {
-        echo(line);
+        echo(rt, line);
         set(store, line, behind(line, colon));
     } else {
-        call_line(store, line);
+        call_line(rt, store, line);
     }
 }
 
-fn lines(store: &mut [u32], text: &[u8]) {
+fn lines(rt: &impl Print, store: &mut [u32], text: &[u8]) {
     let mut at: usize = 0;
     while at < text.len() {
         let end = find(text, at, b'\n');
-        line(store, &text[at..end]);
+        line(rt, store, &text[at..end]);
         at = end + 1;
     }
 }
 
-fn main() {
+fn main(rt: HostRuntime) {
     let mut store = [0u32; STORE];
-    let mut text = io::large_buffer();
-    let n = io::read_full(STDIN_FILENO, &mut text);
-    lines(&mut store, &text[..n]);
+    let mut text = [0u8; 65536];
+    let n = read_full(&mut rt.stdin(), &mut text);
+    lines(&rt, &mut store, &text[..n]);
 }

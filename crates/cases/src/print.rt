@@ -1,79 +1,79 @@
 // What the program writes: texts, numbers and answers.
-use libc::STDOUT_FILENO;
+use console::streams::{print_decimal, write_all};
 use refusal_numbers::{number_of, place_of};
 use tables::{Judged, Refusal, Verdict, Written};
 
-pub(crate) fn text(bytes: &[u8]) {
-    io::write_all(STDOUT_FILENO, bytes);
+pub(crate) fn text(rt: &impl Print, bytes: &[u8]) {
+    write_all(rt, bytes);
 }
 
-fn number(n: usize) {
-    io::print_decimal(STDOUT_FILENO, n as u64);
+fn number(rt: &impl Print, n: usize) {
+    print_decimal(rt, n as u64);
 }
 
 // A space and a number.
-fn next_number(n: u32) {
-    text(b" ");
-    io::print_decimal(STDOUT_FILENO, n as u64);
+fn next_number(rt: &impl Print, n: u32) {
+    text(rt, b" ");
+    print_decimal(rt, n as u64);
 }
 
-fn numbers(all: &[u32]) {
+fn numbers(rt: &impl Print, all: &[u32]) {
     let mut i: usize = 0;
     while i < all.len() {
-        next_number(all[i]);
+        next_number(rt, all[i]);
         i += 1;
     }
 }
 
-fn refusal(refused: Refusal) {
-    text(b"refused ");
-    number(number_of(refused) as usize);
-    text(b" at ");
-    number(place_of(refused));
-    byte(refused);
+fn refusal(rt: &impl Print, refused: Refusal) {
+    text(rt, b"refused ");
+    number(rt, number_of(refused) as usize);
+    text(rt, b" at ");
+    number(rt, place_of(refused));
+    byte(rt, refused);
 }
 
 // Of a stop, the byte that it names.
-fn byte(refused: Refusal) {
+fn byte(rt: &impl Print, refused: Refusal) {
     match refused {
         Refusal::Data { byte, .. } | Refusal::Letters { byte, .. } => {
-            text(b" byte ");
-            number(byte);
+            text(rt, b" byte ");
+            number(rt, byte);
         }
         _ => {}
     }
 }
 
-fn count(given: Written) {
+fn count(rt: &impl Print, given: Written) {
     match given {
-        Written::Count(n) => number(n),
-        Written::Refused(refused) => refusal(refused),
+        Written::Count(n) => number(rt, n),
+        Written::Refused(refused) => refusal(rt, refused),
     }
 }
 
-pub(crate) fn written(call: &[u8], given: Written, output: &[u32]) {
-    text(call);
-    number(output.len());
-    text(b": ");
-    count(given);
-    text(b", then");
-    numbers(output);
-    text(b"\n");
+pub(crate) fn written(rt: &impl Print, call: &[u8], given: Written, output: &[u32]) {
+    text(rt, call);
+    number(rt, output.len());
+    text(rt, b": ");
+    count(rt, given);
+    text(rt, b", then");
+    numbers(rt, output);
+    text(rt, b"\n");
 }
 
-fn truth(given: Verdict) {
+fn truth(rt: &impl Print, given: Verdict) {
     match given {
-        Verdict::True => text(b"true"),
-        Verdict::False => text(b"false"),
-        Verdict::Refused(refused) => refusal(refused),
+        Verdict::True => text(rt, b"true"),
+        Verdict::False => text(rt, b"false"),
+        Verdict::Refused(refused) => refusal(rt, refused),
     }
 }
 
-pub(crate) fn judged(call: &[u8], given: Judged) {
-    text(call);
+pub(crate) fn judged(rt: &impl Print, call: &[u8], given: Judged) {
+    text(rt, call);
     let verdict = given.verdict;
-    truth(verdict);
-    text(b", judged ");
-    number(given.count);
-    text(b"\n");
+    truth(rt, verdict);
+    text(rt, b", judged ");
+    number(rt, given.count);
+    text(rt, b"\n");
 }

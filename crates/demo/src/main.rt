@@ -1,19 +1,22 @@
 // A rule of a tape drive logbook, from its COBOL text to its verdicts, by the calls of the library. A description and a rule are
 // read as printed: no row, token or target is typed by hand.
+#![tactic(auto)]
+
 ghost use Rattle.std.specs.Prelude.{◌≤◌};
 
 use books::{Printed, Recognized};
+use console::streams::write_all;
 use content::Row;
 use content::relations::{NEGATED, NUMERIC};
 use describing::Described;
 use descriptions::calls::describe;
 use fronts::{front, front_bytes};
 use grammar::PlanRow;
-use libc::STDOUT_FILENO;
 use looks::calls::looked_at_plan;
 use plan_rows::rows::plan_row;
 use plans::Target;
 use printouts::printing::print;
+use std::fmt::InlineText;
 use tables::rows::{NAME_TABLE, is_group, row_at};
 use tables::tokens::FIRST_WORD;
 use tables::words::NOT;
@@ -55,47 +58,46 @@ const ENTRIES: [u8; 119] = *b"\
 const NAMES: [u32; 0] = [];
 
 // What is judged: the tokens of a rule, or its plan.
-#[derive(Drop)]
+#[derive(Clone, Copy)]
 enum By {
     Tokens,
     Plan,
 }
 
-fn write(bytes: &[u8]) {
-    io::write_all(STDOUT_FILENO, bytes);
+fn write(rt: &impl Print, bytes: &[u8]) {
+    write_all(rt, bytes);
 }
 
 // Text, and blanks up to a width.
-fn cell(bytes: &[u8], width: usize) {
+fn cell(rt: &impl Print, bytes: &[u8], width: usize) {
     let blanks = [b' '; 64];
-    write(bytes);
+    write(rt, bytes);
     if bytes.len() < width {
-        write(front_bytes(&blanks, width - bytes.len()));
+        write(rt, front_bytes(&blanks, width - bytes.len()));
     }
 }
 
-fn number(n: usize, width: usize) {
-    let mut digits = [0u8; 20];
-    let k = io::decimal(n as u64, &mut digits);
-    cell(&digits[..k], width);
+fn number(rt: &impl Print, n: usize, width: usize) {
+    let digits = InlineText::<20>::of(n as u64);
+    cell(rt, digits.as_str().as_bytes(), width);
 }
 
 // Tokens as the library prints them.
-fn words(literals: &[u32], bytes: &[u8], tokens: &[u32], width: usize) {
+fn words(rt: &impl Print, literals: &[u32], bytes: &[u8], tokens: &[u32], width: usize) {
     let mut text = [0u8; 256];
     let printed = print(&DESCRIPTION, literals, bytes, tokens, &mut text);
     if let Printed::Count(n) = printed {
-        cell(front_bytes(&text, n), width);
+        cell(rt, front_bytes(&text, n), width);
     }
 }
 
-fn in_full(rows: &[u32], literals: &[u32], bytes: &[u8], tokens: &[u32]) {
+fn in_full(rt: &impl Print, rows: &[u32], literals: &[u32], bytes: &[u8], tokens: &[u32]) {
     let mut full = [0u32; 634];
     let expanded = forms::calls::expand(rows, literals, bytes, &NAMES, tokens, &mut full);
     if let Written::Count(n) = expanded {
-        write(b"  ");
-        words(literals, bytes, front(&full, n), 0);
-        write(b"\n");
+        write(rt, b"  ");
+        words(rt, literals, bytes, front(&full, n), 0);
+        write(rt, b"\n");
     }
 }
 
@@ -128,41 +130,41 @@ fn row_tokens(row: PlanRow, tokens: &mut [u32; 4]) -> usize {
     3
 }
 
-fn target(to: u32) {
+fn target(rt: &impl Print, to: u32) {
     if to == Target::TRUE {
-        return cell(b"TRUE", 7);
+        return cell(rt, b"TRUE", 7);
     }
     if to == Target::FALSE {
-        return cell(b"FALSE", 7);
+        return cell(rt, b"FALSE", 7);
     }
-    write(b"row ");
-    number(to as usize, 3);
+    write(rt, b"row ");
+    number(rt, to as usize, 3);
 }
 
 // The first tokens of four, in a column.
-fn first_words(literals: &[u32], bytes: &[u8], tokens: &[u32; 4], n: usize) {
-    words(literals, bytes, front(tokens, n), 21);
+fn first_words(rt: &impl Print, literals: &[u32], bytes: &[u8], tokens: &[u32; 4], n: usize) {
+    words(rt, literals, bytes, front(tokens, n), 21);
 }
 
-fn row_line(literals: &[u32], bytes: &[u8], k: usize, row: PlanRow) {
+fn row_line(rt: &impl Print, literals: &[u32], bytes: &[u8], k: usize, row: PlanRow) {
     let mut tokens = [0u32; 4];
     let n = row_tokens(row, &mut tokens);
-    write(b"  row ");
-    number(k, 4);
-    first_words(literals, bytes, &tokens, n);
-    write(b"true -> ");
-    target(row.holds);
-    write(b"false -> ");
-    target(row.fails);
-    write(b"\n");
+    write(rt, b"  row ");
+    number(rt, k, 4);
+    first_words(rt, literals, bytes, &tokens, n);
+    write(rt, b"true -> ");
+    target(rt, row.holds);
+    write(rt, b"false -> ");
+    target(rt, row.fails);
+    write(rt, b"\n");
 }
 
 // The plan, row by row.
-fn plan_table(literals: &[u32], bytes: &[u8], plan: &[u32]) {
+fn plan_table(rt: &impl Print, literals: &[u32], bytes: &[u8], plan: &[u32]) {
     let rows = plan.len() / 5;
     let mut k: usize = 0;
     while k < rows {
-        row_line(literals, bytes, k, plan_row(plan, k));
+        row_line(rt, literals, bytes, k, plan_row(plan, k));
         k += 1;
     }
 }
@@ -196,31 +198,38 @@ fn item_at(rows: &[u32], byte: usize) -> u32 {
 }
 
 // Where a stop is.
-fn place(rows: &[u32], literals: &[u32], bytes: &[u8], condition: usize, byte: usize) {
+fn place(
+    rt: &impl Print,
+    rows: &[u32],
+    literals: &[u32],
+    bytes: &[u8],
+    condition: usize,
+    byte: usize,
+) {
     let item = [item_at(rows, byte)];
-    write(b" in condition ");
-    number(condition, 0);
-    write(b": ");
-    words(literals, bytes, &item, 0);
-    write(b", byte ");
-    number(byte, 0);
-    write(b"\n");
+    write(rt, b" in condition ");
+    number(rt, condition, 0);
+    write(rt, b": ");
+    words(rt, literals, bytes, &item, 0);
+    write(rt, b", byte ");
+    number(rt, byte, 0);
+    write(rt, b"\n");
 }
 
-fn verdict_line(rows: &[u32], literals: &[u32], bytes: &[u8], verdict: Verdict) {
+fn verdict_line(rt: &impl Print, rows: &[u32], literals: &[u32], bytes: &[u8], verdict: Verdict) {
     match verdict {
-        Verdict::True => write(b"TRUE\n"),
-        Verdict::False => write(b"FALSE\n"),
+        Verdict::True => write(rt, b"TRUE\n"),
+        Verdict::False => write(rt, b"FALSE\n"),
         Verdict::Refused(refusal) => match refusal {
             Refusal::Data { condition, byte } => {
-                write(b"stopped: invalid numeric data");
-                place(rows, literals, bytes, condition, byte);
+                write(rt, b"stopped: invalid numeric data");
+                place(rt, rows, literals, bytes, condition, byte);
             }
             Refusal::Letters { condition, byte } => {
-                write(b"stopped: invalid alphabetic data");
-                place(rows, literals, bytes, condition, byte);
+                write(rt, b"stopped: invalid alphabetic data");
+                place(rt, rows, literals, bytes, condition, byte);
             }
-            _ => write(b"refused\n"),
+            _ => write(rt, b"refused\n"),
         },
     }
 }
@@ -240,6 +249,7 @@ fn judged_by<'a>(
 }
 
 fn entry_line<'a>(
+    rt: &impl Print,
     rows: &[u32],
     literals: &[u32],
     bytes: &'a [u8],
@@ -249,16 +259,17 @@ fn entry_line<'a>(
     record: &'a [u8],
 ) {
     let judged = judged_by(rows, literals, bytes, by, numbers, record);
-    write(b"  ");
-    number(n, 5);
-    cell(record, 19);
-    number(judged.count, 8);
+    write(rt, b"  ");
+    number(rt, n, 5);
+    cell(rt, record, 19);
+    number(rt, judged.count, 8);
     let verdict = judged.verdict;
-    verdict_line(rows, literals, bytes, verdict);
+    verdict_line(rt, rows, literals, bytes, verdict);
 }
 
 // What a rule says of each entry. The description's first row is the whole entry.
 fn each_entry<'a>(
+    rt: &impl Print,
     rows: &[u32],
     literals: &[u32],
     bytes: &'a [u8],
@@ -276,15 +287,22 @@ fn each_entry<'a>(
         }
         let end = at + size;
         n += 1;
-        entry_line(rows, literals, bytes, by, numbers, n, &entries[at..end]);
+        entry_line(rt, rows, literals, bytes, by, numbers, n, &entries[at..end]);
         at = end;
     }
 }
 
-fn verdicts(rows: &[u32], literals: &[u32], bytes: &[u8], by: By, numbers: &[u32]) {
+fn verdicts(
+    rt: &impl Print,
+    rows: &[u32],
+    literals: &[u32],
+    bytes: &[u8],
+    by: By,
+    numbers: &[u32],
+) {
     let entries = ENTRIES;
-    write(b"  no.  entry              judged  verdict\n");
-    each_entry(rows, literals, bytes, by, numbers, &entries);
+    write(rt, b"  no.  entry              judged  verdict\n");
+    each_entry(rt, rows, literals, bytes, by, numbers, &entries);
 }
 
 // The size of an entry, at least 1.
@@ -301,8 +319,9 @@ fn entry_size(rows: &[u32]) -> usize
     size
 }
 
-fn the_entry() {
+fn the_entry(rt: &impl Print) {
     write(
+        rt,
         b"Oboecurlew: a rule of the tape drive logbook, from its COBOL text to its verdicts\n\
           \n\
           1. The entry\n\
@@ -311,16 +330,18 @@ fn the_entry() {
           each item lies in them from the book's own description.\n\
           \n",
     );
-    write(&DESCRIPTION);
+    write(rt, &DESCRIPTION);
     write(
+        rt,
         b"\n\
           So TU-56 12345100003 is a TU-56 at 1234.5 hours, with a limit of 1000, that runs 3 percent fast.\n\
           A minus shares the last byte with a digit: a DRIFT of 0E is -5.\n",
     );
 }
 
-fn the_rule(rows: &[u32], literals: &[u32], bytes: &[u8], tokens: &[u32]) {
+fn the_rule(rt: &impl Print, rows: &[u32], literals: &[u32], bytes: &[u8], tokens: &[u32]) {
     write(
+        rt,
         b"\n\
           2. The rule\n\
           \n\
@@ -329,18 +350,20 @@ fn the_rule(rows: &[u32], literals: &[u32], bytes: &[u8], tokens: &[u32]) {
           that nobody wrote down. `read` takes it as it is written.\n\
           \n",
     );
-    write(&RULE);
+    write(rt, &RULE);
     write(
+        rt,
         b"\n\
           As COBOL allows, two conditions leave out what they share with the one before. `expand` puts it\n\
           back, and `print` writes it out:\n\
           \n",
     );
-    in_full(rows, literals, bytes, tokens);
+    in_full(rt, rows, literals, bytes, tokens);
 }
 
-fn the_plan(literals: &[u32], bytes: &[u8], plan: &[u32]) {
+fn the_plan(rt: &impl Print, literals: &[u32], bytes: &[u8], plan: &[u32]) {
     write(
+        rt,
         b"\n\
           3. The plan\n\
           \n\
@@ -349,11 +372,12 @@ fn the_plan(literals: &[u32], bytes: &[u8], plan: &[u32]) {
           words no more.\n\
           \n",
     );
-    plan_table(literals, bytes, plan);
+    plan_table(rt, literals, bytes, plan);
 }
 
-fn the_verdicts(rows: &[u32], literals: &[u32], bytes: &[u8], plan: &[u32]) {
+fn the_verdicts(rt: &impl Print, rows: &[u32], literals: &[u32], bytes: &[u8], plan: &[u32]) {
     write(
+        rt,
         b"\n\
           4. The verdicts\n\
           \n\
@@ -363,11 +387,12 @@ fn the_verdicts(rows: &[u32], literals: &[u32], bytes: &[u8], plan: &[u32]) {
           looked at, for the bill of machine time.\n\
           \n",
     );
-    verdicts(rows, literals, bytes, By::Plan, plan);
+    verdicts(rt, rows, literals, bytes, By::Plan, plan);
 }
 
 // The items that a run on one entry came to: an item's row is its token.
 fn looked_line<'a>(
+    rt: &impl Print,
     rows: &[u32],
     literals: &[u32],
     bytes: &'a [u8],
@@ -378,16 +403,17 @@ fn looked_line<'a>(
     let mut list = [0u32; 64];
     let listed = looked_at_plan(rows, literals, bytes, &NAMES, plan, record, 0, &mut list);
     if let Written::Count(k) = listed {
-        write(b"  entry ");
-        number(n, 3);
-        words(literals, bytes, front(&list, k), 0);
-        write(b"\n");
+        write(rt, b"  entry ");
+        number(rt, n, 3);
+        words(rt, literals, bytes, front(&list, k), 0);
+        write(rt, b"\n");
     }
 }
 
-fn the_looks(rows: &[u32], literals: &[u32], bytes: &[u8], plan: &[u32]) {
+fn the_looks(rt: &impl Print, rows: &[u32], literals: &[u32], bytes: &[u8], plan: &[u32]) {
     let entries = ENTRIES;
     write(
+        rt,
         b"\n\
           5. What a run looked at\n\
           \n\
@@ -395,50 +421,52 @@ fn the_looks(rows: &[u32], literals: &[u32], bytes: &[u8], plan: &[u32]) {
           verdict stays, and that is proved.\n\
           \n",
     );
-    looked_line(rows, literals, bytes, plan, 1, &entries[..17]);
-    looked_line(rows, literals, bytes, plan, 5, &entries[68..85]);
+    looked_line(rt, rows, literals, bytes, plan, 1, &entries[..17]);
+    looked_line(rt, rows, literals, bytes, plan, 5, &entries[68..85]);
 }
 
 // The rule with all its calls, from its tokens on.
-fn guarded(rows: &[u32], literals: &[u32], bytes: &[u8], tokens: &[u32]) {
+fn guarded(rt: &impl Print, rows: &[u32], literals: &[u32], bytes: &[u8], tokens: &[u32]) {
     let mut numbers = [0u32; 640];
-    the_rule(rows, literals, bytes, tokens);
+    the_rule(rt, rows, literals, bytes, tokens);
     let planned = forms::calls::plan(rows, literals, bytes, &NAMES, tokens, &mut numbers);
     if let Written::Count(n) = planned {
         let plan = front(&numbers, n);
-        the_plan(literals, bytes, plan);
-        the_verdicts(rows, literals, bytes, plan);
-        the_looks(rows, literals, bytes, plan);
+        the_plan(rt, literals, bytes, plan);
+        the_verdicts(rt, rows, literals, bytes, plan);
+        the_looks(rt, rows, literals, bytes, plan);
     }
 }
 
-fn unguarded(rows: &[u32], literals: &[u32], bytes: &[u8], tokens: &[u32]) {
+fn unguarded(rt: &impl Print, rows: &[u32], literals: &[u32], bytes: &[u8], tokens: &[u32]) {
     write(
+        rt,
         b"\n\
           6. The same rule without its guard\n\
           \n\
           HOURS NUMERIC is taken away, and nothing keeps a blank meter from being compared.\n\
           \n",
     );
-    write(&UNGUARDED);
+    write(rt, &UNGUARDED);
     write(
+        rt,
         b"\n\
           `judge` needs no plan. It does not read blanks as zero, as older programs did: it stops, and\n\
           names the condition that met them, the item and its first wrong byte. Entry 7 is no DECtape\n\
           drive, so its blank meter is not reached, and nothing stops.\n\
           \n",
     );
-    verdicts(rows, literals, bytes, By::Tokens, tokens);
+    verdicts(rt, rows, literals, bytes, By::Tokens, tokens);
 }
 
 // Which of the two rules is shown.
-#[derive(Drop)]
+#[derive(Clone, Copy)]
 enum Shown {
     Guarded,
     Unguarded,
 }
 
-fn show(rows: &[u32], shown: Shown, text: &[u8]) {
+fn show(rt: &impl Print, rows: &[u32], shown: Shown, text: &[u8]) {
     let mut tokens = [0u32; 256];
     let mut literals = [0u32; Row::TABLE];
     let mut bytes = [0u8; 2304];
@@ -448,20 +476,20 @@ fn show(rows: &[u32], shown: Shown, text: &[u8]) {
         let table = front(&literals, l);
         let held = front_bytes(&bytes, b);
         match shown {
-            Shown::Guarded => guarded(rows, table, held, rule),
-            Shown::Unguarded => unguarded(rows, table, held, rule),
+            Shown::Guarded => guarded(rt, rows, table, held, rule),
+            Shown::Unguarded => unguarded(rt, rows, table, held, rule),
         }
     }
 }
 
-fn main() {
+fn main(rt: HostRuntime) {
     let mut numbers = [0u32; Row::TABLE];
     let mut places = [0u32; 64];
     let mut names = [0u32; NAME_TABLE];
     let mut name_places = [0u32; 64];
     let mut literals = [0u32; Row::TABLE];
     let mut bytes = [0u8; 4096];
-    the_entry();
+    the_entry(&rt);
     let described = describe(
         &DESCRIPTION,
         &mut numbers,
@@ -473,7 +501,7 @@ fn main() {
     );
     if let Described::Counts(n, _, _, _, _, _) = described {
         let rows = front(&numbers, n);
-        show(rows, Shown::Guarded, &RULE);
-        show(rows, Shown::Unguarded, &UNGUARDED);
+        show(&rt, rows, Shown::Guarded, &RULE);
+        show(&rt, rows, Shown::Unguarded, &UNGUARDED);
     }
 }

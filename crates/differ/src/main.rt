@@ -1,5 +1,7 @@
 // What differs between two copies of a record: the arguments name a description and two records, and each elementary item whose bytes
 // differ is a line of its row number and a mark, V, B or I. A refusal is R and its number. A file that can't be read counts as empty.
+#![tactic(auto)]
+
 mod files;
 mod print;
 
@@ -9,6 +11,7 @@ use descriptions::calls::describe;
 use differences::calls::differ;
 use files::read_file;
 use fronts::{front, front_bytes};
+use std::rt::{Env, Files};
 use tables::rows::NAME_TABLE;
 
 // A text of 4,096 bytes is the longest that may be valid; one byte more tells that a file is longer.
@@ -33,25 +36,25 @@ fn room() -> [u8; RECORD] {
     [0u8; RECORD]
 }
 
-fn list(items: &[u32], first: &[u8], second: &[u8]) {
+fn list(rt: &impl Print, items: &[u32], first: &[u8], second: &[u8]) {
     let mut output = [0u32; OUTPUT];
     let written = differ(items, first, second, &mut output);
-    print::written(written, &output);
+    print::written(rt, written, &output);
 }
 
-fn list_second(items: &[u32], first: &[u8]) {
+fn list_second(rt: &(impl Env + Files + Print), items: &[u32], first: &[u8]) {
     let mut second = room();
-    let n = read_file(3, &mut second);
-    list(items, first, front_bytes(&second, n));
+    let n = read_file(rt, 3, &mut second);
+    list(rt, items, first, front_bytes(&second, n));
 }
 
-fn list_first(items: &[u32]) {
+fn list_first(rt: &(impl Env + Files + Print), items: &[u32]) {
     let mut first = room();
-    let n = read_file(2, &mut first);
-    list_second(items, front_bytes(&first, n));
+    let n = read_file(rt, 2, &mut first);
+    list_second(rt, items, front_bytes(&first, n));
 }
 
-fn list_described(text: &[u8]) {
+fn list_described(rt: &(impl Env + Files + Print), text: &[u8]) {
     let mut rows = [0u32; ROW_NUMBERS];
     let mut places = [0u32; ROWS];
     let mut names = [0u32; NAME_NUMBERS];
@@ -68,14 +71,14 @@ fn list_described(text: &[u8]) {
         &mut bytes,
     );
     match described {
-        Described::Counts(n, _, _, _, _, _) => list_first(front(&rows, n)),
-        Described::Faulty(_) => print::refusal(14),
-        Described::Room(_) => print::refusal(10),
+        Described::Counts(n, _, _, _, _, _) => list_first(rt, front(&rows, n)),
+        Described::Faulty(_) => print::refusal(rt, 14),
+        Described::Room(_) => print::refusal(rt, 10),
     }
 }
 
-fn main() {
+fn main(rt: HostRuntime) {
     let mut text = [0u8; TEXT];
-    let n = read_file(1, &mut text);
-    list_described(front_bytes(&text, n));
+    let n = read_file(&rt, 1, &mut text);
+    list_described(&rt, front_bytes(&text, n));
 }

@@ -6,7 +6,7 @@ use refusal_numbers::{byte_of, number_of, place_of};
 use tables::{Judged, Refusal, Verdict, Written};
 
 // A refusal's number, place and byte, or 0, the value and 0; how many simple conditions were judged.
-#[derive(Drop)]
+#[derive(Clone, Copy)]
 pub struct Answer {
     pub number: usize,
     pub value: usize,

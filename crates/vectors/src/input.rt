@@ -2,8 +2,9 @@
 ghost use Rattle.std.specs.Prelude.{◌≡◌, ◌≤◌, length};
 ghost use Rattle.vectors.specs.Parts.{word_of, Decodes, Held};
 
+use console::streams::read_full;
 use fronts::front_bytes;
-use libc::STDIN_FILENO;
+use std::io::Read;
 
 // Room for the bytes of every case.
 const RAW: usize = 8192;
@@ -15,11 +16,11 @@ fn word(first: u8, second: u8, third: u8, fourth: u8) -> u32
 }
 
 // 0 where the input has ended. Free: any other word, which is the input's.
-pub(crate) fn read_word() -> u32
+pub(crate) fn read_word(input: &mut impl Read) -> u32
     ensures { result ≤ 4294967295 }
 {
     let mut raw = [0u8; 4];
-    let got = io::read_full(STDIN_FILENO, &mut raw);
+    let got = read_full(input, &mut raw);
     if got < 4 {
         return 0;
     }
@@ -43,23 +44,23 @@ fn decode(raw: &[u8], words: &mut [u32]) -> usize
     count
 }
 
-fn read_raw(raw: &mut [u8], words: &mut [u32]) -> usize
+fn read_raw(input: &mut impl Read, raw: &mut [u8], words: &mut [u32]) -> usize
     ensures { Held result words.old words.new }
 {
-    let count = read_word() as usize;
+    let count = read_word(input) as usize;
     if count > raw.len() / 4 {
         return 0;
     }
     let size = count * 4;
-    let got = io::read_full(STDIN_FILENO, &mut raw[0..size]);
+    let got = read_full(input, &mut raw[0..size]);
     decode(front_bytes(raw, got), words)
 }
 
 // The words that a word counts, as far as there are so many; none if no case has so many. Free: the words themselves, which are the
 // input's.
-pub(crate) fn read_words(words: &mut [u32]) -> usize
+pub(crate) fn read_words(input: &mut impl Read, words: &mut [u32]) -> usize
     ensures { Held result words.old words.new }
 {
     let mut raw = [0u8; RAW];
-    read_raw(&mut raw, words)
+    read_raw(input, &mut raw, words)
 }
