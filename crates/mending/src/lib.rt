@@ -1,1 +1,2 @@
 // Mending blanks: definitions and theorems. Crate mender has the code.
+#![tactic(auto)]

@@ -1,1 +1,2 @@
 // Conditions as printed: definitions and theorems.
+#![tactic(auto)]
