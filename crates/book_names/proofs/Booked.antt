@@ -15,7 +15,7 @@ use Rattle.spelling.proofs.Describing.{length-map, few_bytes}
 use Rattle.tables.proofs.Front.{Front, front_length, front_rest, front_part}
 use Rattle.literal_bytes.specs.Written.{written_over}
 use Rattle.name_entries.specs.Named.{pair_numbers}
-use Rattle.storing.specs.Naming.{row_numbers as nameRowNumbers, name_numbers, name_of}
+use Rattle.storing.specs.Naming.{row_numbers as name_row_numbers, name_numbers, name_of}
 use Rattle.layouts.specs.Layouts.{row_numbers}
 use Rattle.describing.specs.declared.Described.{Described}
 use Rattle.describing.specs.declared.Described.TheVariants.{Counts, Faulty, Room}
@@ -57,7 +57,7 @@ names-numbers k (c ∷ cs) f =
       pair_numbers_lem ps,
       length-replicate {A = ℕ} (16 - length ps * 2) 0,
       length-append (pair_numbers ps) zeros,
-      length-append (nameRowNumbers (name_row c.item ps)) (name_numbers rest),
+      length-append (name_row_numbers (name_row c.item ps)) (name_numbers rest),
       names-numbers (k + length (literals c.values)) cs (λ j d l. f (suc j) d (omega arith)),
     )
 

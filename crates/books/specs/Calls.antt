@@ -85,11 +85,11 @@ output_of TokenCount out before = before
 output_of (Room n) out before = before
 
 -- The whole answer of `read`, and its three outputs.
-pub record ReadAs (reading : Reading) (tokens literals content : List ℕ) (r : Recognized) (tokensAfter literalsAfter contentAfter : List ℕ) : Type 0 where
+pub record ReadAs (reading : Reading) (tokens literals content : List ℕ) (r : Recognized) (tokens_after literals_after content_after : List ℕ) : Type 0 where
   pub answered : r ≡ read_answer reading (length tokens) (length literals) (length content)
-  pub tokens_written : tokensAfter ≡ output_of r (tokens_of reading) tokens
-  pub literals_written : literalsAfter ≡ output_of r (rows_of reading) literals
-  pub content_written : contentAfter ≡ output_of r (content_of reading) content
+  pub tokens_written : tokens_after ≡ output_of r (tokens_of reading) tokens
+  pub literals_written : literals_after ≡ output_of r (rows_of reading) literals
+  pub content_written : content_after ≡ output_of r (content_of reading) content
 
 -- the answer that a refusal of printing is
 abbrev pub unprinted_as : ℕ → ℕ → Printed
@@ -144,19 +144,19 @@ bytes_in (table t) = t.bytes
 bytes_in (refusal p) = []
 
 -- The whole answer, and each list over the start of a lent buffer. The rest stays as it was: all of it, where the description is refused.
-pub record NamedBy (description places rows bytes : List ℕ) (r : Named) (placesAfter rowsAfter bytesAfter : List ℕ) : Type 0 where
+pub record NamedBy (description places rows bytes : List ℕ) (r : Named) (places_after rows_after bytes_after : List ℕ) : Type 0 where
   pub answered : r ≡ named_as (describe description)
-  pub places_written : placesAfter ≡ written_over (places_in (describe description)) places
-  pub rows_written : rowsAfter ≡ written_over (literals_in (describe description)) rows
-  pub bytes_written : bytesAfter ≡ written_over (bytes_in (describe description)) bytes
+  pub places_written : places_after ≡ written_over (places_in (describe description)) places
+  pub rows_written : rows_after ≡ written_over (literals_in (describe description)) rows
+  pub bytes_written : bytes_after ≡ written_over (bytes_in (describe description)) bytes
 
 -- tokens, rows and bytes that a reading found, given where there is room
 abbrev pub counted : List ℕ → List ℕ → List ℕ → Reading
 counted t r b = cond (leb 1 (length t) && leb (length t) 256) (read t r b) (refused 5 0)
 
 abbrev pub Gives : List ℕ → List ℕ → List ℕ → List ℕ → List ℕ → List ℕ → Recognized → List ℕ → List ℕ → List ℕ → Type 0
-Gives t r b tokens literals content answer tokensAfter literalsAfter contentAfter =
-    ReadAs (counted t r b) tokens literals content answer tokensAfter literalsAfter contentAfter
+Gives t r b tokens literals content answer tokens_after literals_after content_after =
+    ReadAs (counted t r b) tokens literals content answer tokens_after literals_after content_after
 
 -- what 14 and 3 to 5 leave
 pub record Sized (description : List ℕ) (items : ℕ) (places rows content tokens : List ℕ) : Type 0 where

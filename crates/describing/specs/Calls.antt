@@ -55,11 +55,11 @@ literals_of t = row_numbers t.literals
 
 -- the room that each output needs, and the room that it has: the first that lacks room is told
 abbrev pub room : ℕ → ℕ → ℕ → ℕ → ℕ → ℕ → ℕ → ℕ → ℕ → ℕ → ℕ → ℕ → Described
-room a b c d e f rows places names namePlaces literals bytes =
+room a b c d e f rows places names name_places literals bytes =
     cond (leb a rows)
     (cond (leb b places)
     (cond (leb c names)
-    (cond (leb d namePlaces) (cond (leb e literals) (cond (leb f bytes) (Counts a b c d e f) (Room f)) (Room e)) (Room d))
+    (cond (leb d name_places) (cond (leb e literals) (cond (leb f bytes) (Counts a b c d e f) (Room f)) (Room e)) (Room d))
     (Room c))
     (Room b))
     (Room a)
@@ -67,10 +67,10 @@ room a b c d e f rows places names namePlaces literals bytes =
 -- "Other text is refused with 14 ..; the smallest place wins, then 10"; "writing calls give each output's count, outputs in the order
 -- named"
 abbrev pub answer : Outcome → ℕ → ℕ → ℕ → ℕ → ℕ → ℕ → Described
-answer (table t) rows places names namePlaces literals bytes =
+answer (table t) rows places names name_places literals bytes =
     room (length (rows_of t)) (length (places_of t)) (length (names_of t)) (length (name_places_of t)) (length (literals_of t)) (length t.bytes)
-    rows places names namePlaces literals bytes
-answer (refusal p) rows places names namePlaces literals bytes = Faulty p
+    rows places names name_places literals bytes
+answer (refusal p) rows places names name_places literals bytes = Faulty p
 
 abbrev pub rows_in : Outcome → List ℕ
 rows_in (table t) = rows_of t
@@ -103,16 +103,16 @@ written (Faulty p) out before = before
 written (Room n) out before = before
 
 -- The whole answer and the six outputs.
-pub record DescribedBy (text rows places names namePlaces literals bytes : List ℕ) (r : Described)
-    (rowsAfter placesAfter namesAfter namePlacesAfter literalsAfter bytesAfter : List ℕ) : Type 0 where
+pub record DescribedBy (text rows places names name_places literals bytes : List ℕ) (r : Described)
+    (rows_after places_after names_after name_places_after literals_after bytes_after : List ℕ) : Type 0 where
   pub answered : r
-      ≡ answer (Limits.describe text) (length rows) (length places) (length names) (length namePlaces) (length literals) (length bytes)
-  pub rows_written : rowsAfter ≡ written r (rows_in (Limits.describe text)) rows
-  pub places_written : placesAfter ≡ written r (places_in (Limits.describe text)) places
-  pub names_written : namesAfter ≡ written r (names_in (Limits.describe text)) names
-  pub name_places_written : namePlacesAfter ≡ written r (name_places_in (Limits.describe text)) namePlaces
-  pub literals_written : literalsAfter ≡ written r (literals_in (Limits.describe text)) literals
-  pub bytes_written : bytesAfter ≡ written r (bytes_in (Limits.describe text)) bytes
+      ≡ answer (Limits.describe text) (length rows) (length places) (length names) (length name_places) (length literals) (length bytes)
+  pub rows_written : rows_after ≡ written r (rows_in (Limits.describe text)) rows
+  pub places_written : places_after ≡ written r (places_in (Limits.describe text)) places
+  pub names_written : names_after ≡ written r (names_in (Limits.describe text)) names
+  pub name_places_written : name_places_after ≡ written r (name_places_in (Limits.describe text)) name_places
+  pub literals_written : literals_after ≡ written r (literals_in (Limits.describe text)) literals
+  pub bytes_written : bytes_after ≡ written r (bytes_in (Limits.describe text)) bytes
 
 -- What private functions promise: the buffers hold the complete entries of the text, byte 4,096 being faulty; and which place over a limit
 -- is the smallest.
@@ -166,11 +166,11 @@ pub record Ready (text laid flat named spots notes : List ℕ) (f : Found) : Typ
   pub sized : f.names.bytes ≡ length (bytes_from text notes 0 f.names.literals)
 
 -- Every output has room.
-pub record Roomy (f : Found) (rows places names namePlaces literals bytes : ℕ) : Type 0 where
+pub record Roomy (f : Found) (rows places names name_places literals bytes : ℕ) : Type 0 where
   pub for_rows : f.count * row_width ≤ rows
   pub for_places : f.count ≤ places
   pub for_names : f.names.count * name_width ≤ names
-  pub for_name_places : f.names.count ≤ namePlaces
+  pub for_name_places : f.names.count ≤ name_places
   pub for_literals : f.names.literals * row_width ≤ literals
   pub for_bytes : f.names.bytes ≤ bytes
 
@@ -178,21 +178,21 @@ pub record Roomy (f : Found) (rows places names namePlaces literals bytes : ℕ)
 abbrev pub over : List ℕ → List ℕ → List ℕ
 over out before = out ++ drop (length out) before
 
-pub record Wrote (text laid flat named spots notes : List ℕ) (f : Found) (rows places names namePlaces literals bytes : List ℕ)
-    (rowsAfter placesAfter namesAfter namePlacesAfter literalsAfter bytesAfter : List ℕ) : Type 0 where
-  pub rows_are : rowsAfter ≡ over (take (f.count * row_width) laid) rows
-  pub places_are : placesAfter ≡ over (map named_of (noted_from flat 0 f.count)) places
-  pub names_are : namesAfter ≡ over (take (f.names.count * name_width) named) names
-  pub name_places_are : namePlacesAfter ≡ over (take f.names.count spots) namePlaces
-  pub literals_are : literalsAfter ≡ over (rows_from notes 0 f.names.literals) literals
-  pub bytes_are : bytesAfter ≡ over (bytes_from text notes 0 f.names.literals) bytes
+pub record Wrote (text laid flat named spots notes : List ℕ) (f : Found) (rows places names name_places literals bytes : List ℕ)
+    (rows_after places_after names_after name_places_after literals_after bytes_after : List ℕ) : Type 0 where
+  pub rows_are : rows_after ≡ over (take (f.count * row_width) laid) rows
+  pub places_are : places_after ≡ over (map named_of (noted_from flat 0 f.count)) places
+  pub names_are : names_after ≡ over (take (f.names.count * name_width) named) names
+  pub name_places_are : name_places_after ≡ over (take f.names.count spots) name_places
+  pub literals_are : literals_after ≡ over (rows_from notes 0 f.names.literals) literals
+  pub bytes_are : bytes_after ≡ over (bytes_from text notes 0 f.names.literals) bytes
 
-pub record Given (text laid flat named spots notes : List ℕ) (f : Found) (rows places names namePlaces literals bytes : List ℕ) (r : Described)
-    (rowsAfter placesAfter namesAfter namePlacesAfter literalsAfter bytesAfter : List ℕ) : Type 0 where
-  pub answered : r ≡ room_for (needed f) (sizes (length rows) (length places) (length names) (length namePlaces) (length literals) (length bytes))
-  pub rows_written : rowsAfter ≡ written r (take (f.count * row_width) laid) rows
-  pub places_written : placesAfter ≡ written r (map named_of (noted_from flat 0 f.count)) places
-  pub names_written : namesAfter ≡ written r (take (f.names.count * name_width) named) names
-  pub name_places_written : namePlacesAfter ≡ written r (take f.names.count spots) namePlaces
-  pub literals_written : literalsAfter ≡ written r (rows_from notes 0 f.names.literals) literals
-  pub bytes_written : bytesAfter ≡ written r (bytes_from text notes 0 f.names.literals) bytes
+pub record Given (text laid flat named spots notes : List ℕ) (f : Found) (rows places names name_places literals bytes : List ℕ) (r : Described)
+    (rows_after places_after names_after name_places_after literals_after bytes_after : List ℕ) : Type 0 where
+  pub answered : r ≡ room_for (needed f) (sizes (length rows) (length places) (length names) (length name_places) (length literals) (length bytes))
+  pub rows_written : rows_after ≡ written r (take (f.count * row_width) laid) rows
+  pub places_written : places_after ≡ written r (map named_of (noted_from flat 0 f.count)) places
+  pub names_written : names_after ≡ written r (take (f.names.count * name_width) named) names
+  pub name_places_written : name_places_after ≡ written r (take f.names.count spots) name_places
+  pub literals_written : literals_after ≡ written r (rows_from notes 0 f.names.literals) literals
+  pub bytes_written : bytes_after ≡ written r (bytes_from text notes 0 f.names.literals) bytes

@@ -6,8 +6,8 @@ use Rattle.answers.specs.Answer.{Told}
 use Rattle.description_answers.specs.Description.{described_numbers}
 
 -- what the library's call gives, told
-pub record Describes (text rows places names namePlaces literals bytes : List ℕ) (returned : ℕ)
-    (answer rowsAfter placesAfter namesAfter namePlacesAfter literalsAfter bytesAfter : List ℕ) : Type 0 where
+pub record Describes (text rows places names name_places literals bytes : List ℕ) (returned : ℕ)
+    (answer rows_after places_after names_after name_places_after literals_after bytes_after : List ℕ) : Type 0 where
   pub given : Described
-  pub described : DescribedBy text rows places names namePlaces literals bytes given rowsAfter placesAfter namesAfter namePlacesAfter literalsAfter bytesAfter
+  pub described : DescribedBy text rows places names name_places literals bytes given rows_after places_after names_after name_places_after literals_after bytes_after
   pub told : Told (number given) (described_numbers given) returned answer

@@ -29,7 +29,7 @@ NamesLendable =
 -- none of them of the outputs, as far as the call's counts say that they are written
 abbrev pub OutputsLendable : Type 0
 OutputsLendable =
-    (off : Bool) (text rows places names namePlaces literals bytes rowsAfter placesAfter namesAfter namePlacesAfter literalsAfter bytesAfter : List ℕ)
+    (off : Bool) (text rows places names name_places literals bytes rows_after places_after names_after name_places_after literals_after bytes_after : List ℕ)
     (a b c d e f : ℕ) →
-    DescribedBy text rows places names namePlaces literals bytes (Counts a b c d e f) rowsAfter placesAfter namesAfter namePlacesAfter literalsAfter bytesAfter →
-    first_of (lent_lines (lent off (take a rowsAfter) (take e literalsAfter) (take f bytesAfter) (take c namesAfter))) ≡ Sound
+    DescribedBy text rows places names name_places literals bytes (Counts a b c d e f) rows_after places_after names_after name_places_after literals_after bytes_after →
+    first_of (lent_lines (lent off (take a rows_after) (take e literals_after) (take f bytes_after) (take c names_after))) ≡ Sound

@@ -117,23 +117,23 @@ pub record LiteralRoom (row : Row) (word : List ℕ) (g : Gathered) (tokens rows
   pub small : row.size ≤ 256
   pub quoted : row.kind ≡ kind_alphanumeric → 2 ≤ length word
 
-pub record LiteralLaid (row : Row) (word : List ℕ) (g : Gathered) (past : ℕ) (tokens rows bytes : List ℕ) (r : Gathered) (tokensAfter rowsAfter bytesAfter : List ℕ) : Type 0 where
+pub record LiteralLaid (row : Row) (word : List ℕ) (g : Gathered) (past : ℕ) (tokens rows bytes : List ℕ) (r : Gathered) (tokens_after rows_after bytes_after : List ℕ) : Type 0 where
   pub counts : r ≡ with_literal g row.size past
-  pub token_laid : tokensAfter ≡ set tokens g.tokens (65536 + g.literals)
-  pub row_laid : rowsAfter ≡ over_at (g.literals * row_width) (laid (moved_to g.bytes row)) rows
-  pub bytes_laid : bytesAfter ≡ over_at g.bytes (literal_by row.kind word).bytes bytes
+  pub token_laid : tokens_after ≡ set tokens g.tokens (65536 + g.literals)
+  pub row_laid : rows_after ≡ over_at (g.literals * row_width) (laid (moved_to g.bytes row)) rows
+  pub bytes_laid : bytes_after ≡ over_at g.bytes (literal_by row.kind word).bytes bytes
 
 -- Beyond what is gathered the buffers are as they were.
-pub record Beyond (g : Gathered) (tokens rows bytes tokensAfter rowsAfter bytesAfter : List ℕ) : Type 0 where
-  pub tokens_stay : drop g.tokens tokensAfter ≡ drop g.tokens tokens
-  pub rows_stay : drop (g.literals * row_width) rowsAfter ≡ drop (g.literals * row_width) rows
-  pub bytes_stay : drop g.bytes bytesAfter ≡ drop g.bytes bytes
+pub record Beyond (g : Gathered) (tokens rows bytes tokens_after rows_after bytes_after : List ℕ) : Type 0 where
+  pub tokens_stay : drop g.tokens tokens_after ≡ drop g.tokens tokens
+  pub rows_stay : drop (g.literals * row_width) rows_after ≡ drop (g.literals * row_width) rows
+  pub bytes_stay : drop g.bytes bytes_after ≡ drop g.bytes bytes
 
 -- the buffers as they were
-pub record Same (tokens rows bytes tokensAfter rowsAfter bytesAfter : List ℕ) : Type 0 where
-  pub tokens_stay : tokensAfter ≡ tokens
-  pub rows_stay : rowsAfter ≡ rows
-  pub bytes_stay : bytesAfter ≡ bytes
+pub record Same (tokens rows bytes tokens_after rows_after bytes_after : List ℕ) : Type 0 where
+  pub tokens_stay : tokens_after ≡ tokens
+  pub rows_stay : rows_after ≡ rows
+  pub bytes_stay : bytes_after ≡ bytes
 
 -- no count falls, and the text is read on
 pub record Grows (g next : Gathered) : Type 0 where
@@ -144,48 +144,48 @@ pub record Grows (g next : Gathered) : Type 0 where
 
 -- What is gathered, with what is left, stays the whole.
 abbrev pub Keeps : Known → List ℕ → Gathered → List ℕ → List ℕ → List ℕ → Gathered → List ℕ → List ℕ → List ℕ → Type 0
-Keeps known text g tokens rows bytes next tokensAfter rowsAfter bytesAfter =
-    (w : Total) → Gathers known text w g tokens rows bytes → Gathers known text w next tokensAfter rowsAfter bytesAfter
+Keeps known text g tokens rows bytes next tokens_after rows_after bytes_after =
+    (w : Total) → Gathers known text w g tokens rows bytes → Gathers known text w next tokens_after rows_after bytes_after
 
 -- after a step: gathered with one piece more; nothing left; or the first fault
 abbrev pub StepGives : Known → List ℕ → Gathered → List ℕ → List ℕ → List ℕ → Stepped → List ℕ → List ℕ → List ℕ → Type 0
-StepGives known text g tokens rows bytes (On next) tokensAfter rowsAfter bytesAfter =
-    Keeps known text g tokens rows bytes next tokensAfter rowsAfter bytesAfter × Bounds text next × Grows g next
-    × Beyond next tokens rows bytes tokensAfter rowsAfter bytesAfter
-StepGives known text g tokens rows bytes End tokensAfter rowsAfter bytesAfter =
-    Same tokens rows bytes tokensAfter rowsAfter bytesAfter × (left known text g.past ≡ [])
-StepGives known text g tokens rows bytes (Fault number place) tokensAfter rowsAfter bytesAfter =
-    Same tokens rows bytes tokensAfter rowsAfter bytesAfter
+StepGives known text g tokens rows bytes (On next) tokens_after rows_after bytes_after =
+    Keeps known text g tokens rows bytes next tokens_after rows_after bytes_after × Bounds text next × Grows g next
+    × Beyond next tokens rows bytes tokens_after rows_after bytes_after
+StepGives known text g tokens rows bytes End tokens_after rows_after bytes_after =
+    Same tokens rows bytes tokens_after rows_after bytes_after × (left known text g.past ≡ [])
+StepGives known text g tokens rows bytes (Fault number place) tokens_after rows_after bytes_after =
+    Same tokens rows bytes tokens_after rows_after bytes_after
     × ((w : Total) → Gathers known text w g tokens rows bytes → w.fault ≡ refusal number place) × (place < length text)
 
-pub record Steps (known : Known) (text : List ℕ) (g : Gathered) (tokens rows bytes : List ℕ) (r : Stepped) (tokensAfter rowsAfter bytesAfter : List ℕ) : Type 0 where
-  pub gives : StepGives known text g tokens rows bytes r tokensAfter rowsAfter bytesAfter
+pub record Steps (known : Known) (text : List ℕ) (g : Gathered) (tokens rows bytes : List ℕ) (r : Stepped) (tokens_after rows_after bytes_after : List ℕ) : Type 0 where
+  pub gives : StepGives known text g tokens rows bytes r tokens_after rows_after bytes_after
 
 abbrev pub early_by : ℕ → ℕ → Lexed
 early_by number place = cond (ltb place 2048) (LexedFault number place) (LexedFault 15 2048)
 
 -- all that is gathered of a text without a fault, after the literals of a book
-pub record Holds (b : Book) (text : List ℕ) (g : Gathered) (tokens rows bytes tokensAfter rowsAfter bytesAfter : List ℕ) : Type 0 where
+pub record Holds (b : Book) (text : List ℕ) (g : Gathered) (tokens rows bytes tokens_after rows_after bytes_after : List ℕ) : Type 0 where
   pub faultless : fault_of b.known (literals_before b) text ≡ none
-  pub tokens_are : (total_of b text).tokens ≡ take g.tokens tokensAfter
-  pub rows_are : (total_of b text).rows ≡ take (g.literals * row_width) rowsAfter
-  pub bytes_are : (total_of b text).bytes ≡ take g.bytes bytesAfter
-  pub beyond : Beyond g tokens rows bytes tokensAfter rowsAfter bytesAfter
+  pub tokens_are : (total_of b text).tokens ≡ take g.tokens tokens_after
+  pub rows_are : (total_of b text).rows ≡ take (g.literals * row_width) rows_after
+  pub bytes_are : (total_of b text).bytes ≡ take g.bytes bytes_after
+  pub beyond : Beyond g tokens rows bytes tokens_after rows_after bytes_after
   pub few_tokens : g.tokens ≤ 2048
   pub few_literals : g.literals ≤ 64
   pub few_bytes : g.bytes ≤ 6144
 
 -- A fault. Free: `gathered`, how far the text was gathered before it was found.
-pub record Stopped (b : Book) (text : List ℕ) (number place : ℕ) (tokens rows bytes tokensAfter rowsAfter bytesAfter : List ℕ) : Type 0 where
+pub record Stopped (b : Book) (text : List ℕ) (number place : ℕ) (tokens rows bytes tokens_after rows_after bytes_after : List ℕ) : Type 0 where
   pub faulty : fault_of b.known (literals_before b) text ≡ refusal number place
   pub gathered : Gathered
-  pub gathers : Gathers b.known text (total_of b text) gathered tokensAfter rowsAfter bytesAfter
-  pub beyond : Beyond gathered tokens rows bytes tokensAfter rowsAfter bytesAfter
+  pub gathers : Gathers b.known text (total_of b text) gathered tokens_after rows_after bytes_after
+  pub beyond : Beyond gathered tokens rows bytes tokens_after rows_after bytes_after
 
 abbrev pub LexedGives : Book → List ℕ → List ℕ → List ℕ → List ℕ → Lexed → List ℕ → List ℕ → List ℕ → Type 0
-LexedGives b text tokens rows bytes (Whole g) tokensAfter rowsAfter bytesAfter = Holds b text g tokens rows bytes tokensAfter rowsAfter bytesAfter
-LexedGives b text tokens rows bytes (LexedFault number place) tokensAfter rowsAfter bytesAfter =
-    Stopped b text number place tokens rows bytes tokensAfter rowsAfter bytesAfter
+LexedGives b text tokens rows bytes (Whole g) tokens_after rows_after bytes_after = Holds b text g tokens rows bytes tokens_after rows_after bytes_after
+LexedGives b text tokens rows bytes (LexedFault number place) tokens_after rows_after bytes_after =
+    Stopped b text number place tokens rows bytes tokens_after rows_after bytes_after
 
-pub record Lexes (b : Book) (text tokens rows bytes : List ℕ) (r : Lexed) (tokensAfter rowsAfter bytesAfter : List ℕ) : Type 0 where
-  pub gives : LexedGives b text tokens rows bytes r tokensAfter rowsAfter bytesAfter
+pub record Lexes (b : Book) (text tokens rows bytes : List ℕ) (r : Lexed) (tokens_after rows_after bytes_after : List ℕ) : Type 0 where
+  pub gives : LexedGives b text tokens rows bytes r tokens_after rows_after bytes_after

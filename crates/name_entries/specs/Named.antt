@@ -85,12 +85,12 @@ pub record Held (text : List ℕ) (item : Rules.Row) (start : Bool) (ss : List S
 
 -- What every entry leaves, with k literals before it: their notes and all from number 448 on as they were, and two zeros where the row will
 -- name the item and count the pairs. Free where the entry is not whole or passes a limit: the rest of the row, and the notes between.
-pub record Spared (k : ℕ) (notes rowLeft notesLeft : List ℕ) : Type 0 where
-  pub wide : length rowLeft ≡ name_width
-  pub unnamed : take 2 rowLeft ≡ 0 ∷ 0 ∷ []
-  pub long : length notesLeft ≡ length notes
-  pub counted : take (k * 7) notesLeft ≡ take (k * 7) notes
-  pub beyond : drop 448 notesLeft ≡ drop 448 notes
+pub record Spared (k : ℕ) (notes row_left notes_left : List ℕ) : Type 0 where
+  pub wide : length row_left ≡ name_width
+  pub unnamed : take 2 row_left ≡ 0 ∷ 0 ∷ []
+  pub long : length notes_left ≡ length notes
+  pub counted : take (k * 7) notes_left ≡ take (k * 7) notes
+  pub beyond : drop 448 notes_left ≡ drop 448 notes
 
 abbrev pub ReadAs : List ℕ → ℕ → List Value → NameRead → Type 0
 ReadAs text n vs (Whole t e) = (h : Naming) (p : ℕ) → joined text n (values h p [] none) ≡ joined text e (labelled h p vs)
@@ -98,25 +98,25 @@ ReadAs text n vs (Fault k) = (h : Naming) (p : ℕ) → joined text n (values h 
 
 -- where no limit is passed, the notes after those that `Held` tells are as they were
 abbrev pub HeldBy : List ℕ → ℕ → Rules.Row → Tally → List ℕ → List Value → NameRead → List ℕ → List ℕ → Type 0
-HeldBy text n item start notes vs (Whole t e) rowLeft notesLeft =
-    (e ≤ length text) × (n < e) × ((ss : List Span) → (start.over ≡ false → Noted text notes start ss) → Held text item start.over ss vs t rowLeft notesLeft)
-    × (t.over ≡ false → drop (t.literals * 7) notesLeft ≡ drop (t.literals * 7) notes)
-HeldBy text n item start notes vs (Fault k) rowLeft notesLeft = Unit {0}
+HeldBy text n item start notes vs (Whole t e) row_left notes_left =
+    (e ≤ length text) × (n < e) × ((ss : List Span) → (start.over ≡ false → Noted text notes start ss) → Held text item start.over ss vs t row_left notes_left)
+    × (t.over ≡ false → drop (t.literals * 7) notes_left ≡ drop (t.literals * 7) notes)
+HeldBy text n item start notes vs (Fault k) row_left notes_left = Unit {0}
 
 -- The values of an entry, from n on.
-pub record ValuesBy (text : List ℕ) (n : ℕ) (item : Rules.Row) (start : Tally) (notes : List ℕ) (r : NameRead) (rowLeft notesLeft : List ℕ) : Type 0 where
+pub record ValuesBy (text : List ℕ) (n : ℕ) (item : Rules.Row) (start : Tally) (notes : List ℕ) (r : NameRead) (row_left notes_left : List ℕ) : Type 0 where
   pub values : List Value
   pub reads : ReadAs text n values r
-  pub held : HeldBy text n item start notes values r rowLeft notesLeft
-  pub spared : Spared start.literals notes rowLeft notesLeft
+  pub held : HeldBy text n item start notes values r row_left notes_left
+  pub spared : Spared start.literals notes row_left notes_left
 
 -- A whole entry, whose level number stands before n.
 abbrev pub LabelledAs : List ℕ → ℕ → List Value → NameRead → Type 0
 LabelledAs text n vs (Whole t e) = (h : Naming) → joined text n (label h) ≡ joined text e (labelled h (inked text n) vs)
 LabelledAs text n vs (Fault k) = (h : Naming) → joined text n (label h) ≡ faulty h.earlier k
 
-pub record NamedBy (text : List ℕ) (n : ℕ) (item : Rules.Row) (start : Tally) (notes : List ℕ) (r : NameRead) (rowLeft notesLeft : List ℕ) : Type 0 where
+pub record NamedBy (text : List ℕ) (n : ℕ) (item : Rules.Row) (start : Tally) (notes : List ℕ) (r : NameRead) (row_left notes_left : List ℕ) : Type 0 where
   pub values : List Value
   pub reads : LabelledAs text n values r
-  pub held : HeldBy text n item start notes values r rowLeft notesLeft
-  pub spared : Spared start.literals notes rowLeft notesLeft
+  pub held : HeldBy text n item start notes values r row_left notes_left
+  pub spared : Spared start.literals notes row_left notes_left

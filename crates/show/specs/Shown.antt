@@ -14,30 +14,30 @@ use Rattle.rules.specs.Demands.{Accepted, rules_answer}
 
 -- The plan of the expanded form that was counted; without one its refusal, and an unchanged output.
 abbrev pub Replans : Lent → List ℕ → Written → List ℕ → Written → List ℕ → Type 0
-Replans lent second (Count n) formAfter again secondAfter = Leaves (plan_gives lent (take n formAfter) second) again secondAfter
-Replans lent second (Unwritten refusal) formAfter again secondAfter = (again ≡ Unwritten refusal) × (secondAfter ≡ second)
+Replans lent second (Count n) form_after again second_after = Leaves (plan_gives lent (take n form_after) second) again second_after
+Replans lent second (Unwritten refusal) form_after again second_after = (again ≡ Unwritten refusal) × (second_after ≡ second)
 
 module _ (lent : Lent) (tokens content : List ℕ) (switches : ℕ) (rows form second : List ℕ) where
   -- The plan counted so many numbers, which stand in its output, and was run; the tokens were expanded, and the expanded form was
   -- planned into the second output.
-  pub record ShownCalls (count : ℕ) (judged : Judged) (formed again : Written) (rowsAfter formAfter secondAfter : List ℕ) : Type 0 where
+  pub record ShownCalls (count : ℕ) (judged : Judged) (formed again : Written) (rows_after form_after second_after : List ℕ) : Type 0 where
     -- what each writing call gave, with every number of its output
-    pub plan : Leaves (plan_gives lent tokens rows) (Count count) rowsAfter
-    pub expand : Leaves (expand_gives lent tokens form) formed formAfter
-    pub replan : Replans lent second formed formAfter again secondAfter
+    pub plan : Leaves (plan_gives lent tokens rows) (Count count) rows_after
+    pub expand : Leaves (expand_gives lent tokens form) formed form_after
+    pub replan : Replans lent second formed form_after again second_after
     -- demand 3 of it
     pub tree : Tree
     pub accepted : Accepted lent tokens tree
     pub counts : count ≡ length (planned tree)
-    pub plans : take count rowsAfter ≡ planned tree
+    pub plans : take count rows_after ≡ planned tree
     pub runs : judged ≡ rules_answer lent content switches tree
     pub expands : length (expanded tree) ≤ length form →
-        (formed ≡ Count (length (expanded tree))) × (take (length (expanded tree)) formAfter ≡ expanded tree)
+        (formed ≡ Count (length (expanded tree))) × (take (length (expanded tree)) form_after ≡ expanded tree)
     pub plans_again : length (expanded tree) ≤ length form → length (expanded tree) ≤ 256 → count ≤ length second →
-        (again ≡ Count count) × (take count secondAfter ≡ take count rowsAfter)
+        (again ≡ Count count) × (take count second_after ≡ take count rows_after)
 
   abbrev pub Shows : Shown → List ℕ → List ℕ → List ℕ → Type 0
-  Shows (Refused refusal) rowsAfter formAfter secondAfter =
-      Leaves (plan_gives lent tokens rows) (Unwritten refusal) rowsAfter × (formAfter ≡ form) × (secondAfter ≡ second)
-  Shows (Calls count judged formed again) rowsAfter formAfter secondAfter =
-      ShownCalls count judged formed again rowsAfter formAfter secondAfter
+  Shows (Refused refusal) rows_after form_after second_after =
+      Leaves (plan_gives lent tokens rows) (Unwritten refusal) rows_after × (form_after ≡ form) × (second_after ≡ second)
+  Shows (Calls count judged formed again) rows_after form_after second_after =
+      ShownCalls count judged formed again rows_after form_after second_after

@@ -155,11 +155,11 @@ module _ (tokens : List ℕ) (at : ℕ) {x : ℕ} (e : x ≡ tok tokens at) wher
   pub at_name : (c : Carry) → Is name x → parse_simple c (drop at tokens) ≡ parsed (simple x 0 0) nothing (drop (at + 1) tokens)
   at_name c i = simp (look tokens at e i tt)
 
-  module _ (c : Carried) (no_Operand : ¬ Is operand x) (no_switch : ¬ Is switch x) (no_name : ¬ Is name x) where
+  module _ (c : Carried) (no_operand : ¬ Is operand x) (no_switch : ¬ Is switch x) (no_name : ¬ Is name x) where
     at_word : parse_simple (carry_of c) (drop at tokens) ≡ short_bounded (carry_of c) (drop at tokens)
     at_word =
         rw (
-          pass_on tokens at e {k = operand} no_Operand,
+          pass_on tokens at e {k = operand} no_operand,
           pass_on tokens at e {k = switch} no_switch,
           pass_on tokens at e {k = name} no_name,
         )

@@ -15,7 +15,7 @@ use Rattle.description.specs.Limits.{Outcome, table, refusal as undescribed, des
 use Rattle.spelling.specs.Names.{Known, Book, book_of}
 use Rattle.spelling.specs.Reading.{Placed, pieces_from, placed, pieces, Found, none, refusal, first_fault, or_too_long, fault_of, tokens_from}
 use Rattle.spelling.specs.Reading.{rows_from, bytes_of, literals_before, tokens_of, Reading, read, refused, result, reading, read_after}
-use Rattle.spelling.specs.Printing.{word_of, line, printed, print_fault, print_result, printing, print_after, text as printedText}
+use Rattle.spelling.specs.Printing.{word_of, line, printed, print_fault, print_result, printing, print_after, text as printed_text}
 use Rattle.spelling.specs.RoundTrip.{PrintedAgain, RoundTrip}
 use Rattle.spelling.proofs.Cutting.{AllStand, cut_line}
 use Rattle.spelling.proofs.Joining.{Means, Spelt, none as spelt-none, more, read_again}
@@ -155,7 +155,7 @@ module _ (b : Book) (K : Kept b) where
         ap (reading b) p ∙ again text r.faultless g ∙ e
 
     -- the printer refuses nothing that was read
-    not_refused : printing known rows bytes tokens ≡ printedText (printed known rows bytes tokens)
+    not_refused : printing known rows bytes tokens ≡ printed_text (printed known rows bytes tokens)
     unfolding printing
     not_refused =
         let sound : print_fault known rows bytes tokens ≡ none = rw (r.rows_are, r.bytes_are, r.tokens_are) (no_refusal K ps c f r.counted) in

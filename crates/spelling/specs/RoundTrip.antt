@@ -7,12 +7,12 @@ use Rattle.tables.specs.Tables.{literal_table_check, literal_row_check, token_co
 use Rattle.description.specs.Grammar.{Table}
 use Rattle.description.specs.Limits.{table, describe}
 use Rattle.spelling.specs.Reading.{Reading, read, read_condition}
-use Rattle.spelling.specs.Printing.{Print, print_condition, text as printedText}
+use Rattle.spelling.specs.Printing.{Print, print_condition, text as printed_text}
 
 pub record PrintedAgain (description tokens rows bytes : List ℕ) : Type 0 where
   -- the printer refuses nothing that was read
   pub printed : List ℕ
-  pub prints : print_condition description rows bytes tokens ≡ printedText printed
+  pub prints : print_condition description rows bytes tokens ≡ printed_text printed
   -- and what it writes is read as before
   pub reads : length printed ≤ 2048 → read_condition description printed ≡ read tokens rows bytes
 

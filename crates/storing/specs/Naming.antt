@@ -66,15 +66,15 @@ pub record Kept (text : List ℕ) (es : List Entry) (cs : List Condition) (s : N
   pub items : Items (length es) cs
 
 -- What private functions promise. A name's row and its place:
-pub record NameStored (i item values named : ℕ) (rows places row rowsAfter placesAfter row_after : List ℕ) : Type 0 where
+pub record NameStored (i item values named : ℕ) (rows places row rows_after places_after row_after : List ℕ) : Type 0 where
   pub is : row_after ≡ item ∷ values ∷ drop 2 row
-  pub stored : rowsAfter ≡ sets rows (i * name_width) row_after
-  pub placed : placesAfter ≡ set places i named
+  pub stored : rows_after ≡ sets rows (i * name_width) row_after
+  pub placed : places_after ≡ set places i named
 
 -- An entry that is not whole or passes a limit: no name more. Free is what `Spared` leaves free of the row and the notes.
-pub record NotStored (s : Names) (rows places notes rowsAfter placesAfter notes_after row_after : List ℕ) : Type 0 where
-  pub named : rowsAfter ≡ rows
-  pub placed : placesAfter ≡ places
+pub record NotStored (s : Names) (rows places notes rows_after places_after notes_after row_after : List ℕ) : Type 0 where
+  pub named : rows_after ≡ rows
+  pub placed : places_after ≡ places
   pub spared : Spared s.literals notes row_after notes_after
 
 pub record NameReady (text : List ℕ) (p : ℕ) (flat : List ℕ) (count : ℕ) (s : Names) (rows places notes row : List ℕ) : Type 0 where
@@ -89,24 +89,24 @@ pub record NameReady (text : List ℕ) (p : ℕ) (flat : List ℕ) (count : ℕ)
 
 -- One entry more, judged with the item's own entry. Where it passes no limit, its row is stored and the notes after its own are as they were.
 pub record Stepped (text : List ℕ) (p : ℕ) (flat : List ℕ) (count : ℕ) (s : Names) (rows places notes : List ℕ) (vs : List Value) (r : Names)
-    (rowsAfter placesAfter notes_after row_after : List ℕ) : Type 0 where
+    (rows_after places_after notes_after row_after : List ℕ) : Type 0 where
   pub tallied : Tally
   pub row : List ℕ
   pub held : (ss : List Span) → (s.over || leb 64 s.count ≡ false → NotesHold text notes (start_of s) ss) →
       Held text (item_row (noted_at flat (count - 1))) (s.over || leb 64 s.count) ss vs tallied row notes_after
   pub is : r ≡ cond tallied.over (passed_by s p) (names false 0 (s.count + 1) tallied.literals tallied.bytes)
-  pub stored : tallied.over ≡ false → NameStored s.count (count - 1) tallied.values (inked text (p + 2)) rows places row rowsAfter placesAfter row_after
+  pub stored : tallied.over ≡ false → NameStored s.count (count - 1) tallied.values (inked text (p + 2)) rows places row rows_after places_after row_after
   pub beyond : tallied.over ≡ false → drop (tallied.literals * 7) notes_after ≡ drop (tallied.literals * 7) notes
-  pub passed : tallied.over ≡ true → NotStored s rows places notes rowsAfter placesAfter notes_after row_after
+  pub passed : tallied.over ≡ true → NotStored s rows places notes rows_after places_after notes_after row_after
 
 abbrev pub StepBy : List ℕ → ℕ → List ℕ → ℕ → Names → List ℕ → List ℕ → List ℕ → List Value → NameStep → List ℕ → List ℕ → List ℕ → List ℕ → Type 0
-StepBy text p flat count s rows places notes vs (Read r e) rowsAfter placesAfter notes_after row_after =
+StepBy text p flat count s rows places notes vs (Read r e) rows_after places_after notes_after row_after =
     ((h : Naming) → joined text (p + 2) (label h) ≡ joined text e (labelled h (inked text (p + 2)) vs)) × (e ≤ length text) × (p + 2 < e)
-    × Stepped text p flat count s rows places notes vs r rowsAfter placesAfter notes_after row_after
-StepBy text p flat count s rows places notes vs (Fault k) rowsAfter placesAfter notes_after row_after =
-    ((h : Naming) → joined text (p + 2) (label h) ≡ faulty h.earlier k) × NotStored s rows places notes rowsAfter placesAfter notes_after row_after
+    × Stepped text p flat count s rows places notes vs r rows_after places_after notes_after row_after
+StepBy text p flat count s rows places notes vs (Fault k) rows_after places_after notes_after row_after =
+    ((h : Naming) → joined text (p + 2) (label h) ≡ faulty h.earlier k) × NotStored s rows places notes rows_after places_after notes_after row_after
 
 pub record NameBy (text : List ℕ) (p : ℕ) (flat : List ℕ) (count : ℕ) (s : Names) (rows places notes : List ℕ) (r : NameStep)
-    (rowsAfter placesAfter notes_after row_after : List ℕ) : Type 0 where
+    (rows_after places_after notes_after row_after : List ℕ) : Type 0 where
   pub values : List Value
-  pub by : StepBy text p flat count s rows places notes values r rowsAfter placesAfter notes_after row_after
+  pub by : StepBy text p flat count s rows places notes values r rows_after places_after notes_after row_after

@@ -31,11 +31,11 @@ pub record ReadBy (text : List ℕ) (is : Reading) (flat rows places notes : Lis
 
 -- What is not counted is as it was. Free: the stack as far as there are entries; the row; and where the text is no description or a limit is
 -- passed, the notes from those counted on to number 448.
-pub record Beyond (r : Found) (flat stack rows places notes flatLeft stackLeft rowsLeft placesLeft notesLeft rowLeft : List ℕ) : Type 0 where
-  pub entries : drop (r.count * 7) flatLeft ≡ drop (r.count * 7) flat
-  pub groups : drop r.count stackLeft ≡ drop r.count stack
-  pub names : drop (r.names.count * name_width) rowsLeft ≡ drop (r.names.count * name_width) rows
-  pub placed : drop r.names.count placesLeft ≡ drop r.names.count places
-  pub noted : drop 448 notesLeft ≡ drop 448 notes
-  pub literals : r.whole ≡ true → r.names.over ≡ false → drop (r.names.literals * 7) notesLeft ≡ drop (r.names.literals * 7) notes
-  pub row : length rowLeft ≡ name_width
+pub record Beyond (r : Found) (flat stack rows places notes flat_left stack_left rows_left places_left notes_left row_left : List ℕ) : Type 0 where
+  pub entries : drop (r.count * 7) flat_left ≡ drop (r.count * 7) flat
+  pub groups : drop r.count stack_left ≡ drop r.count stack
+  pub names : drop (r.names.count * name_width) rows_left ≡ drop (r.names.count * name_width) rows
+  pub placed : drop r.names.count places_left ≡ drop r.names.count places
+  pub noted : drop 448 notes_left ≡ drop 448 notes
+  pub literals : r.whole ≡ true → r.names.over ≡ false → drop (r.names.literals * 7) notes_left ≡ drop (r.names.literals * 7) notes
+  pub row : length row_left ≡ name_width

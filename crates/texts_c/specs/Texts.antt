@@ -10,12 +10,12 @@ use Rattle.text_answers.specs.Texts.{read_numbers}
 use Rattle.print_answers.specs.Prints.{print_numbers}
 
 -- what the library's calls give, told
-pub record Reads (description condition tokens literals bytes : List ℕ) (returned : ℕ) (answer tokensAfter literalsAfter bytesAfter : List ℕ) : Type 0 where
+pub record Reads (description condition tokens literals bytes : List ℕ) (returned : ℕ) (answer tokens_after literals_after bytes_after : List ℕ) : Type 0 where
   pub given : Recognized
-  pub reads : ReadAs (read_condition description condition) tokens literals bytes given tokensAfter literalsAfter bytesAfter
+  pub reads : ReadAs (read_condition description condition) tokens literals bytes given tokens_after literals_after bytes_after
   pub told : Told (read_number given) (read_numbers given) returned answer
 
-pub record Prints (description literals bytes tokens text : List ℕ) (returned : ℕ) (answer textAfter : List ℕ) : Type 0 where
+pub record Prints (description literals bytes tokens text : List ℕ) (returned : ℕ) (answer text_after : List ℕ) : Type 0 where
   pub given : Printed
-  pub prints : PrintedAs (print_condition description literals bytes tokens) text given textAfter
+  pub prints : PrintedAs (print_condition description literals bytes tokens) text given text_after
   pub told : Told (print_number given) (print_numbers given) returned answer

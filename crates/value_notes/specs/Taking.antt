@@ -56,12 +56,12 @@ is_barred (Single low) = false
 is_barred (Range low high) = false
 
 -- A value is taken: it passes a limit, or it is stored.
-pub record Takes (w : Weighed) (f : Found) (t : Tally) (row notes : List ℕ) (r : Tally) (rowLeft notesLeft : List ℕ) : Type 0 where
+pub record Takes (w : Weighed) (f : Found) (t : Tally) (row notes : List ℕ) (r : Tally) (row_left notes_left : List ℕ) : Type 0 where
   pub over : r.over ≡ is_barred w || full t (wants w)
   pub tallied : r.over ≡ false → r ≡ tally_after w t
-  pub paired : r.over ≡ false → rowLeft ≡ row_after w t row
-  pub noted : r.over ≡ false → notesLeft ≡ notes_after w f t notes
-  pub passed : r.over ≡ true → (r ≡ tally true t.values t.literals t.bytes) × (rowLeft ≡ row) × (notesLeft ≡ notes)
+  pub paired : r.over ≡ false → row_left ≡ row_after w t row
+  pub noted : r.over ≡ false → notes_left ≡ notes_after w f t notes
+  pub passed : r.over ≡ true → (r ≡ tally true t.values t.literals t.bytes) × (row_left ≡ row) × (notes_left ≡ notes)
 
 -- no literal has more than 256 bytes
 abbrev pub Small : Weighed → Type 0

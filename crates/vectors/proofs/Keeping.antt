@@ -14,7 +14,7 @@ use Rattle.rules.proofs.Passing.{few_tokens, passes_again}
 use Rattle.rules.proofs.Answers.{writes-over, judges-as, runs_as}
 use Rattle.rules.proofs.Demands.{counted, count_is, numbers_are}
 use Rattle.vectors.specs.declared.answer.Answer.{Answer}
-use Rattle.vectors.specs.Answers.{judgedAs, sameAnswer}
+use Rattle.vectors.specs.Answers.{judged_as, same_answer}
 use Rattle.vectors.specs.Parts.{lent_in, tokens_in, switches_in, words_of, Decodes, Held}
 use Rattle.vectors.specs.Sums.{SameNumbers}
 use Rattle.vectors.specs.Kept.{zeros, HasPlan, FormHasPlan, Kept}
@@ -51,12 +51,12 @@ module _ {lent : Lent} {tokens rows : List ℕ} {given : Written} {out : List �
   pub none_formed : {refusal : Refusal} → given ≡ Refused refusal → false ≡ true
   none_formed q = none_written L F.form q F.expands
 
-same_self : (a : Answer) → sameAnswer a a ≡ true
+same_self : (a : Answer) → same_answer a a ≡ true
 same_self a =
     rw (eq-eqb a.number a.number refl, eq-eqb a.value a.value refl, eq-eqb a.byte a.byte refl, eq-eqb a.judged a.judged refl)
 
-pub same-judged : {ran judged : Judged} {r : Bool} → r ≡ sameAnswer (judgedAs ran) (judgedAs judged) → ran ≡ judged → r ≡ true
-same-judged {ran} {judged} e q = e ∙ ap (λ (j : Judged). sameAnswer (judgedAs ran) (judgedAs j)) (sym q) ∙ same_self (judgedAs ran)
+pub same-judged : {ran judged : Judged} {r : Bool} → r ≡ same_answer (judged_as ran) (judged_as judged) → ran ≡ judged → r ≡ true
+same-judged {ran} {judged} e q = e ∙ ap (λ (j : Judged). same_answer (judged_as ran) (judged_as j)) (sym q) ∙ same_self (judged_as ran)
 
 module _ (words bytes content : List ℕ) {given : Written} {out : List ℕ} {n : ℕ} (L : Leaves (plan_gives (lent_in words bytes) (tokens_in words) zeros) given out)
     (q : given ≡ Count n) where

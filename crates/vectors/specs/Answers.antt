@@ -15,18 +15,18 @@ answer n v b c = record { number = n; value = v; byte = b; judged = c }
 abbrev pub refused_as : Refusal → ℕ → Answer
 refused_as refusal judged = answer (number refusal) (place refusal) (byte_of refusal) judged
 
-abbrev pub writtenAs : Written → Answer
-writtenAs (Count n) = answer 0 n 0 0
-writtenAs (Unwritten refusal) = refused_as refusal 0
+abbrev pub written_as : Written → Answer
+written_as (Count n) = answer 0 n 0 0
+written_as (Unwritten refusal) = refused_as refusal 0
 
-abbrev pub verdictAs : Verdict → ℕ → Answer
-verdictAs True judged = answer 0 1 0 judged
-verdictAs False judged = answer 0 0 0 judged
-verdictAs (Unjudged refusal) judged = refused_as refusal judged
+abbrev pub verdict_as : Verdict → ℕ → Answer
+verdict_as True judged = answer 0 1 0 judged
+verdict_as False judged = answer 0 0 0 judged
+verdict_as (Unjudged refusal) judged = refused_as refusal judged
 
-abbrev pub judgedAs : Judged → Answer
-judgedAs given = verdictAs given.verdict given.count
+abbrev pub judged_as : Judged → Answer
+judged_as given = verdict_as given.verdict given.count
 
-abbrev pub sameAnswer : Answer → Answer → Bool
-sameAnswer one other =
+abbrev pub same_answer : Answer → Answer → Bool
+same_answer one other =
     ((one.number == other.number && one.value == other.value) && one.byte == other.byte) && one.judged == other.judged

@@ -1,6 +1,6 @@
 // An answer as numbers.
 ghost use Rattle.std.specs.Prelude.{◌≡◌};
-ghost use Rattle.vectors.specs.Answers.{refused_as, writtenAs, judgedAs, sameAnswer};
+ghost use Rattle.vectors.specs.Answers.{refused_as, written_as, judged_as, same_answer};
 
 use refusal_numbers::{byte_of, number_of, place_of};
 use tables::{Judged, Refusal, Verdict, Written};
@@ -26,7 +26,7 @@ fn of_refusal(refusal: Refusal, judged: usize) -> Answer
 }
 
 pub(crate) fn of_written(given: Written) -> Answer
-    ensures { result ≡ writtenAs given }
+    ensures { result ≡ written_as given }
 {
     match given {
         Written::Count(n) => Answer {
@@ -40,7 +40,7 @@ pub(crate) fn of_written(given: Written) -> Answer
 }
 
 pub(crate) fn of_judged(given: Judged) -> Answer
-    ensures { result ≡ judgedAs given }
+    ensures { result ≡ judged_as given }
 {
     let verdict = given.verdict;
     let judged = given.count;
@@ -62,7 +62,7 @@ pub(crate) fn of_judged(given: Judged) -> Answer
 }
 
 pub(crate) fn same(one: Answer, other: Answer) -> bool
-    ensures { result ≡ sameAnswer one other }
+    ensures { result ≡ same_answer one other }
 {
     (one.number == other.number)
         & (one.value == other.value)

@@ -28,7 +28,7 @@ use Rattle.grammar.specs.Plan.{on_true, on_false, plan_row, plan_rows, reached, 
 use Rattle.grammar.proofs.Sure.{Later, some-rows}
 use Rattle.grammar.proofs.Segment.{reached-row, reached_true, reached_false}
 use Rattle.items.specs.Items.{listed}
-use Rattle.items.specs.Lines.{room_check as roomBy}
+use Rattle.items.specs.Lines.{room_check as room_by}
 use Rattle.items.proofs.Facts.{room_fact}
 use Rattle.items.proofs.Listing.{listed_none, listed_more, count_more}
 use Rattle.rules.specs.Calls.{room_check, writes, Leaves}
@@ -81,9 +81,9 @@ module _ (marks : List ℕ) (v : ℕ) where
   count_one n = let l = ap length (entry_one n) in omega (arith, count_more (marked_row marks) v)
 
 -- numbers that are given where the output has room for them
-module _ (numbers output : List ℕ) {needed : ℕ} (n : needed ≡ length numbers) {line : Check} (r : line ≡ roomBy needed (length output)) where
+module _ (numbers output : List ℕ) {needed : ℕ} (n : needed ≡ length numbers) {line : Check} (r : line ≡ room_by needed (length output)) where
   is_room : line ≡ room_check numbers output
-  is_room = r ∙ ap (λ k. roomBy k (length output)) n
+  is_room = r ∙ ap (λ k. room_by k (length output)) n
 
   pub given_refused : {refusal : Refusal} → line ≡ Refused refusal → Leaves (writes (room_check numbers output) numbers output) (Unwritten refusal) output
   given_refused e = rw (sym is_room ∙ e) (record { answered = refl; left = refl })
