@@ -20,7 +20,7 @@ use Rattle.grammar.proofs.Lent.{plan-lent}
 use Rattle.rules.specs.Numbers.{of_verdict}
 use Rattle.rules.specs.Calls.{told, judge_gives, run_gives}
 use Rattle.rules.proofs.Passing.{tables_pass}
-use Rattle.rules.proofs.Answers.{judges-as, plan-passes, run-judges, after-tables, after-plan}
+use Rattle.rules.proofs.Answers.{judges_as, plan-passes, run_judges, after_tables, after-plan}
 use Rattle.resolver.specs.declared.Prepared.{Prepared}
 use Rattle.resolver.specs.declared.Prepared.TheVariants.{Rows, Refused as Unprepared}
 use Rattle.preparer.specs.Prepared.{Prepares}
@@ -43,7 +43,7 @@ module _ (items literals bytes names plan content : List ℕ) (t : first_of (len
 
   pub plan_refuses : (switches : ℕ) {refusal : Refusal} → plan_check (lend_names items literals [] names) plan ≡ Refused refusal →
       none refusal ≡ run_gives (lend_names items literals bytes names) plan content switches
-  plan_refuses switches e = sym (ap told (after-tables (lend_names items literals bytes names) plan content switches t) ∙ rw (line_refused _ (plan_line_lem e)))
+  plan_refuses switches e = sym (ap told (after_tables (lend_names items literals bytes names) plan content switches t) ∙ rw (line_refused _ (plan_line_lem e)))
 
   pub run_record_refuses : (switches : ℕ) → plan_check (lend_names items literals [] names) plan ≡ Sound → {refusal : Refusal} →
       record_check (lend_names items literals bytes names) content ≡ Refused refusal → none refusal ≡ run_gives (lend_names items literals bytes names) plan content switches
@@ -66,7 +66,7 @@ module _ {lent : Lent} {tokens : List ℕ} {r : Prepared} {before after : List �
 module _ {lent : Lent} {tokens : List ℕ} {r : Prepared} {before after : List ℕ} (p : Prepares lent tokens r before after) {count : ℕ} (e : r ≡ Rows count) where
   pub judge_record_refuses : (content : List ℕ) (switches : ℕ) {refusal : Refusal} → record_check lent content ≡ Refused refusal →
       none refusal ≡ judge_gives lent tokens content switches
-  judge_record_refuses content switches h = sym (ap told (judges-as (ready p e).passes content switches) ∙ rw h)
+  judge_record_refuses content switches h = sym (ap told (judges_as (ready p e).passes content switches) ∙ rw h)
 
   pub rows_runnable : (content : List ℕ) → record_check lent content ≡ Sound → Runnable lent (take (count * 5) after) content
   rows_runnable content h = let y = ready p e in rw y.rows (record { tables = tables_pass y.passes; sound = plan-passes y.passes; holds = h })
@@ -77,5 +77,5 @@ module _ {lent : Lent} {tokens : List ℕ} {r : Prepared} {before after : List �
       let y = ready p e in
       w
       ∙ ap (λ plan. told (running (outcome lent content switches) plan)) y.rows
-      ∙ ap told (run-judges y.passes content switches)
-      ∙ sym (ap told (judges-as y.passes content switches) ∙ rw h)
+      ∙ ap told (run_judges y.passes content switches)
+      ∙ sym (ap told (judges_as y.passes content switches) ∙ rw h)

@@ -53,8 +53,8 @@ smallest_of text w es cs p s e f =
     least_of (parts es cs) r.0 r.1 ∙ ap (sooner (F.first_over (item_marks 0 es (layout 0 es)))) f
 
 module _ (text flat named spots notes : List ℕ) (r : Found) where
-  within-short : length text ≤ 4096 → ReadBy text (read_text text) flat named spots notes r → ReadsWithin text flat named spots notes r
-  within-short l R =
+  within_short : length text ≤ 4096 → ReadBy text (read_text text) flat named spots notes r → ReadsWithin text flat named spots notes r
+  within_short l R =
       record {
         exact = R.exact;
         conditions = R.conditions;
@@ -67,12 +67,12 @@ module _ (text flat named spots notes : List ℕ) (r : Found) where
       }
 
   module _ (l : 4096 < length text) (R : ReadBy (take 4096 text) (read_text (take 4096 text)) flat named spots notes r) where
-    abbrev least-there : least (marks (parts (map entry_of R.exact) R.conditions))
+    abbrev least_there : least (marks (parts (map entry_of R.exact) R.conditions))
         ≡ sooner (F.first_over (item_marks 0 (map entry_of R.exact) (layout 0 (map entry_of R.exact)))) (limit_of r.names)
-    least-there = smallest_of (take 4096 text) r.whole (map entry_of R.exact) R.conditions r.place r.names R.reading R.limit
+    least_there = smallest_of (take 4096 text) r.whole (map entry_of R.exact) R.conditions r.place r.names R.reading R.limit
 
-    within-long : r.whole ≡ false → ReadsWithin text flat named spots notes r
-    within-long w =
+    within_long : r.whole ≡ false → ReadsWithin text flat named spots notes r
+    within_long w =
         record {
           exact = R.exact;
           conditions = R.conditions;
@@ -80,7 +80,7 @@ module _ (text flat named spots notes : List ℕ) (r : Found) where
           scaled = R.scaled;
           reading = rw (leb_no (length text) 4096 l, R.reading, w);
           few = R.few;
-          smallest = least-there;
+          smallest = least_there;
           stores = λ e o. apart e w;
         }
 
@@ -93,14 +93,14 @@ module _ (text flat named spots notes : List ℕ) (r : Found) where
           scaled = R.scaled;
           reading = rw (leb_no (length text) 4096 l, R.reading, w);
           few = R.few;
-          smallest = least-there;
+          smallest = least_there;
           stores = λ e o. apart e refl;
         }
 
   -- The bytes before 4,096 are read.
   module _ {e : ℕ} (m : e ≡ min (length text) 4096) (R : ReadBy (take e text) (read_text (take e text)) flat named spots notes r) where
-    pub within-whole : r.whole && ltb e (length text) ≡ true → ReadsWithin text flat named spots notes (record { count = r.count; whole = false; place = 4096; names = r.names })
-    within-whole g =
+    pub within_whole : r.whole && ltb e (length text) ≡ true → ReadsWithin text flat named spots notes (record { count = r.count; whole = false; place = 4096; names = r.names })
+    within_whole g =
         let l : 4096 < length text = over r.whole (ltb e (length text)) refl g in
         let i : e ≡ 4096 = omega arith in
         within-cut l (rw i at R) (left r.whole (ltb e (length text)) g)
@@ -114,8 +114,8 @@ module _ (text flat named spots notes : List ℕ) (r : Found) where
         over true false i h = apart refl (sym h)
         over false b i h = apart refl (sym h)
 
-    pub within-rest : r.whole && ltb e (length text) ≡ false → ReadsWithin text flat named spots notes r
-    within-rest g = by (leb (length text) 4096) refl
+    pub within_rest : r.whole && ltb e (length text) ≡ false → ReadsWithin text flat named spots notes r
+    within_rest g = by (leb (length text) 4096) refl
       where
         left : (a b : Bool) → b ≡ true → a && b ≡ false → a ≡ false
         left true b i h = apart i h
@@ -125,29 +125,29 @@ module _ (text flat named spots notes : List ℕ) (r : Found) where
         by true i =
             let l : length text ≤ 4096 = leb-true (length text) 4096 i in
             let k : take e text ≡ text = take_all e text (omega arith) in
-            within-short l (rw k at R)
+            within_short l (rw k at R)
         by false i =
             let l : 4096 < length text = leb-false (length text) 4096 i in
             let k : e ≡ 4096 = omega arith in
-            within-long l (rw k at R) (left r.whole (ltb e (length text)) (lt-ltb e (length text) (omega arith)) g)
+            within_long l (rw k at R) (left r.whole (ltb e (length text)) (lt-ltb e (length text) (omega arith)) g)
 
 -- The smaller of two places.
-pub sooner-none : (x : Laid) (s : Names) → s.over ≡ false → SoonerBy x s x
-sooner-none x s e = record { is = by x; fine = λ q. q }
+pub sooner_none : (x : Laid) (s : Names) → s.over ≡ false → SoonerBy x s x
+sooner_none x s e = record { is = by x; fine = λ q. q }
   where
     by : (x : Laid) → over_place x ≡ sooner (over_place x) (limit_of s)
     by (Over p) = rw e
     by Fine = rw e
 
 module _ (s : Names) (e : s.over ≡ true) where
-  pub sooner-item : {x : Laid} {p : ℕ} → x ≡ Over p → p ≤ s.place → SoonerBy x s (Over p)
-  sooner-item q l = record { is = rw (q, e, leb_so l); fine = λ i. let z : ◌≡◌ {A = ℕ} 0 1 = cc in absurd (omega arith) }
+  pub sooner_item : {x : Laid} {p : ℕ} → x ≡ Over p → p ≤ s.place → SoonerBy x s (Over p)
+  sooner_item q l = record { is = rw (q, e, leb_so l); fine = λ i. let z : ◌≡◌ {A = ℕ} 0 1 = cc in absurd (omega arith) }
 
-  pub sooner-name : {x : Laid} {p : ℕ} → x ≡ Over p → s.place < p → SoonerBy x s (Over s.place)
-  sooner-name {p = p} q l = record { is = rw (q, e, leb_no p s.place l); fine = λ i. let z : ◌≡◌ {A = ℕ} 0 1 = cc in absurd (omega arith) }
+  pub sooner_name : {x : Laid} {p : ℕ} → x ≡ Over p → s.place < p → SoonerBy x s (Over s.place)
+  sooner_name {p = p} q l = record { is = rw (q, e, leb_no p s.place l); fine = λ i. let z : ◌≡◌ {A = ℕ} 0 1 = cc in absurd (omega arith) }
 
-  pub sooner-only : {x : Laid} → x ≡ Fine → SoonerBy x s (Over s.place)
-  sooner-only q = record { is = rw (q, e); fine = λ i. let z : ◌≡◌ {A = ℕ} 0 1 = cc in absurd (omega arith) }
+  pub sooner_only : {x : Laid} → x ≡ Fine → SoonerBy x s (Over s.place)
+  sooner_only q = record { is = rw (q, e); fine = λ i. let z : ◌≡◌ {A = ℕ} 0 1 = cc in absurd (omega arith) }
 
 judged_whole : (w : Bool) (d : Parts) (p : ℕ) → w ≡ true → least (marks d) ≡ none → judged (reading_of w d p) ≡ table (table_of d)
 judged_whole w d p h k = rw (h, k)
@@ -164,19 +164,19 @@ module _ (text flat named spots notes laid : List ℕ) (r : Found) (R : ReadsWit
   abbrev d : Parts
   d = parts (map entry_of ys) R.conditions
 
-  entries-are : entries_in flat 0 r.count ≡ map entry_of (map cap_noted ys)
-  entries-are = let z : r.count - 0 ≡ r.count = omega arith in rw (z, R.held)
+  entries_are : entries_in flat 0 r.count ≡ map entry_of (map cap_noted ys)
+  entries_are = let z : r.count - 0 ≡ r.count = omega arith in rw (z, R.held)
 
   limit_is : first_over 0 (map entry_of ys) (layout 0 (map entry_of ys)) ≡ over_place x
-  limit_is = first_caps 0 0 0 ys refl ∙ rw entries-are at L.limit
+  limit_is = first_caps 0 0 0 ys refl ∙ rw entries_are at L.limit
 
-  least-is : least (marks d) ≡ over_place z
-  least-is = R.smallest ∙ rw (first_marks 0 (map entry_of ys) (layout 0 (map entry_of ys)), limit_is) (sym B.is)
+  least_is : least (marks d) ≡ over_place z
+  least_is = R.smallest ∙ rw (first_marks 0 (map entry_of ys) (layout 0 (map entry_of ys)), limit_is) (sym B.is)
 
   module _ (rows places names name-places literals bytes : List ℕ) where
-    faulty-answer : {p : ℕ} → Limits.describe text ≡ refusal p →
+    faulty_answer : {p : ℕ} → Limits.describe text ≡ refusal p →
         DescribedBy text rows places names name-places literals bytes (Faulty p) rows places names name-places literals bytes
-    faulty-answer e =
+    faulty_answer e =
         record {
           answered = rw e;
           rows_written = refl;
@@ -188,20 +188,20 @@ module _ (text flat named spots notes laid : List ℕ) (r : Found) (R : ReadsWit
         }
 
     pub answers-over : {p : ℕ} → z ≡ Over p → DescribedBy text rows places names name-places literals bytes (Faulty p) rows places names name-places literals bytes
-    answers-over {p} e = faulty-answer (ap judged R.reading ∙ by r.whole)
+    answers-over {p} e = faulty_answer (ap judged R.reading ∙ by r.whole)
       where
         i : least (marks d) ≡ some p
-        i = least-is ∙ ap over_place e
+        i = least_is ∙ ap over_place e
 
         by : (w : Bool) → judged (reading_of w d r.place) ≡ refusal p
         by true = rw i
         by false = rw i
 
-    pub answers-faulty : z ≡ Fine → r.whole ≡ false →
+    pub answers_faulty : z ≡ Fine → r.whole ≡ false →
         DescribedBy text rows places names name-places literals bytes (Faulty r.place) rows places names name-places literals bytes
-    answers-faulty e w =
-        let i : least (marks d) ≡ none = least-is ∙ ap over_place e in
-        faulty-answer (ap judged R.reading ∙ judged_faulty r.whole d r.place w i)
+    answers_faulty e w =
+        let i : least (marks d) ≡ none = least_is ∙ ap over_place e in
+        faulty_answer (ap judged R.reading ∙ judged_faulty r.whole d r.place w i)
 
   module _ (e : z ≡ Fine) (w : r.whole ≡ true) where
     item_fine : x ≡ Fine
@@ -210,25 +210,25 @@ module _ (text flat named spots notes laid : List ℕ) (r : Found) (R : ReadsWit
     none_over : first_over 0 (map entry_of ys) (layout 0 (map entry_of ys)) ≡ none
     none_over = limit_is ∙ ap over_place item_fine
 
-    name-fine : r.names.over ≡ false
-    name-fine = by r.names.over (sym (B.is ∙ ap (λ (y : Laid). sooner (over_place y) (limit_of r.names)) item_fine) ∙ ap over_place e)
+    name_fine : r.names.over ≡ false
+    name_fine = by r.names.over (sym (B.is ∙ ap (λ (y : Laid). sooner (over_place y) (limit_of r.names)) item_fine) ∙ ap over_place e)
       where
         by : (t : Bool) → cond t (some r.names.place) none ≡ none → t ≡ false
         by true i = let z : ◌≡◌ {A = ℕ} 0 1 = cc in absurd (omega arith)
         by false i = refl
 
     abbrev stored : Stores text R.conditions r.names named spots notes
-    stored = R.stores w name-fine
+    stored = R.stores w name_fine
 
     abbrev t : Table
     t = table_of d
 
     described : Limits.describe text ≡ table t
-    described = let i : least (marks d) ≡ none = least-is ∙ ap over_place e in ap judged R.reading ∙ judged_whole r.whole d r.place w i
+    described = let i : least (marks d) ≡ none = least_is ∙ ap over_place e in ap judged R.reading ∙ judged_whole r.whole d r.place w i
 
     rows_are : rows_of t ≡ take (r.count * 5) laid
     rows_are =
-        let f : layout 0 (map entry_of ys) ≡ layout 0 (entries_in flat 0 r.count) = rows_same 0 0 ys R.scaled none_over ∙ ap (layout 0) (sym entries-are) in
+        let f : layout 0 (map entry_of ys) ≡ layout 0 (entries_in flat 0 r.count) = rows_same 0 0 ys R.scaled none_over ∙ ap (layout 0) (sym entries_are) in
         ap row_numbers f ∙ sym (all_laid flat r.count L item_fine)
 
     places_are : places_of t ≡ map named_of (noted_from flat 0 r.count)
@@ -248,8 +248,8 @@ module _ (text flat named spots notes laid : List ℕ) (r : Found) (R : ReadsWit
     bytes_are : t.bytes ≡ bytes_from text notes 0 r.names.literals
     bytes_are = ap literal_bytes (sym stored.valued) ∙ sym (bytes-noted text notes count stored.spans stored.noted)
 
-    bytes-sized : r.names.bytes ≡ length (bytes_from text notes 0 r.names.literals)
-    bytes-sized = stored.noted.sized ∙ ap length (sym (bytes-noted text notes count stored.spans stored.noted))
+    bytes_sized : r.names.bytes ≡ length (bytes_from text notes 0 r.names.literals)
+    bytes_sized = stored.noted.sized ∙ ap length (sym (bytes-noted text notes count stored.spans stored.noted))
 
     module _ (a : 5747 ≤ length flat) (b : 320 ≤ length laid) (c : 1152 ≤ length named) (f : 64 ≤ length spots) (g : 448 ≤ length notes) where
       pub ready : Ready text laid flat named spots notes r
@@ -263,7 +263,7 @@ module _ (text flat named spots notes laid : List ℕ) (r : Found) (R : ReadsWit
             few_names = stored.few;
             words = words-noted text notes count stored.spans stored.noted g;
             few_literals = stored.noted.few;
-            sized = bytes-sized;
+            sized = bytes_sized;
           }
 
       module _ {rows places names name-places literals bytes : List ℕ} {q : Described} {o1 o2 o3 o4 o5 o6 : List ℕ}
@@ -276,7 +276,7 @@ module _ (text flat named spots notes laid : List ℕ) (r : Found) (R : ReadsWit
             ap length (sym stored.named) ∙ length-take-le (r.names.count * 18) named ready.names in
             let n4 : length (name_places_of t) ≡ r.names.count = ap length (sym stored.placed) ∙ length-take-le r.names.count spots ready.places in
             let n5 : length (Calls.literals_of t) ≡ r.names.literals * 5 = ap length literals_are ∙ rows-length notes 0 r.names.literals in
-            let n6 : length t.bytes ≡ r.names.bytes = ap length bytes_are ∙ sym bytes-sized in
+            let n6 : length t.bytes ≡ r.names.bytes = ap length bytes_are ∙ sym bytes_sized in
             record {
               answered = rw (described, n1, n2, n3, n4, n5, n6) G.answered;
               rows_written = rw (described, rows_are) G.rows_written;

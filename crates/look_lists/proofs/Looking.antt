@@ -39,7 +39,7 @@ use Rattle.grammar.proofs.Lent.{plan-lent}
 use Rattle.rules.specs.Calls.{condition_lines, room_check, writes, Leaves, numbers_of, judge_walk, run_walk}
 use Rattle.rules.specs.Footprint.{rows_asked, footprint}
 use Rattle.rules.proofs.Passing.{after_lines_lem, both_sound, read_as, condition-passes, tables_pass}
-use Rattle.rules.proofs.Answers.{plan-passes, judges-as, run-judges}
+use Rattle.rules.proofs.Answers.{plan-passes, judges_as, run_judges}
 use Rattle.resolver.specs.declared.Prepared.{Prepared}
 use Rattle.resolver.specs.declared.Prepared.TheVariants.{Rows, Refused as Unprepared}
 use Rattle.preparer.specs.Prepared.{Prepares}
@@ -233,6 +233,6 @@ module _ {lent : Lent} {tokens : List ℕ} {r : Prepared} {before after : List �
     looked_listed c {last} {w} h =
         let y = ready p e in
         let walked : running (outcome lent content switches) (take (count * 5) after) ≡ judge_walk lent tokens content switches =
-        ap (running (outcome lent content switches)) y.rows ∙ run-judges y.passes content switches ∙ sym (judges-as y.passes content switches ∙ rw c) in
+        ap (running (outcome lent content switches)) y.rows ∙ run_judges y.passes content switches ∙ sym (judges_as y.passes content switches ∙ rw c) in
         list-given (judge_lines lent tokens content) (looked_at lent tokens content switches) output (record_is ∙ c)
         (subst (λ (z : Walk). Leaves (listing [] (rising lent.items (footprint lent z.visits)) output) w last) walked h)

@@ -35,7 +35,7 @@ use Rattle.grammar.proofs.Segment.{run_visits_lem}
 use Rattle.rules.specs.Calls.{condition_lines, answers, tree_answer, judge_walk, run_walk}
 use Rattle.rules.specs.Footprint.{rows_of_visit, footprint}
 use Rattle.rules.proofs.Passing.{passed, both_sound, read_as, tables_pass}
-use Rattle.rules.proofs.Answers.{few-leaves, plan-passes}
+use Rattle.rules.proofs.Answers.{few_leaves, plan-passes}
 use Rattle.rules.proofs.Footprint.{looks_at_its_items}
 use Rattle.runner.specs.Runs.{Runnable}
 use Rattle.runner.proofs.Running.{certain}
@@ -201,7 +201,7 @@ judge_below lent tokens content switches =
     let (t, p) = passed lent tokens c in
     let sound = plan-passes p in
     let s = some-rows lent (planned t) sound in
-    rw (read_as p, ← run_visits_lem (outcome lent content switches) t (omega (arith, few-leaves p)))
+    rw (read_as p, ← run_visits_lem (outcome lent content switches) t (omega (arith, few_leaves p)))
     (reached-below lent (planned t) content (record { tables = tables_pass p; sound = sound; holds = (lines_sound _ r).0 }) (outcome lent content switches)
     (plan_rows (planned t)) 0 (omega arith) (λ _. s.1)))
 

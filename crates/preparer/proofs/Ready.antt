@@ -15,7 +15,7 @@ use Rattle.grammar.proofs.Segment.{planned-length}
 use Rattle.rules.specs.Calls.{condition_lines}
 use Rattle.rules.specs.Demands.{Refuses}
 use Rattle.rules.proofs.Passing.{Passes, passed, read_as}
-use Rattle.rules.proofs.Answers.{few-leaves, refuses}
+use Rattle.rules.proofs.Answers.{few_leaves, refuses}
 use Rattle.resolver.specs.declared.Prepared.{Prepared}
 use Rattle.resolver.specs.declared.Prepared.TheVariants.{Rows, Refused as Unprepared}
 use Rattle.resolver.specs.Resolved.{RowsStand}
@@ -44,7 +44,7 @@ module _ {lent : Lent} {tokens : List ℕ} {r : Prepared} {before after : List �
       record { tree = t; passes = q; counted = h.1.counted ∙ ap simple_count z; rows = stands_rows h.1 ∙ ap planned z }
 
   pub few_prepared : count ≤ 128
-  few_prepared = let y = ready in rw y.counted (few-leaves y.passes)
+  few_prepared = let y = ready in rw y.counted (few_leaves y.passes)
 
   pub row_numbers_lem : count * 5 ≡ length (take (count * 5) after)
   row_numbers_lem = let y = ready in rw (y.rows, planned-length y.tree) (ap (λ n. n * 5) y.counted)

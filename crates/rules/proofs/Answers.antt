@@ -52,20 +52,20 @@ module _ {lent : Lent} {tokens : List ℕ} {t : Tree} (p : Passes lent tokens t)
       writing make lent tokens output ≡ record { answer = Unwritten (Room (length (make t))); output = output }
   lacks_room make output l = rw (room-left make output, lt-leb _ _ l)
 
-  pub judges-as : (content : List ℕ) (switches : ℕ) → judge_walk lent tokens content switches ≡ rules_walk lent content switches t
+  pub judges_as : (content : List ℕ) (switches : ℕ) → judge_walk lent tokens content switches ≡ rules_walk lent content switches t
   unfolding judge_walk
-  judges-as content switches =
+  judges_as content switches =
       rw (after_lines_lem (condition_lines lent tokens) (record_check lent content ∷ []) (condition-passes p), line_last, read_as p)
 
-  pub few-leaves : simple_count t ≤ 128
-  few-leaves = few_rows p.accepts.derives (few_tokens p)
+  pub few_leaves : simple_count t ≤ 128
+  few_leaves = few_rows p.accepts.derives (few_tokens p)
 
   pub plan-passes : plan_check lent (planned t) ≡ Sound
   plan-passes = planned-plan_sound lent p.accepts.derives (few_tokens p) (tokens_exist p) (typing_passes lent 0 t p.accepts.typed)
 
-  pub run-judges : (content : List ℕ) (switches : ℕ) → running (outcome lent content switches) (planned t) ≡ judging (outcome lent content switches) t
-  run-judges content switches =
-      ap₂ walk (run_is_judging (outcome lent content switches) t (omega (arith, few-leaves))) (run_visits_lem (outcome lent content switches) t (omega (arith, few-leaves)))
+  pub run_judges : (content : List ℕ) (switches : ℕ) → running (outcome lent content switches) (planned t) ≡ judging (outcome lent content switches) t
+  run_judges content switches =
+      ap₂ walk (run_is_judging (outcome lent content switches) t (omega (arith, few_leaves))) (run_visits_lem (outcome lent content switches) t (omega (arith, few_leaves)))
 
 -- a condition that a line refuses
 module _ (lent : Lent) (tokens : List ℕ) {refusal : Refusal} (e : first_of (condition_lines lent tokens) ≡ Refused refusal) where
@@ -90,13 +90,13 @@ module _ (lent : Lent) (plan content : List ℕ) (switches : ℕ) where
   unfolding run_walk
   tables_refuse e = rw (lines_before (lent_lines lent) others, line_refused others e)
 
-  pub after-tables : first_of (lent_lines lent) ≡ Sound → run_walk lent plan content switches ≡ answers (first_of others) (running (outcome lent content switches) plan)
+  pub after_tables : first_of (lent_lines lent) ≡ Sound → run_walk lent plan content switches ≡ answers (first_of others) (running (outcome lent content switches) plan)
   unfolding run_walk
-  after-tables t = rw (after_lines_lem (lent_lines lent) others t)
+  after_tables t = rw (after_lines_lem (lent_lines lent) others t)
 
   pub after-plan : first_of (lent_lines lent) ≡ Sound → plan_check lent plan ≡ Sound →
       run_walk lent plan content switches ≡ answers (record_check lent content) (running (outcome lent content switches) plan)
-  after-plan t e = after-tables t ∙ rw (line_sound (record_check lent content ∷ []) e, line_last)
+  after-plan t e = after_tables t ∙ rw (line_sound (record_check lent content ∷ []) e, line_last)
 
 -- no run goes through more rows than the plan has
 answers_few : (line : Check) (w : Walk) (n : ℕ) → length w.visits ≤ n → (told (answers line w)).count ≤ n
@@ -112,4 +112,4 @@ run_few lent plan content switches =
 pub runs_as : {lent : Lent} {tokens : List ℕ} {t : Tree} → Passes lent tokens t → (content : List ℕ) (switches : ℕ) →
     run_walk lent (planned t) content switches ≡ rules_walk lent content switches t
 runs_as {lent} {tokens} {t} p content switches =
-    after-plan lent (planned t) content switches (tables_pass p) (plan-passes p) ∙ rw (run-judges p content switches)
+    after-plan lent (planned t) content switches (tables_pass p) (plan-passes p) ∙ rw (run_judges p content switches)

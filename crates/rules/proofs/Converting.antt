@@ -42,7 +42,7 @@ use Rattle.rules.specs.Calls.{condition_lines, room_check, writes, plan_gives, a
 use Rattle.rules.specs.Demands.{WellTyped, Accepted}
 use Rattle.rules.specs.Converting.{fit_check, convert_gives, convert_plan_gives, Converted, ConditionsConvert, ConvertedRun, PlansConvert, RetiredWords}
 use Rattle.rules.proofs.Passing.{after_lines_lem, both_sound, Passes, passed, tables_pass, tokens_exist, read_as}
-use Rattle.rules.proofs.Answers.{room-left, judges-as, plan-passes, after-plan}
+use Rattle.rules.proofs.Answers.{room-left, judges_as, plan-passes, after-plan}
 use Rattle.rules.proofs.Demands.{demand_three}
 
 -- a sequence has one tree
@@ -166,10 +166,10 @@ module _ (lent : Lent) {tokens : List ℕ} {t : Tree} (p : Passes (under true le
   judge_on : (content : List ℕ) (switches : ℕ) → judge_walk (under false lent) (converted_tokens tokens) content switches
       ≡ walk (judge_walk (under true lent) tokens content switches).verdict (on_visits (judge_walk (under true lent) tokens content switches).visits)
   judge_on content switches =
-      judges-as (passes_on lent p l) content switches
+      judges_as (passes_on lent p l) content switches
       ∙ ap (answers (record_check lent content)) (ap₂ walk (verdict_on lent p content switches) (visits_on lent p content switches))
       ∙ answers_on (record_check lent content) (judging (outcome (under true lent) content switches) t)
-      ∙ ap (λ w. walk w.verdict (on_visits w.visits)) (sym (judges-as p content switches))
+      ∙ ap (λ w. walk w.verdict (on_visits w.visits)) (sym (judges_as p content switches))
 
   -- the plan of the new condition, whatever the output, is the converted plan of the old one
   plan_on : (other : List ℕ) → plan_gives (under false lent) (converted_tokens tokens) other ≡ convert_plan_gives lent (planned t) other

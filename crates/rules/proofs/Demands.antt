@@ -20,7 +20,7 @@ use Rattle.grammar.specs.Plan.{planned}
 use Rattle.rules.specs.Calls.{written_over, condition_lines, room_check, Gives, writes, numbers_of, writing, expand_gives, plan_gives, answers, told, tree_answer, judge_walk, judge_gives}
 use Rattle.rules.specs.Demands.{Accepted, Writes, Judges, DemandTwo, Demand3, DemandThree}
 use Rattle.rules.proofs.Passing.{both_sound, Passes, passed, read_as, passes_again, Nine, condition_nine, underived_refused, ill_typed_refused}
-use Rattle.rules.proofs.Answers.{writes-over, judges-as, runs_as, refuses, run_few}
+use Rattle.rules.proofs.Answers.{writes-over, judges_as, runs_as, refuses, run_few}
 
 -- no condition is written, nor judged, but one that passes
 module _ (lent : Lent) (tokens : List ℕ) where
@@ -66,7 +66,7 @@ demand_two lent tokens f d =
     record {
       expands = λ t a. writes-over (passes t a) expanded;
       plans = λ t a. writes-over (passes t a) planned;
-      judges = λ t a content switches. ap told (judges-as (passes t a) content switches);
+      judges = λ t a content switches. ap told (judges_as (passes t a) content switches);
       expand_only = λ output w. let (t, p) = written_only lent tokens expanded nine output w in (t, p.accepts);
       plan_only = λ output w. let (t, p) = written_only lent tokens planned nine output w in (t, p.accepts);
       judge_only = λ content switches j. let (t, p) = judged_only lent tokens nine content switches j in (t, p.accepts);

@@ -11,7 +11,7 @@ use Rattle.grammar.specs.Plan.{planned}
 use Rattle.grammar.proofs.Size.{expanded_bound}
 use Rattle.rules.specs.Calls.{Gives, Leaves, written_over, told, expand_gives, plan_gives}
 use Rattle.rules.proofs.Passing.{few_tokens, passes_again}
-use Rattle.rules.proofs.Answers.{writes-over, judges-as, runs_as}
+use Rattle.rules.proofs.Answers.{writes-over, judges_as, runs_as}
 use Rattle.rules.proofs.Demands.{counted, count_is, numbers_are}
 use Rattle.vectors.specs.declared.answer.Answer.{Answer}
 use Rattle.vectors.specs.Answers.{judged_as, same_answer}
@@ -71,7 +71,7 @@ module _ (words bytes content : List ℕ) {given : Written} {out : List ℕ} {n 
       let room : length zeros ≡ 640 = length-replicate {A = ℕ} 640 0 in
       rw rows_are
       record {
-        runs = ap told (runs_as p content (switches_in words) ∙ sym (judges-as p content (switches_in words)));
+        runs = ap told (runs_as p content (switches_in words) ∙ sym (judges_as p content (switches_in words)));
         formed =
             record {
               form = expanded t;

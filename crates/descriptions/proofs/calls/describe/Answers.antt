@@ -2,7 +2,7 @@
 use native.Mathlib.Omega.{arith}
 use borrow.Author.Tests.{not-true, not-false}
 use Rattle.std.proofs.lemmas.Grind.{common_steps}
-use Rattle.descriptions.proofs.Answers.{answers-over, answers-faulty, ready, answers-given}
+use Rattle.descriptions.proofs.Answers.{answers-over, answers_faulty, ready, answers-given}
 use Rattle.descriptions.proofs.calls.describe.Goals as goal
 
 pub returns-then-not-found : goal.returns-then-not-found
@@ -11,7 +11,7 @@ returns-then-not-found c =
     let start = at-parse in
     let p = at-parse.parse-parsed in
     let P = p.ensures in
-    answers-faulty start.args.text.now p.new.entries _ _ _ p.new.rows p.result.found P.read P.lays P.sooner
+    answers_faulty start.args.text.now p.new.entries _ _ _ p.new.rows p.result.found P.read P.lays P.sooner
     start.args.rows.now start.args.places.now start.args.names.now start.args.name_places.now start.args.literals.now start.args.bytes.now
     c.in-Fine.is (not-true _ c.if-not-found.true)
 
