@@ -1,16 +1,21 @@
 -- The least of the places passed.
-use mathlib.Core.Path.{sym, subst}
-use Prim.Native.Nat.{◌-◌, ◌+◌}
+use mathlib.Core.Path.{subst}
+use Rattle.std.proofs.Common.{inl, inr}
+use Prim.Native.Nat.{◌+◌}
 use native.Mathlib.Omega.{arith}
+use lib.ListN.{get_or}
+use Rattle.std.proofs.lemmas.Bool.{cases_lt}
 use Rattle.places.specs.Places.{Lowest}
 use Rattle.places.proofs.Lowest.{lower, no_lower}
 use Rattle.places.proofs.least.Goals as goal
-use Rattle.places.proofs.least.Goals.{else-place-low, then-place-low}
 
 pub loop-j-preserved : goal.loop-j-preserved
 loop-j-preserved c =
     let l = c.loop-j in
     let S = l.invariant.1 in (
       omega arith,
-      elim c.if-place-low.branch [ then-place-low w ↦ subst (λ n. Lowest c.args.at.now n (l.j + 1)) (sym w.low-is) (lower S w.if-place-low.true) | else-place-low w ↦ subst (λ n. Lowest c.args.at.now n (l.j + 1)) (sym w.low-is) (no_lower S w.if-place-low.false) ],
+      elim (cases_lt (get_or c.args.at.now l.j 0) l.low) [
+        | inl less ↦ subst (λ n. Lowest c.args.at.now n (l.j + 1)) (omega arith) (lower S less)
+        | inr least ↦ subst (λ n. Lowest c.args.at.now n (l.j + 1)) (omega arith) (no_lower S least)
+      ],
     )

@@ -1,20 +1,20 @@
 -- One record after the other.
-use mathlib.Core.Bool.{true}
-use Prim.Native.Nat.{◌-◌}
+use mathlib.Core.Path.{◌≡◌, ap₂, ◌∙◌}
+use Prim.Native.Nat.{ℕ, ◌+◌}
 use Rattle.block_truths.proofs.Passing.{tells, all_told}
-use Rattle.record_texts.specs.Texts.{text_at}
+use Rattle.record_texts.specs.Texts.{text_in}
 use Rattle.record_texts.proofs.compare_texts.Goals as goal
 
 pub loop-j-preserved : goal.loop-j-preserved
 loop-j-preserved c =
-    let turn = c in
-    let start = turn in
-    let l = turn.loop-j.invariant in
-    tells start.requires.laid.0 start.requires.laid.2 l turn.loop-j-test.true
-    (rw (c.compare_words.ensures, c.text_at-b.ensures, c.text_at-a.ensures, l.starts))
+    let a = c.args in
+    let l = c.loop-j.invariant in
+    let first = c.extent_of-first.ensures in
+    let second = c.extent_of-second.ensures in
+    let word = λ (end width : ℕ). text_in a.records.now c.loop-j.base end width a.filled in
+    let one : (c.text_at-a.result ≡ word (a.row1.offset + a.row1.size) a.row1.size) = c.text_at-a.ensures ∙ ap₂ word first.0 first.1 in
+    let other : (c.text_at-b.result ≡ word (a.row2.offset + a.row2.size) a.row2.size) = c.text_at-b.ensures ∙ ap₂ word second.0 second.1 in
+    tells c.requires.laid.0 c.requires.laid.2 l c.loop-j-test.true (rw (c.compare_words.ensures, other, one, l.starts))
 
 pub returns : goal.returns
-returns c =
-    let e = c.extent_of-first.ensures in
-    let f = c.extent_of-second.ensures in
-    rw (e.0, e.1, f.0, f.1) at (all_told c.loop-j.invariant c.loop-j-test.false)
+returns c = all_told c.loop-j.invariant c.loop-j-test.false

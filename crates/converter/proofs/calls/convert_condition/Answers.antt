@@ -17,7 +17,7 @@ returns-then-output-length c =
     let a = t.args in
     let lent = lend_names a.items.now a.literals.now a.bytes.now a.names.now in
     let rows = c.in-Rows.is in
-    convert_no_room lent a.tokens.now a.output.now t.prepare-prepared.ensures rows c.converted_length-length.ensures c.if-length-gt256.false c.if-output-length.true
+    convert_no_room lent a.tokens.now a.output.now t.prepare-prepared.ensures rows c.converted_length-length.ensures (omega arith) c.if-output-length.true
 
 pub returns-in-Refused : goal.returns-in-Refused
 returns-in-Refused c =
@@ -34,6 +34,5 @@ returns-else-output-length c =
     let rows = c.in-Rows.is in
     let size = c.write_converted.ensures.value in let left = c.write_converted.ensures.out_after in
     let n = c.converted_length-length.ensures in
-    let short = c.if-length-gt256.false in
     let room = c.if-output-length.false in
-    convert_written lent a.tokens.now a.output.now t.prepare-prepared.ensures rows size (omega (arith, size, n, short)) (omega (arith, size, n, room)) left
+    convert_written lent a.tokens.now a.output.now t.prepare-prepared.ensures rows size (omega (arith, size, n)) (omega (arith, size, n, room)) left

@@ -1,7 +1,7 @@
 -- `literal_row` meets its contract: from the laws of proofs/ and what its callees ensure. Assumes nothing.
--- `literal_row` meets its contract: from the laws of proofs/ and what its callees ensure. Assumes nothing.
 use Rattle.literal_words.specs.declared.Number.TheVariants.{Is}
-use mathlib.Core.Path.{sym, ap, ◌∙◌}
+use mathlib.Core.Path.{◌≡◌, sym, ap, ◌∙◌}
+use native.Mathlib.Omega.{arith}
 use Rattle.literal_rows.proofs.Words.{held_small, in_quotes, no_quotes, text_row}
 use Rattle.literal_rows.proofs.literals.literal_row.Goals as goal
 
@@ -19,7 +19,7 @@ returns-in-Is c =
     let p6 = p5 in
     let p8 = p6 in
     let e = sym p4.read_text.ensures ∙ p2.in-Is.is in
-    ap Is c.text_row.ensures ∙ sym (ap text_row e) ∙ in_quotes p8.args.word.now p8.requires (sym p6.byte_at.ensures ∙ p5.if-byte_at-eq34.true)
+    ap Is c.text_row.ensures ∙ sym (ap text_row e) ∙ in_quotes p8.args.word.now p8.requires (sym p6.byte_at.ensures ∙ omega arith)
 
 pub returns-in-Not : goal.returns-in-Not
 returns-in-Not c =
@@ -28,10 +28,10 @@ returns-in-Not c =
     let p4 = p3 in
     let p6 = p4 in
     let e = sym p2.read_text.ensures ∙ c.in-Not.is in
-    sym (ap text_row e) ∙ in_quotes p6.args.word.now p6.requires (sym p4.byte_at.ensures ∙ p3.if-byte_at-eq34.true)
+    sym (ap text_row e) ∙ in_quotes p6.args.word.now p6.requires (sym p4.byte_at.ensures ∙ omega arith)
 
 pub returns : goal.returns
 returns c =
     let p2 = c in
     let p4 = p2 in
-    c.read_number.ensures ∙ no_quotes p4.args.word.now p4.requires (λ e. c.if-byte_at-eq34.false (p2.byte_at.ensures ∙ e))
+    c.read_number.ensures ∙ no_quotes p4.args.word.now p4.requires (λ e. let quote : c.byte_at.result ≡ 34 = p2.byte_at.ensures ∙ e in omega arith)

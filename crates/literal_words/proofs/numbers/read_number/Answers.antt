@@ -36,7 +36,7 @@ returns-then-not-number_content c =
     let c13 = c8 in
     let word = c13.args.word.now in
     by_content word c4.row_of_number-row.result (c4.row_of_number-row.ensures ∙ ap₂ (row_by (length word)) c4.point_place-p.ensures c4.is_sign-signed.ensures)
-    false c8.if-word-n-eq46.false (sym c.row_sound.ensures ∙ c.if-not-row_sound.false) (λ digits. sym c.if-not-number_content.true ∙ c.number_content.ensures digits ∙ ap (λ (s : Bool). valid_content (cond s 5 3) digits (without_point word)) c4.is_sign-signed.ensures)
+    false (λ e. omega arith) (sym c.row_sound.ensures ∙ c.if-not-row_sound.false) (λ digits. sym c.if-not-number_content.true ∙ c.number_content.ensures digits ∙ ap (λ (s : Bool). valid_content (cond s 5 3) digits (without_point word)) c4.is_sign-signed.ensures)
 
 pub returns : goal.returns
 returns c =
@@ -45,4 +45,4 @@ returns c =
     let c13 = c8 in
     let word = c13.args.word.now in
     by_content word c4.row_of_number-row.result (c4.row_of_number-row.ensures ∙ ap₂ (row_by (length word)) c4.point_place-p.ensures c4.is_sign-signed.ensures)
-    true c8.if-word-n-eq46.false (sym c.row_sound.ensures ∙ c.if-not-row_sound.false) (λ digits. sym c.if-not-number_content.false ∙ c.number_content.ensures digits ∙ ap (λ (s : Bool). valid_content (cond s 5 3) digits (without_point word)) c4.is_sign-signed.ensures)
+    true (λ e. omega arith) (sym c.row_sound.ensures ∙ c.if-not-row_sound.false) (λ digits. sym c.if-not-number_content.false ∙ c.number_content.ensures digits ∙ ap (λ (s : Bool). valid_content (cond s 5 3) digits (without_point word)) c4.is_sign-signed.ensures)

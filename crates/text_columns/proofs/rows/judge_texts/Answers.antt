@@ -42,7 +42,7 @@ compare_texts-requires c =
     let lent = lend_names a.items.now a.literals.now a.bytes.now a.names.now in
     let first = take (a.block.from + a.block.size - a.block.from) (drop a.block.from a.records.now) in
     let sides : (Sided lent first c.args.condition.subject × Sided lent first c.args.condition.object) = (first_sides c.requires.judgeable.0 c.requires.relation_value) in
-    let texts : (Texts lent c.args.condition) = (let t = both _ _ c.if-not-fits_text.false in
+    let texts : (Texts lent c.args.condition) = (let t = both c.fits_text.result c.fits_text-2.result (assumption c) in
     record {
       subject = rw c.row_of-row1.ensures at (sym c.fits_text.ensures ∙ t.0);
       object = rw c.row_of-row2.ensures at (sym c.fits_text-2.ensures ∙ t.1);
@@ -64,7 +64,7 @@ returns-then-is_item-2 c =
     let a = c.args in
     let lent = lend_names a.items.now a.literals.now a.bytes.now a.names.now in
     let first = take (a.block.from + a.block.size - a.block.from) (drop a.block.from a.records.now) in
-    let texts : (Texts lent c.args.condition) = (let t = both _ _ c.if-not-fits_text.false in
+    let texts : (Texts lent c.args.condition) = (let t = both c.fits_text.result c.fits_text-2.result (assumption c) in
     record {
       subject = rw c.row_of-row1.ensures at (sym c.fits_text.ensures ∙ t.0);
       object = rw c.row_of-row2.ensures at (sym c.fits_text-2.ensures ∙ t.1);
@@ -98,7 +98,7 @@ relate_literal-requires c =
     let lent = lend_names a.items.now a.literals.now a.bytes.now a.names.now in
     let first = take (a.block.from + a.block.size - a.block.from) (drop a.block.from a.records.now) in
     let sides : (Sided lent first c.args.condition.subject × Sided lent first c.args.condition.object) = (first_sides c.requires.judgeable.0 c.requires.relation_value) in
-    let texts : (Texts lent c.args.condition) = (let t = both _ _ c.if-not-fits_text.false in
+    let texts : (Texts lent c.args.condition) = (let t = both c.fits_text.result c.fits_text-2.result (assumption c) in
     record {
       subject = rw c.row_of-row1.ensures at (sym c.fits_text.ensures ∙ t.0);
       object = rw c.row_of-row2.ensures at (sym c.fits_text-2.ensures ∙ t.1);
@@ -119,7 +119,7 @@ returns-then-is_item c =
     let a = c.args in
     let lent = lend_names a.items.now a.literals.now a.bytes.now a.names.now in
     let first = take (a.block.from + a.block.size - a.block.from) (drop a.block.from a.records.now) in
-    let texts : (Texts lent c.args.condition) = (let t = both _ _ c.if-not-fits_text.false in
+    let texts : (Texts lent c.args.condition) = (let t = both c.fits_text.result c.fits_text-2.result (assumption c) in
     record {
       subject = rw c.row_of-row1.ensures at (sym c.fits_text.ensures ∙ t.0);
       object = rw c.row_of-row2.ensures at (sym c.fits_text-2.ensures ∙ t.1);
@@ -145,7 +145,7 @@ relate_literal-requires-then-is_item-3 c =
     let lent = lend_names a.items.now a.literals.now a.bytes.now a.names.now in
     let first = take (a.block.from + a.block.size - a.block.from) (drop a.block.from a.records.now) in
     let sides : (Sided lent first c.args.condition.subject × Sided lent first c.args.condition.object) = (first_sides c.requires.judgeable.0 c.requires.relation_value) in
-    let texts : (Texts lent c.args.condition) = (let t = both _ _ c.if-not-fits_text.false in
+    let texts : (Texts lent c.args.condition) = (let t = both c.fits_text.result c.fits_text-2.result (assumption c) in
     record {
       subject = rw c.row_of-row1.ensures at (sym c.fits_text.ensures ∙ t.0);
       object = rw c.row_of-row2.ensures at (sym c.fits_text-2.ensures ∙ t.1);
@@ -166,7 +166,7 @@ returns-then-is_item-3 c =
     let a = c.args in
     let lent = lend_names a.items.now a.literals.now a.bytes.now a.names.now in
     let first = take (a.block.from + a.block.size - a.block.from) (drop a.block.from a.records.now) in
-    let texts : (Texts lent c.args.condition) = (let t = both _ _ c.if-not-fits_text.false in
+    let texts : (Texts lent c.args.condition) = (let t = both c.fits_text.result c.fits_text-2.result (assumption c) in
     record {
       subject = rw c.row_of-row1.ensures at (sym c.fits_text.ensures ∙ t.0);
       object = rw c.row_of-row2.ensures at (sym c.fits_text-2.ensures ∙ t.1);
