@@ -3,22 +3,22 @@ use mathlib.Core.Path.{◌≡◌, refl, sym, ap, ◌∙◌}
 use mathlib.Core.List.{List}
 use Prim.Native.Nat.{ℕ, ◌≤◌}
 use native.Mathlib.Omega.{arith}
-use Rattle.tables.specs.declared.Written.{Written}
-use Rattle.tables.specs.declared.Written.TheVariants.{Count, Refused as Unwritten}
 use Rattle.tables.specs.declared.Verdict.{Verdict}
 use Rattle.tables.specs.declared.Verdict.TheVariants.{True, False, Refused}
 use Rattle.tables.specs.declared.Judged.{Judged}
 use Rattle.rules.specs.Calls.{Gives, Leaves as Left}
 use Rattle.rules.specs.Places.{Small, Modest}
 use Rattle.answers.specs.Answer.{written_number, written_place, written_count, written_numbers, listed_numbers, verdict_value, verdict_byte, Told, Leaves, Lists}
+use Rattle.tables.specs.Refusals.{Written}
+use Rattle.std.specs.Prelude.{Err, Ok}
 
 pub place_small : (written : Written) → Small written → written_place written ≤ 640
-place_small (Count n) h = omega arith
-place_small (Unwritten refusal) h = h.0
+place_small (Ok n) h = omega arith
+place_small (Err refusal) h = h.0
 
 pub count_small : (written : Written) → Small written → written_count written ≤ 640
-count_small (Count n) h = h
-count_small (Unwritten refusal) h = omega arith
+count_small (Ok n) h = h
+count_small (Err refusal) h = omega arith
 
 pub value_small : (verdict : Verdict) → Modest verdict → verdict_value verdict ≤ 640
 value_small True h = omega arith

@@ -1,12 +1,10 @@
 -- How an answer is told to C and COBOL: the call returns the refusal's number, 0 for success; the rest are nine numbers, of which
 -- a call leaves at 0 what it has nothing to say of.
-use Rattle.std.specs.Prelude.{◌≡◌, cond, List, [], ◌∷◌, ℕ, leb}
-use Rattle.tables.specs.declared.Written.{Written}
-use Rattle.tables.specs.declared.Written.TheVariants.{Count, Refused as Unwritten}
+use Rattle.std.specs.Prelude.{◌≡◌, cond, List, [], ◌∷◌, ℕ, leb, Err, Ok}
 use Rattle.tables.specs.declared.Verdict.{Verdict}
 use Rattle.tables.specs.declared.Verdict.TheVariants.{True, False, Refused}
 use Rattle.tables.specs.declared.Judged.{Judged}
-use Rattle.tables.specs.Refusals.{number, place, byte_of}
+use Rattle.tables.specs.Refusals.{number, place, byte_of, Written}
 use Rattle.rules.specs.Calls.{Gives}
 
 -- value: the place of a refusal, or 1 and 0 for true and false; the byte of a stop; the simple conditions judged; the count of
@@ -16,16 +14,16 @@ answer_numbers value byte judged written = value ∷ byte ∷ judged ∷ written
 
 -- of expand and plan
 abbrev pub written_number : Written → ℕ
-written_number (Count n) = 0
-written_number (Unwritten refusal) = number refusal
+written_number (Ok n) = 0
+written_number (Err refusal) = number refusal
 
 abbrev pub written_place : Written → ℕ
-written_place (Count n) = 0
-written_place (Unwritten refusal) = place refusal
+written_place (Ok n) = 0
+written_place (Err refusal) = place refusal
 
 abbrev pub written_count : Written → ℕ
-written_count (Count n) = n
-written_count (Unwritten refusal) = 0
+written_count (Ok n) = n
+written_count (Err refusal) = 0
 
 abbrev pub written_numbers : Written → List ℕ
 written_numbers written = answer_numbers (written_place written) 0 0 (written_count written)

@@ -4,7 +4,7 @@ ghost use Rattle.rules.specs.Places.{Small};
 ghost use Rattle.answers.specs.Answer.{answer_numbers, written_number, written_place, written_count, written_numbers, narrowed, listed_numbers, Told};
 
 use refusal_numbers::{number_of, place_of};
-use tables::Written;
+use tables::Refusal;
 
 pub fn narrow(x: usize) -> u32
     ensures { result ≡ narrowed x }
@@ -33,34 +33,34 @@ pub fn answer_numbers(value: usize, byte: usize, judged: usize, written: usize) 
     ]
 }
 
-fn written_number(written: Written) -> u32
+fn written_number(written: Result<usize, Refusal>) -> u32
     ensures { result ≡ written_number written }
 {
     match written {
-        Written::Count(_) => 0,
-        Written::Refused(refusal) => number_of(refusal),
+        Ok(_) => 0,
+        Err(refusal) => number_of(refusal),
     }
 }
 
-fn written_place(written: Written) -> usize
+fn written_place(written: Result<usize, Refusal>) -> usize
     ensures { result ≡ written_place written }
 {
     match written {
-        Written::Count(_) => 0,
-        Written::Refused(refusal) => place_of(refusal),
+        Ok(_) => 0,
+        Err(refusal) => place_of(refusal),
     }
 }
 
-fn written_count(written: Written) -> usize
+fn written_count(written: Result<usize, Refusal>) -> usize
     ensures { result ≡ written_count written }
 {
     match written {
-        Written::Count(count) => count,
-        Written::Refused(_) => 0,
+        Ok(count) => count,
+        Err(_) => 0,
     }
 }
 
-pub fn tell_written(written: Written, answer: &mut [u32; 9]) -> u32
+pub fn tell_written(written: Result<usize, Refusal>, answer: &mut [u32; 9]) -> u32
     requires { Small written }
     ensures { Told (written_number written) (written_numbers written) result answer.new }
 {
@@ -69,7 +69,7 @@ pub fn tell_written(written: Written, answer: &mut [u32; 9]) -> u32
 }
 
 // Of a call whose counts and places are not as small as those of expand and plan.
-fn listed_numbers(written: Written) -> [u32; 9]
+fn listed_numbers(written: Result<usize, Refusal>) -> [u32; 9]
     ensures { result ≡ listed_numbers written }
 {
     let place = narrow(written_place(written));
@@ -77,7 +77,7 @@ fn listed_numbers(written: Written) -> [u32; 9]
     [place, 0, 0, count, 0, 0, 0, 0, 0]
 }
 
-pub fn tell_listed(written: Written, answer: &mut [u32; 9]) -> u32
+pub fn tell_listed(written: Result<usize, Refusal>, answer: &mut [u32; 9]) -> u32
     ensures { Told (written_number written) (listed_numbers written) result answer.new }
 {
     *answer = listed_numbers(written);

@@ -1,6 +1,5 @@
 -- A block of at most 64 records of one size, which start at a byte of a file, run through one plan.
-use Rattle.std.specs.Prelude.{◌≡◌, cond, List, ℕ, ◌<◌, ◌≤◌, get_or, eqb}
-use Rattle.tables.specs.declared.Check.TheVariants.{Sound}
+use Rattle.std.specs.Prelude.{◌≡◌, cond, List, ℕ, ◌<◌, ◌≤◌, get_or, eqb, Ok}
 use Rattle.tables.specs.declared.Judged.{Judged}
 use Rattle.tables.specs.declared.Verdict.TheVariants.{True, False}
 use Rattle.tables.specs.Operands.{Lent}
@@ -14,7 +13,7 @@ use Rattle.block_truths.specs.Columns.{record_at, Laid}
 -- a plan that can be run on each record of a block
 pub record Walkable (lent : Lent) (plan records : List ℕ) (from size n : ℕ) : Type 0 where
   pub laid : Laid records from size n
-  pub sound : plan_check lent plan ≡ Sound
+  pub sound : plan_check lent plan ≡ Ok tt
   pub runnable : (j : ℕ) → j < n → Runnable lent plan (record_at records from size j)
 
 -- "A target is the row judged next, always a later one, or a verdict": the place of a target

@@ -1,7 +1,6 @@
 -- Document 02, e): the calls' whole answers and their outputs.
-use Rattle.std.specs.Prelude.{◌≡◌, cond, ◌&&◌, List, [], ◌++◌, map, ℕ, ◌+◌, ◌≤◌, eqb, leb, length, drop}
+use Rattle.std.specs.Prelude.{◌≡◌, cond, ◌&&◌, List, [], ◌++◌, map, ℕ, ◌+◌, ◌≤◌, eqb, leb, length, drop, Ok}
 use Rattle.tables.specs.declared.Refusal.TheVariants.{LiteralTable, LiteralRow, TokenCount as WrongCount, Token, Room as Short}
-use Rattle.tables.specs.declared.Check.TheVariants.{Sound}
 use Rattle.tables.specs.Operands.{lend}
 use Rattle.tables.specs.Refusals as Refusals
 use Rattle.tables.specs.Tables.{literal_table_check, literal_row_check, token_count_check}
@@ -162,9 +161,9 @@ Gives t r b tokens literals content answer tokens_after literals_after content_a
 pub record Sized (description : List ℕ) (items : ℕ) (places rows content tokens : List ℕ) : Type 0 where
   pub short : length description ≤ 4096
   pub listed : Listed items places
-  pub table_sound : literal_table_check (lend [] rows content) ≡ Sound
-  pub rows_sound : literal_row_check (lend [] rows content) ≡ Sound
-  pub count_sound : token_count_check tokens ≡ Sound
+  pub table_sound : literal_table_check (lend [] rows content) ≡ Ok tt
+  pub rows_sound : literal_row_check (lend [] rows content) ≡ Ok tt
+  pub count_sound : token_count_check tokens ≡ Ok tt
 
 -- and 6 and 16
 pub record Prepared (description : List ℕ) (items : ℕ) (places rows content tokens : List ℕ) : Type 0 where

@@ -5,8 +5,8 @@ ghost use Rattle.std.specs.Prelude.{◌≡◌, cond, suc, pred, ◌<◌, eqb};
 ghost use Rattle.grammar.specs.Depth.{depth_check};
 ghost use Rattle.tables.specs.Words.{OPEN as LEFT, CLOSE as RIGHT};
 
+use tables::Refusal;
 use tables::words::{CLOSE, OPEN};
-use tables::{Check, Refusal};
 
 // How many brackets are open after a token. A ")" too many opens nothing.
 fn opened_after(opened: usize, token: u32) -> usize
@@ -23,18 +23,15 @@ fn opened_after(opened: usize, token: u32) -> usize
 }
 
 // The first "(" that makes 17 open.
-pub fn check_depth(tokens: &[u32]) -> Check
+pub fn check_depth(tokens: &[u32]) -> Result<(), Refusal>
     ensures { result ≡ depth_check tokens.now }
 {
     let mut opened: usize = 0;
-    let mut at: usize = 0;
-    while at < tokens.len() {
-        let token = tokens[at];
-        if (token == OPEN) & (opened == 16) {
-            return Check::Refused(Refusal::Depth(at));
+    for (at, token) in tokens.iter().enumerate() {
+        if (*token == OPEN) & (opened == 16) {
+            return Err(Refusal::Depth(at));
         }
-        opened = opened_after(opened, token);
-        at += 1;
+        opened = opened_after(opened, *token);
     }
-    Check::Sound
+    Ok(())
 }

@@ -6,12 +6,12 @@ ghost use Rattle.cases.specs.Plans.{lent_in, tokens_in, plan_kept, planned_in};
 use crate::print;
 use crate::store::{ITEMS, LITERALS, NAMES, PLAN, TOKENS, keep, part, switches};
 use fronts::front;
-use tables::Written;
+use tables::Refusal;
 
 // The most numbers of an output.
 const ROOM: usize = 700;
 
-fn expand_in(store: &[u32], bytes: &[u8], output: &mut [u32]) -> Written
+fn expand_in(store: &[u32], bytes: &[u8], output: &mut [u32]) -> Result<usize, Refusal>
     ensures { Leaves (expand_gives (lent_in store.now bytes.now) (tokens_in store.now) output.old) result output.new }
 {
     let items = part(store, ITEMS);
@@ -30,7 +30,7 @@ pub(crate) fn expand(rt: &impl Print, store: &[u32], bytes: &[u8], room: usize) 
     }
 }
 
-fn plan_in(store: &[u32], bytes: &[u8], output: &mut [u32]) -> Written
+fn plan_in(store: &[u32], bytes: &[u8], output: &mut [u32]) -> Result<usize, Refusal>
     ensures { Leaves (plan_gives (lent_in store.now bytes.now) (tokens_in store.now) output.old) result output.new }
 {
     let items = part(store, ITEMS);
@@ -46,7 +46,7 @@ fn plan_kept(rt: &impl Print, store: &mut [u32], bytes: &[u8], output: &mut [u32
 {
     let given = plan_in(store, bytes, output);
     print::written(rt, b"plan in ", given, output);
-    if let Written::Count(n) = given {
+    if let Ok(n) = given {
         keep(store, PLAN, front(output, n));
     }
 }

@@ -1,7 +1,7 @@
 // What the program writes: texts, numbers and answers.
 use console::streams::{print_decimal, write_all};
 use refusal_numbers::{number_of, place_of};
-use tables::{Judged, Refusal, Verdict, Written};
+use tables::{Judged, Refusal, Verdict};
 
 pub(crate) fn text(rt: &impl Print, bytes: &[u8]) {
     write_all(rt, bytes);
@@ -44,14 +44,14 @@ fn byte(rt: &impl Print, refused: Refusal) {
     }
 }
 
-fn count(rt: &impl Print, given: Written) {
+fn count(rt: &impl Print, given: Result<usize, Refusal>) {
     match given {
-        Written::Count(n) => number(rt, n),
-        Written::Refused(refused) => refusal(rt, refused),
+        Ok(n) => number(rt, n),
+        Err(refused) => refusal(rt, refused),
     }
 }
 
-pub(crate) fn written(rt: &impl Print, call: &[u8], given: Written, output: &[u32]) {
+pub(crate) fn written(rt: &impl Print, call: &[u8], given: Result<usize, Refusal>, output: &[u32]) {
     text(rt, call);
     number(rt, output.len());
     text(rt, b": ");

@@ -9,8 +9,8 @@ use content::Row;
 use field_signs::signs::is_sign;
 use numbers::reading::only_digits;
 use row_rules::sound::row_sound;
+use tables::Refusal;
 use tables::rows::{ends_within, row_at, row_part};
-use tables::{Check, Refusal};
 
 fn length_sound(table: &[u32]) -> bool
     ensures { result ≡ length_sound table.now }
@@ -19,18 +19,16 @@ fn length_sound(table: &[u32]) -> bool
 }
 
 // 2: the first item row that breaks its rules.
-fn check_item_rows(items: &[u32]) -> Check
+fn check_item_rows(items: &[u32]) -> Result<(), Refusal>
     ensures { result ≡ item_row_check (lend items.now [] []) }
 {
     let rows = items.len() / Row::WIDTH;
-    let mut v: usize = 0;
-    while v < rows {
+    for v in 0..rows {
         if !row_sound(row_at(items, v)) {
-            return Check::Refused(Refusal::ItemRow(v));
+            return Err(Refusal::ItemRow(v));
         }
-        v += 1;
     }
-    Check::Sound
+    Ok(())
 }
 
 // A literal's content; digits are looked at eight at once, which costs less than to ask for each.
@@ -65,48 +63,41 @@ fn literal_sound(row: Row, bytes: &[u8]) -> bool
 }
 
 // 4: the first literal row that breaks its rules.
-fn check_literal_rows(literals: &[u32], bytes: &[u8]) -> Check
+fn check_literal_rows(literals: &[u32], bytes: &[u8]) -> Result<(), Refusal>
     ensures { result ≡ literal_row_check (lend [] literals.now bytes.now) }
 {
     let rows = literals.len() / Row::WIDTH;
-    let mut v: usize = 0;
-    while v < rows {
+    for v in 0..rows {
         if !literal_sound(row_at(literals, v), bytes) {
-            return Check::Refused(Refusal::LiteralRow(v));
+            return Err(Refusal::LiteralRow(v));
         }
-        v += 1;
     }
-    Check::Sound
+    Ok(())
 }
 
 // 1 to 4, in order.
-pub fn check_tables(items: &[u32], literals: &[u32], bytes: &[u8]) -> Check
+pub fn check_tables(items: &[u32], literals: &[u32], bytes: &[u8]) -> Result<(), Refusal>
     ensures { result ≡ first_of (table_lines (lend items.now literals.now bytes.now)) }
 {
     if !length_sound(items) {
-        return Check::Refused(Refusal::ItemTable);
+        return Err(Refusal::ItemTable);
     }
-    let item_rows = check_item_rows(items);
-    if let Check::Refused(refusal) = item_rows {
-        return Check::Refused(refusal);
-    }
+    check_item_rows(items)?;
     if !length_sound(literals) {
-        return Check::Refused(Refusal::LiteralTable);
+        return Err(Refusal::LiteralTable);
     }
     check_literal_rows(literals, bytes)
 }
 
 // 12: the first item row that ends beyond the record, used or not.
-pub fn check_record(items: &[u32], record: &[u8]) -> Check
+pub fn check_record(items: &[u32], record: &[u8]) -> Result<(), Refusal>
     ensures { result ≡ record_check (lend items.now [] []) «record».now }
 {
     let rows = items.len() / Row::WIDTH;
-    let mut v: usize = 0;
-    while v < rows {
+    for v in 0..rows {
         if !ends_within(row_at(items, v), record.len()) {
-            return Check::Refused(Refusal::Record(v));
+            return Err(Refusal::Record(v));
         }
-        v += 1;
     }
-    Check::Sound
+    Ok(())
 }

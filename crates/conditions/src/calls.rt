@@ -10,9 +10,8 @@ use checks::lent::check_record;
 use plan_checks::check_plan;
 use preparer::lent::check_lent;
 use preparer::prepare::prepare;
-use resolver::Prepared;
 use runner::run_rows;
-use tables::{Check, Judged, Refusal, Verdict};
+use tables::{Judged, Refusal, Verdict};
 
 // Refused before anything was judged.
 fn unjudged(refusal: Refusal) -> Judged
@@ -40,10 +39,10 @@ pub fn judge<'a>(
     let mut rows = [0u32; 640];
     let prepared = prepare(false, items, literals, bytes, names, tokens, &mut rows);
     match prepared {
-        Prepared::Refused(refusal) => unjudged(refusal),
-        Prepared::Rows(count) => {
+        Err(refusal) => unjudged(refusal),
+        Ok(count) => {
             let held = check_record(items, record);
-            if let Check::Refused(refusal) = held {
+            if let Err(refusal) = held {
                 return unjudged(refusal);
             }
             let end = count * 5;
@@ -74,15 +73,15 @@ pub fn run<'a>(
     ensures verdict_value { of_verdict result.verdict ≡ of_verdict (run_gives (lend_names items.now literals.now bytes.now names.now) plan.now «record».now switches).verdict }
 {
     let lent = check_lent(items, literals, bytes, names);
-    if let Check::Refused(refusal) = lent {
+    if let Err(refusal) = lent {
         return unjudged(refusal);
     }
     let rows = check_plan(false, items, literals, names, plan);
-    if let Check::Refused(refusal) = rows {
+    if let Err(refusal) = rows {
         return unjudged(refusal);
     }
     let held = check_record(items, record);
-    if let Check::Refused(refusal) = held {
+    if let Err(refusal) = held {
         return unjudged(refusal);
     }
     run_rows(items, literals, bytes, names, plan, record, switches)

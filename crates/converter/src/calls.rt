@@ -12,8 +12,7 @@ use plan_checks::check_plan;
 use plan_conversion::rows::write_plan;
 use preparer::lent::check_lent;
 use preparer::prepare::prepare;
-use resolver::Prepared;
-use tables::{Check, Refusal, Written};
+use tables::Refusal;
 
 // A condition of the rules that had switch-off words, written with switch-on words from the start of the output.
 pub fn convert_condition(
@@ -23,34 +22,32 @@ pub fn convert_condition(
     names: &[u32],
     tokens: &[u32],
     output: &mut [u32],
-) -> Written
+) -> Result<usize, Refusal>
     ensures { Leaves (convert_gives (lend_names items.now literals.now bytes.now names.now) tokens.now output.old) result output.new }
 {
     let mut rows = [0u32; 640];
-    let prepared = prepare(true, items, literals, bytes, names, tokens, &mut rows);
-    match prepared {
-        Prepared::Refused(refusal) => Written::Refused(refusal),
-        Prepared::Rows(_) => {
-            let length = converted_length(tokens);
-            if 256 < length {
-                return Written::Refused(Refusal::TokenCount);
-            }
-            if output.len() < length {
-                return Written::Refused(Refusal::Room(length));
-            }
-            Written::Count(write_converted(tokens, output))
-        }
+    prepare(true, items, literals, bytes, names, tokens, &mut rows)?;
+    let length = converted_length(tokens);
+    if 256 < length {
+        return Err(Refusal::TokenCount);
     }
+    if output.len() < length {
+        return Err(Refusal::Room(length));
+    }
+    Ok(write_converted(tokens, output))
 }
 
 // What run refused before 12 by the old rules: 1 to 4, 18 and 11.
-fn check_old(items: &[u32], literals: &[u32], bytes: &[u8], names: &[u32], plan: &[u32]) -> Check
+fn check_old(
+    items: &[u32],
+    literals: &[u32],
+    bytes: &[u8],
+    names: &[u32],
+    plan: &[u32],
+) -> Result<(), Refusal>
     ensures { result ≡ first_of (lent_lines (under true (lend_names items.now literals.now bytes.now names.now)) ++ plan_check (under true (lend_names items.now literals.now bytes.now names.now)) plan.now ∷ []) }
 {
-    let lent = check_lent(items, literals, bytes, names);
-    if let Check::Refused(refusal) = lent {
-        return Check::Refused(refusal);
-    }
+    check_lent(items, literals, bytes, names)?;
     check_plan(true, items, literals, names, plan)
 }
 
@@ -62,17 +59,14 @@ pub fn convert_plan(
     names: &[u32],
     plan: &[u32],
     output: &mut [u32],
-) -> Written
+) -> Result<usize, Refusal>
     ensures { Leaves (convert_plan_gives (lend_names items.now literals.now bytes.now names.now) plan.now output.old) result output.new }
 {
-    let old = check_old(items, literals, bytes, names, plan);
-    if let Check::Refused(refusal) = old {
-        return Written::Refused(refusal);
-    }
+    check_old(items, literals, bytes, names, plan)?;
     let needed = plan.len();
     if output.len() < needed {
-        return Written::Refused(Refusal::Room(needed));
+        return Err(Refusal::Room(needed));
     }
     write_plan(plan, output);
-    Written::Count(needed)
+    Ok(needed)
 }

@@ -20,7 +20,7 @@ use std::fmt::InlineText;
 use tables::rows::{NAME_TABLE, is_group, row_at};
 use tables::tokens::FIRST_WORD;
 use tables::words::NOT;
-use tables::{Judged, Refusal, Verdict, Written};
+use tables::{Judged, Refusal, Verdict};
 use texts::calls::read;
 
 // An entry of the logbook, for each tape drive that the club inspects.
@@ -94,7 +94,7 @@ fn words(rt: &impl Print, literals: &[u32], bytes: &[u8], tokens: &[u32], width:
 fn in_full(rt: &impl Print, rows: &[u32], literals: &[u32], bytes: &[u8], tokens: &[u32]) {
     let mut full = [0u32; 634];
     let expanded = forms::calls::expand(rows, literals, bytes, &NAMES, tokens, &mut full);
-    if let Written::Count(n) = expanded {
+    if let Ok(n) = expanded {
         write(rt, b"  ");
         words(rt, literals, bytes, front(&full, n), 0);
         write(rt, b"\n");
@@ -402,7 +402,7 @@ fn looked_line<'a>(
 ) {
     let mut list = [0u32; 64];
     let listed = looked_at_plan(rows, literals, bytes, &NAMES, plan, record, 0, &mut list);
-    if let Written::Count(k) = listed {
+    if let Ok(k) = listed {
         write(rt, b"  entry ");
         number(rt, n, 3);
         words(rt, literals, bytes, front(&list, k), 0);
@@ -430,7 +430,7 @@ fn guarded(rt: &impl Print, rows: &[u32], literals: &[u32], bytes: &[u8], tokens
     let mut numbers = [0u32; 640];
     the_rule(rt, rows, literals, bytes, tokens);
     let planned = forms::calls::plan(rows, literals, bytes, &NAMES, tokens, &mut numbers);
-    if let Written::Count(n) = planned {
+    if let Ok(n) = planned {
         let plan = front(&numbers, n);
         the_plan(rt, literals, bytes, plan);
         the_verdicts(rt, rows, literals, bytes, plan);

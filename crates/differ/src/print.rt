@@ -2,7 +2,7 @@
 use console::streams::{print_decimal, write_all};
 use fronts::front;
 use refusal_numbers::number_of;
-use tables::Written;
+use tables::Refusal;
 
 pub(crate) fn refusal(rt: &impl Print, number: u32) {
     write_all(rt, b"R ");
@@ -28,9 +28,9 @@ fn items(rt: &impl Print, list: &[u32]) {
     }
 }
 
-pub(crate) fn written(rt: &impl Print, written: Written, output: &[u32]) {
+pub(crate) fn written(rt: &impl Print, written: Result<usize, Refusal>, output: &[u32]) {
     match written {
-        Written::Count(n) => items(rt, front(output, n)),
-        Written::Refused(refused) => refusal(rt, number_of(refused)),
+        Ok(n) => items(rt, front(output, n)),
+        Err(refused) => refusal(rt, number_of(refused)),
     }
 }

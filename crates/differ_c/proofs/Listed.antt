@@ -2,11 +2,11 @@
 use mathlib.Core.Path.{◌≡◌}
 use mathlib.Core.List.{List}
 use Prim.Native.Nat.{ℕ}
-use Rattle.tables.specs.declared.Written.{Written}
 use Rattle.differences.specs.Differ.{differing}
 use Rattle.answers.specs.Answer.{written_number, listed_numbers, Told}
 use Rattle.answers.proofs.Telling.{answer-told}
 use Rattle.differ_c.specs.Differences.{Differs}
+use Rattle.tables.specs.Refusals.{Written}
 
 pub differ_told : {items first second output answer after : List ℕ} {written : Written} {returned : ℕ}
     → written ≡ (differing items first second output).answer → after ≡ (differing items first second output).output

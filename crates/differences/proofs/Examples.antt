@@ -5,11 +5,11 @@ use mathlib.Core.List.{List, [], ◌∷◌}
 use Rattle.content.specs.Content.{number_from, all}
 use Rattle.content.specs.Packed.{packed_from}
 use Rattle.content.specs.WrongByte.{first_from, valid_content}
-use Rattle.tables.specs.declared.Check.TheVariants.{Sound, Refused}
 use Rattle.tables.specs.declared.Refusal.TheVariants.{Record}
 use Rattle.tables.specs.Refusals.{first_failing}
 use Rattle.items.specs.Items.{same, listed}
 use Rattle.differences.specs.Differ.{differences, end_check}
+use Rattle.std.specs.Prelude.{Err, Ok}
 
 -- a group of three members: two digits, a text, a signed number; a packed amount behind them
 rows : List ℕ
@@ -34,8 +34,8 @@ unfolding rows first listed same
 alike = refl
 
 ends :
-    (end_check rows first first ≡ Sound)
-    × (end_check rows first (0x30 ∷ 0x31 ∷ []) ≡ Refused (Record 0))
-    × (end_check rows first (0x30 ∷ 0x31 ∷ 0x41 ∷ 0x42 ∷ 0x30 ∷ 0x30 ∷ []) ≡ Refused (Record 4))
+    (end_check rows first first ≡ Ok tt)
+    × (end_check rows first (0x30 ∷ 0x31 ∷ []) ≡ Err (Record 0))
+    × (end_check rows first (0x30 ∷ 0x31 ∷ 0x41 ∷ 0x42 ∷ 0x30 ∷ 0x30 ∷ []) ≡ Err (Record 4))
 unfolding rows first first_failing
 ends = (refl, refl, refl)

@@ -12,15 +12,12 @@ use Rattle.content.specs.Content.{signed, value}
 use Rattle.compare.specs.Order.{is_equal, relation_holds}
 use Rattle.compare.specs.Compared.{number_of, scaled_order}
 use Rattle.compare.specs.Fields.{NumberField}
-use Rattle.tables.specs.declared.Check.{Check}
-use Rattle.tables.specs.declared.Check.TheVariants.{Sound, Refused}
 use Rattle.tables.specs.declared.Refusal.{Refusal}
 use Rattle.tables.specs.declared.Refusal.TheVariants.{Record}
 use Rattle.content.specs.declared.Row.{Row}
-use Rattle.tables.specs.declared.Written.TheVariants.{Count, Refused as Unwritten}
 use Rattle.tables.specs.Rows.{row_at, row_count, is_numeric, lies_in, part}
 use Rattle.tables.specs.Operands.{lend}
-use Rattle.tables.specs.Refusals.{first_of}
+use Rattle.tables.specs.Refusals.{first_of, Check}
 use Rattle.tables.specs.Tables.{item_row_check}
 use Rattle.tables.proofs.Tests.{both}
 use Rattle.tables.proofs.Bytes.{scale_small}
@@ -32,6 +29,7 @@ use Rattle.items.proofs.Listing.{count_more}
 use Rattle.items.proofs.Facts.{row_sound_at, few_fact}
 use Rattle.differences.specs.Differ.{letter_v, letter_b, letter_i, same_value, both_valid, differs, mark, entry_of, entry_at, differences}
 use Rattle.differences.specs.Differ.{lies_in_both, end_check, differ_lines, differ_by, differing, Held}
+use Rattle.std.specs.Prelude.{Err, Ok}
 
 module _ {r : Row} {first second : List ℕ} (h : Held r first second) where
   pub scale_fits : r.scale ≤ 18
@@ -104,8 +102,8 @@ module _ (items first second : List ℕ) (v : ℕ) where
       ∙ add-zero (length (listed (entry_at items first second) v))
 
 -- where the lines 1, 2, 12 do not apply
-module _ (items first second : List ℕ) (sound : first_of (differ_lines items first second) ≡ Sound) where
-  lines : first_of (item_lines items) ≡ Sound
+module _ (items first second : List ℕ) (sound : first_of (differ_lines items first second) ≡ Ok tt) where
+  lines : first_of (item_lines items) ≡ Ok tt
   lines = let s = lines_sound (differ_lines items first second) sound in line_sound _ s.0 ∙ line_last (item_row_check (lend items [] [])) ∙ s.1.0
 
   pub held : (v : ℕ) → v < row_count items → {row : Row} → row ≡ row_at items v → Held row first second
@@ -120,10 +118,10 @@ module _ (items first second : List ℕ) (sound : first_of (differ_lines items f
 
 -- what the lines come to
 module _ (items first second : List ℕ) where
-  pub table_stops : {refusal : Refusal} → first_of (item_lines items) ≡ Refused refusal → first_of (differ_lines items first second) ≡ Refused refusal
+  pub table_stops : {refusal : Refusal} → first_of (item_lines items) ≡ Err refusal → first_of (differ_lines items first second) ≡ Err refusal
   table_stops e = lines_before (item_lines items) (end_check items first second ∷ []) ∙ line_refused _ e
 
-  pub ends_decide : first_of (item_lines items) ≡ Sound → first_of (differ_lines items first second) ≡ end_check items first second
+  pub ends_decide : first_of (item_lines items) ≡ Ok tt → first_of (differ_lines items first second) ≡ end_check items first second
   ends_decide e = lines_before (item_lines items) (end_check items first second ∷ []) ∙ line_sound _ e ∙ line_last _
 
   module _ (output : List ℕ) where
@@ -135,20 +133,20 @@ module _ (items first second : List ℕ) where
     unfolding room
     by e = ap (λ (l : Check). differ_by l (differences items first second) output) e
 
-    pub stopped : {refusal : Refusal} → first_of (differ_lines items first second) ≡ Refused refusal
-        → differing items first second output ≡ record { answer = Unwritten refusal; output = output }
+    pub stopped : {refusal : Refusal} → first_of (differ_lines items first second) ≡ Err refusal
+        → differing items first second output ≡ record { answer = Err refusal; output = output }
     stopped e = by (lines_before (differ_lines items first second) (room ∷ []) ∙ line_refused _ e)
 
-    pub crowded : {refusal : Refusal} → first_of (differ_lines items first second) ≡ Sound
-        → room_check (length (differences items first second)) (length output) ≡ Refused refusal
-        → differing items first second output ≡ record { answer = Unwritten refusal; output = output }
+    pub crowded : {refusal : Refusal} → first_of (differ_lines items first second) ≡ Ok tt
+        → room_check (length (differences items first second)) (length output) ≡ Err refusal
+        → differing items first second output ≡ record { answer = Err refusal; output = output }
     unfolding room
     crowded e f = by (lines_before (differ_lines items first second) (room ∷ []) ∙ line_sound _ e ∙ line_refused _ f)
 
-    pub done : first_of (differ_lines items first second) ≡ Sound → room_check (length (differences items first second)) (length output) ≡ Sound
+    pub done : first_of (differ_lines items first second) ≡ Ok tt → room_check (length (differences items first second)) (length output) ≡ Ok tt
         → differing items first second output
         ≡ record {
-          answer = Count (length (differences items first second));
+          answer = Ok (length (differences items first second));
           output = differences items first second ++ drop (length (differences items first second)) output;
         }
     unfolding room

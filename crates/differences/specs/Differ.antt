@@ -1,17 +1,13 @@
 -- Document 02, j), "What differs between two copies".
-use Rattle.std.specs.Prelude.{Bool, true, cond, not, ◌&&◌, List, [], ◌∷◌, ◌++◌, ◌≡◌, ℕ, length, drop}
+use Rattle.std.specs.Prelude.{Bool, true, cond, not, ◌&&◌, List, [], ◌∷◌, ◌++◌, ◌≡◌, ℕ, length, drop, Err, Ok}
 use Rattle.content.specs.Content.{value}
 use Rattle.content.specs.WrongByte.{valid_content}
 use Rattle.compare.specs.Order.{is_equal}
 use Rattle.compare.specs.Compared.{scaled_order}
-use Rattle.tables.specs.declared.Check.{Check}
-use Rattle.tables.specs.declared.Check.TheVariants.{Sound, Refused}
 use Rattle.tables.specs.declared.Refusal.TheVariants.{Record}
 use Rattle.content.specs.declared.Row.{Row}
-use Rattle.tables.specs.declared.Written.{Written}
-use Rattle.tables.specs.declared.Written.TheVariants.{Count, Refused as Unwritten}
 use Rattle.tables.specs.Rows.{row_at, row_count, row_sound, is_numeric, lies_in, part}
-use Rattle.tables.specs.Refusals.{first_of, first_failing}
+use Rattle.tables.specs.Refusals.{first_of, first_failing, Check, Written}
 use Rattle.items.specs.Items.{is_elementary, same, listed}
 use Rattle.items.specs.Lines.{item_lines, room_check}
 
@@ -68,8 +64,8 @@ pub record Differing : Type 0 where
   pub output : List ℕ
 
 abbrev pub differ_by : Check → List ℕ → List ℕ → Differing
-differ_by (Refused refusal) list output = record { answer = Unwritten refusal; output = output }
-differ_by Sound list output = record { answer = Count (length list); output = list ++ drop (length list) output }
+differ_by (Err refusal) list output = record { answer = Err refusal; output = output }
+differ_by (Ok _) list output = record { answer = Ok (length list); output = list ++ drop (length list) output }
 
 -- then 10
 abbrev pub differing : List ℕ → List ℕ → List ℕ → List ℕ → Differing

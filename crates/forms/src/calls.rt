@@ -6,8 +6,7 @@ ghost use Rattle.rules.specs.Numbers.{of_written};
 
 use expander::expand::write_expanded;
 use preparer::prepare::prepare;
-use resolver::Prepared;
-use tables::{Refusal, Written};
+use tables::Refusal;
 
 // The expanded form of a condition, written from the start of the output.
 pub fn expand(
@@ -17,24 +16,19 @@ pub fn expand(
     names: &[u32],
     tokens: &[u32],
     output: &mut [u32],
-) -> Written
+) -> Result<usize, Refusal>
     ensures leaves { Leaves (expand_gives (lend_names items.now literals.now bytes.now names.now) tokens.now output.old) result output.new }
     ensures result_value { of_written result ≡ of_written (expand_gives (lend_names items.now literals.now bytes.now names.now) tokens.now output.old).answer }
 {
     let mut rows = [0u32; 640];
-    let prepared = prepare(false, items, literals, bytes, names, tokens, &mut rows);
-    match prepared {
-        Prepared::Refused(refusal) => Written::Refused(refusal),
-        Prepared::Rows(_) => {
-            let mut form = [0u32; 640];
-            let length = write_expanded(tokens, &mut form);
-            if output.len() < length {
-                return Written::Refused(Refusal::Room(length));
-            }
-            copy(&form[..length], output);
-            Written::Count(length)
-        }
+    prepare(false, items, literals, bytes, names, tokens, &mut rows)?;
+    let mut form = [0u32; 640];
+    let length = write_expanded(tokens, &mut form);
+    if output.len() < length {
+        return Err(Refusal::Room(length));
     }
+    copy(&form[..length], output);
+    Ok(length)
 }
 
 // The numbers from the start of a longer output.
@@ -57,21 +51,16 @@ pub fn plan(
     names: &[u32],
     tokens: &[u32],
     output: &mut [u32],
-) -> Written
+) -> Result<usize, Refusal>
     ensures leaves { Leaves (plan_gives (lend_names items.now literals.now bytes.now names.now) tokens.now output.old) result output.new }
     ensures result_value { of_written result ≡ of_written (plan_gives (lend_names items.now literals.now bytes.now names.now) tokens.now output.old).answer }
 {
     let mut rows = [0u32; 640];
-    let prepared = prepare(false, items, literals, bytes, names, tokens, &mut rows);
-    match prepared {
-        Prepared::Refused(refusal) => Written::Refused(refusal),
-        Prepared::Rows(count) => {
-            let needed = count * 5;
-            if output.len() < needed {
-                return Written::Refused(Refusal::Room(needed));
-            }
-            copy(&rows[..needed], output);
-            Written::Count(needed)
-        }
+    let count = prepare(false, items, literals, bytes, names, tokens, &mut rows)?;
+    let needed = count * 5;
+    if output.len() < needed {
+        return Err(Refusal::Room(needed));
     }
+    copy(&rows[..needed], output);
+    Ok(needed)
 }

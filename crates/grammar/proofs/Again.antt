@@ -7,7 +7,6 @@ use native.Mathlib.Omega.{arith}
 use borrow.Author.Tests.{ne_eqb, le-leb}
 use lib.ListN.{length, get_or}
 use lib.Dec.{eqb}
-use Rattle.tables.specs.declared.Check.TheVariants.{Sound, Refused}
 use Rattle.tables.specs.declared.Refusal.TheVariants.{Token, Depth}
 use Rattle.tables.specs.Tokens.{token_there}
 use Rattle.tables.specs.Rows.{row_count, name_count}
@@ -24,6 +23,7 @@ use Rattle.grammar.proofs.Expansion.{full_relation, full_test, full-switch, rede
 use Rattle.grammar.proofs.Judging.{some_leaf}
 use Rattle.grammar.proofs.Size.{rows_bound}
 use Rattle.grammar.proofs.Shapes.{There, tokens_there, there_left, there_right, there_tail}
+use Rattle.std.specs.Prelude.{Err, Ok}
 
 at_place : (ts : List ℕ) (k : ℕ) → k < length ts → Memᴰ (get_or ts k 0) ts
 at_place [] k l = absurd (omega arith)
@@ -31,7 +31,7 @@ at_place (x ∷ ts) zero l = Memᴰ.head refl
 at_place (x ∷ ts) (suc k) l = Memᴰ.tail (at_place ts k (omega arith))
 
 module _ (lent : Lent) where
-  pub there_passes : (ts : List ℕ) → There lent ts → token_check lent ts ≡ Sound
+  pub there_passes : (ts : List ℕ) → There lent ts → token_check lent ts ≡ Ok tt
   there_passes ts h =
       failing_none (λ i. token_there lent.off (row_count lent.items) (row_count lent.literals) (name_count lent.names) (get_or ts i 0)) Token 0 (length ts)
       (λ k l m. h (get_or ts k 0) (at_place ts k (omega arith)))
@@ -140,15 +140,15 @@ module _ (lent : Lent) where
   filled_there (added p h) e x (Memᴰ.tail m) = filled_there h e x m
 
   -- 8 depends only on the brackets and their order
-  filled_depth : {ts us : List ℕ} → Filled ts us → (at place opened : ℕ) → depth_from at opened ts ≡ Sound → depth_from place opened us ≡ Sound
+  filled_depth : {ts us : List ℕ} → Filled ts us → (at place opened : ℕ) → depth_from at opened ts ≡ Ok tt → depth_from place opened us ≡ Ok tt
   unfolding depth_from
   filled_depth end at place opened e = refl
   filled_depth (kept {x = x} {ts = ts} {us = us} h) at place opened e =
       go (eqb x 262144) (eqb opened 16) (cond (eqb x 262145) (pred opened) opened) (filled_depth h (suc at) (suc place)) e
     where
-      go : (opens most : Bool) (left : ℕ) → ((n : ℕ) → depth_from (suc at) n ts ≡ Sound → depth_from (suc place) n us ≡ Sound) →
-          cond opens (cond most (Refused (Depth at)) (depth_from (suc at) (suc opened) ts)) (depth_from (suc at) left ts) ≡ Sound →
-          cond opens (cond most (Refused (Depth place)) (depth_from (suc place) (suc opened) us)) (depth_from (suc place) left us) ≡ Sound
+      go : (opens most : Bool) (left : ℕ) → ((n : ℕ) → depth_from (suc at) n ts ≡ Ok tt → depth_from (suc place) n us ≡ Ok tt) →
+          cond opens (cond most (Err (Depth at)) (depth_from (suc at) (suc opened) ts)) (depth_from (suc at) left ts) ≡ Ok tt →
+          cond opens (cond most (Err (Depth place)) (depth_from (suc place) (suc opened) us)) (depth_from (suc place) left us) ≡ Ok tt
       go true true left f e = absurd (let z : ◌≡◌ {A = ℕ} 0 1 = cc in omega arith)
       go true false left f e = f (suc opened) e
       go false most left f e = f left e
@@ -157,12 +157,12 @@ module _ (lent : Lent) where
 pub expanded-some : {ts : List ℕ} {t : Tree} → Derives ts t → 1 ≤ length (expanded t)
 expanded-some {t = t} h = omega (arith, rows_bound (rederives h), some_leaf t)
 
-module _ (lent : Lent) {ts : List ℕ} {t : Tree} (h : Derives ts t) (e : token_check lent ts ≡ Sound) where
+module _ (lent : Lent) {ts : List ℕ} {t : Tree} (h : Derives ts t) (e : token_check lent ts ≡ Ok tt) where
   filled : Filled lent ts (expanded t)
   filled = ((tree_fills lent h.derivation).fills tt (tokens_there lent ts e)).0
 
-  pub expanded-tokens : token_check lent (expanded t) ≡ Sound
+  pub expanded-tokens : token_check lent (expanded t) ≡ Ok tt
   expanded-tokens = there_passes lent (expanded t) (filled_there lent filled (tokens_there lent ts e))
 
-  pub expanded_depth : depth_check ts ≡ Sound → depth_check (expanded t) ≡ Sound
+  pub expanded_depth : depth_check ts ≡ Ok tt → depth_check (expanded t) ≡ Ok tt
   expanded_depth d = filled_depth lent filled 0 0 0 d

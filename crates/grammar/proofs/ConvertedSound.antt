@@ -9,7 +9,6 @@ use native.Mathlib.Nat.{zero-add, add-zero}
 use borrow.Author.Tests.{ne_eqb, eq-eqb, eqb-true, le-leb, leb-true}
 use lib.ListN.{length, get_or}
 use lib.Dec.{eqb}
-use Rattle.tables.specs.declared.Check.TheVariants.{Sound, Refused}
 use Rattle.tables.specs.declared.Refusal.TheVariants.{Depth, PlanRow as PlanFault}
 use Rattle.tables.specs.Tokens.{is_off, index_of, token_there}
 use Rattle.tables.specs.Rows.{row_count, name_count}
@@ -33,6 +32,7 @@ use Rattle.grammar.proofs.Sure.{lines, some-rows}
 use Rattle.grammar.proofs.Shapes.{There, tokens_there, there_tail}
 use Rattle.grammar.proofs.Again.{there_passes}
 use Rattle.grammar.proofs.Converted.{Clean, clean_stays}
+use Rattle.std.specs.Prelude.{Err, Ok}
 
 -- an off token that exists under the old rules has an on token that exists under the new ones
 off_index : (i l n x : ℕ) → token_there true i l n x ≡ true → is_off x ≡ true → index_of x ≤ 7
@@ -85,7 +85,7 @@ module _ (lent : Lent) where
       go false true e p q = there_not w _ p
       go false false e p q = there_not w _ (there_cons (else_exists _ _ _ x e ∙ here) q)
 
-  pub converted_tokens_lem : (ts : List ℕ) → token_check old ts ≡ Sound → token_check new (converted_tokens ts) ≡ Sound
+  pub converted_tokens_lem : (ts : List ℕ) → token_check old ts ≡ Ok tt → token_check new (converted_tokens ts) ≡ Ok tt
   converted_tokens_lem ts e = there_passes new (converted_tokens ts) (on_there false ts (tokens_there old ts e))
 
 -- what the new rules let pass holds no off token, so that converting it changes nothing
@@ -97,12 +97,12 @@ clean_there lent (x ∷ ts) h = (go (is_off x) refl, clean_there lent ts (there_
     go true e = absurd (false≢true (rw (eqb-true (x / 65536) 3 e) at (h x (Memᴰ.head refl))))
     go false e = refl
 
-pub converted_stays : (lent : Lent) (ts : List ℕ) → token_check (under false lent) ts ≡ Sound → converted_tokens ts ≡ ts
+pub converted_stays : (lent : Lent) (ts : List ℕ) → token_check (under false lent) ts ≡ Ok tt → converted_tokens ts ≡ ts
 converted_stays lent ts e = clean_stays false ts (clean_there lent ts (tokens_there (under false lent) ts e))
 
 -- 8 depends only on the brackets
 abbrev Shallow : ℕ → List ℕ → Type 0
-Shallow opened ts = (at : ℕ) → depth_from at opened ts ≡ Sound
+Shallow opened ts = (at : ℕ) → depth_from at opened ts ≡ Ok tt
 
 past : (x opened : ℕ) (ts : List ℕ) → eqb x 262144 ≡ false → eqb x 262145 ≡ false → Shallow opened ts → Shallow opened (x ∷ ts)
 unfolding depth_from
@@ -112,18 +112,18 @@ past_not : (w : Bool) (opened : ℕ) (ts : List ℕ) → Shallow opened ts → S
 past_not true opened ts h = past 262146 opened ts refl refl h
 past_not false opened ts h = h
 
-past_back : (x opened at : ℕ) (ts : List ℕ) → eqb x 262144 ≡ false → eqb x 262145 ≡ false → depth_from at opened (x ∷ ts) ≡ Sound → depth_from (suc at) opened ts ≡ Sound
+past_back : (x opened at : ℕ) (ts : List ℕ) → eqb x 262144 ≡ false → eqb x 262145 ≡ false → depth_from at opened (x ∷ ts) ≡ Ok tt → depth_from (suc at) opened ts ≡ Ok tt
 unfolding depth_from
 past_back x opened at ts e f h = rw (e, f) at h
 
 -- a token that stays
-kept_depth : (x opened at : ℕ) (ts us : List ℕ) → ((n : ℕ) → depth_from (suc at) n ts ≡ Sound → Shallow n us) → depth_from at opened (x ∷ ts) ≡ Sound → Shallow opened (x ∷ us)
+kept_depth : (x opened at : ℕ) (ts us : List ℕ) → ((n : ℕ) → depth_from (suc at) n ts ≡ Ok tt → Shallow n us) → depth_from at opened (x ∷ ts) ≡ Ok tt → Shallow opened (x ∷ us)
 unfolding depth_from
 kept_depth x opened at ts us f e place = go (eqb x 262144) (eqb opened 16) (cond (eqb x 262145) (pred opened) opened) e
   where
     go : (opens most : Bool) (left : ℕ) →
-        cond opens (cond most (Refused (Depth at)) (depth_from (suc at) (suc opened) ts)) (depth_from (suc at) left ts) ≡ Sound →
-        cond opens (cond most (Refused (Depth place)) (depth_from (suc place) (suc opened) us)) (depth_from (suc place) left us) ≡ Sound
+        cond opens (cond most (Err (Depth at)) (depth_from (suc at) (suc opened) ts)) (depth_from (suc at) left ts) ≡ Ok tt →
+        cond opens (cond most (Err (Depth place)) (depth_from (suc place) (suc opened) us)) (depth_from (suc place) left us) ≡ Ok tt
     go true true left e = absurd (let z : ◌≡◌ {A = ℕ} 0 1 = cc in omega arith)
     go true false left e = f (suc opened) e (suc place)
     go false most left e = f left e (suc place)
@@ -132,7 +132,7 @@ empty : (opened : ℕ) → Shallow opened []
 unfolding depth_from
 empty opened place = refl
 
-on_depth : (w : Bool) (ts : List ℕ) (at opened : ℕ) → depth_from at opened ts ≡ Sound → Shallow opened (only_on w ts)
+on_depth : (w : Bool) (ts : List ℕ) (at opened : ℕ) → depth_from at opened ts ≡ Ok tt → Shallow opened (only_on w ts)
 unfolding only_on
 on_depth w [] at opened e = none w
   where
@@ -141,8 +141,8 @@ on_depth w [] at opened e = none w
     none false = empty opened
 on_depth w (x ∷ ts) at opened e = go (is_off x) (eqb x 262146) refl refl (on_depth true ts (suc at)) (on_depth false ts (suc at))
   where
-    go : (f n : Bool) → is_off x ≡ f → eqb x 262146 ≡ n → ((m : ℕ) → depth_from (suc at) m ts ≡ Sound → Shallow m (only_on true ts)) →
-        ((m : ℕ) → depth_from (suc at) m ts ≡ Sound → Shallow m (only_on false ts)) →
+    go : (f n : Bool) → is_off x ≡ f → eqb x 262146 ≡ n → ((m : ℕ) → depth_from (suc at) m ts ≡ Ok tt → Shallow m (only_on true ts)) →
+        ((m : ℕ) → depth_from (suc at) m ts ≡ Ok tt → Shallow m (only_on false ts)) →
         Shallow opened (cond f (not_if (not w) ++ on_token x ∷ only_on false ts) (cond n (not_if w ++ only_on true ts) (not_if w ++ x ∷ only_on false ts)))
     go true n i j p q =
         let k : x / 65536 ≡ 3 = eqb-true (x / 65536) 3 i in
@@ -154,7 +154,7 @@ on_depth w (x ∷ ts) at opened e = go (is_off x) (eqb x 262146) refl refl (on_d
         past_not w opened _ (p opened (past_back x opened at ts (ne_eqb x 262144 (λ z. omega arith)) (ne_eqb x 262145 (λ z. omega arith)) e))
     go false false i j p q = past_not w opened _ (kept_depth x opened at ts _ q e)
 
-pub converted_depth : (ts : List ℕ) → depth_check ts ≡ Sound → depth_check (converted_tokens ts) ≡ Sound
+pub converted_depth : (ts : List ℕ) → depth_check ts ≡ Ok tt → depth_check (converted_tokens ts) ≡ Ok tt
 converted_depth ts e = on_depth false ts 0 0 e 0
 
 -- an off token is a subject of nothing but a switch condition
@@ -284,7 +284,7 @@ module _ (plan : List ℕ) where
       row_of-flat rows k (omega (arith, many)) ∙ row_on (plan_row plan) 0 (plan_rows plan) k l ∙ ap (λ n. on_row (plan_row plan n)) (zero-add k)
 
 -- run's refusal 11 under the new rules is never given of what was converted
-pub converted_plan_sound : (lent : Lent) (plan : List ℕ) → plan_check (under true lent) plan ≡ Sound → plan_check (under false lent) (converted_plan plan) ≡ Sound
+pub converted_plan_sound : (lent : Lent) (plan : List ℕ) → plan_check (under true lent) plan ≡ Ok tt → plan_check (under false lent) (converted_plan plan) ≡ Ok tt
 unfolding first_of
 converted_plan_sound lent plan s =
     rw (length_sound_lem)

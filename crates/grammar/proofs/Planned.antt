@@ -6,7 +6,6 @@ use native.Mathlib.Omega.{arith}
 use lib.ListN.{length}
 use lib.Dec.{eqb, ltb}
 use borrow.Author.Tests.{lt-ltb, le-leb, eq-eqb}
-use Rattle.tables.specs.declared.Check.TheVariants.{Sound}
 use Rattle.tables.specs.declared.Refusal.TheVariants.{PlanRow as PlanFault, Typing}
 use Rattle.tables.specs.Operands.{Lent}
 use Rattle.tables.specs.Refusals.{first_failing, first_of}
@@ -22,6 +21,7 @@ use Rattle.grammar.specs.Plan.{on_false, on_true, rows_of, planned, plan_row, pl
 use Rattle.grammar.proofs.Judging.{some_leaf}
 use Rattle.grammar.proofs.Segment.{Stands, stands_one, stands_parts, planned-length, planned-rows, planned_stands}
 use Rattle.grammar.proofs.Typed.{typing_of_rows}
+use Rattle.std.specs.Prelude.{Ok}
 
 -- each simple condition of the tree, by its subject, relation and object
 abbrev pub Each : (ℕ → ℕ → ℕ → Type 0) → Tree → Type 0
@@ -102,7 +102,7 @@ planned-length_sound t l =
 abbrev pub ShapedTree : Lent → Tree → Type 0
 ShapedTree lent t = Each (λ a r b. shape_sound lent (test_of r) a b ≡ true) t
 
-pub planned_sound : (lent : Lent) (t : Tree) → simple_count t ≤ 128 → typing_from lent 0 t ≡ Sound → ShapedTree lent t → plan_check lent (planned t) ≡ Sound
+pub planned_sound : (lent : Lent) (t : Tree) → simple_count t ≤ 128 → typing_from lent 0 t ≡ Ok tt → ShapedTree lent t → plan_check lent (planned t) ≡ Ok tt
 unfolding first_of plan_row_sound
 planned_sound lent t l typing shapes =
     rw (planned-length_sound t l)

@@ -10,7 +10,6 @@ use lib.ListN.{length, get_or, take, length-take}
 use lib.Seq.{get_or-take}
 use lib.Dec.{eqb}
 use borrow.Author.Tests.{ne_eqb}
-use Rattle.tables.specs.declared.Check.TheVariants.{Sound}
 use Rattle.tables.specs.declared.Refusal.TheVariants.{Token}
 use Rattle.tables.specs.Tokens.{is_switch, exists, token_there}
 use Rattle.tables.specs.Rows.{row_count, name_count}
@@ -33,6 +32,7 @@ use Rattle.grammar.proofs.Segment.{Stands, rows-count, planned-length, planned_s
 use Rattle.grammar.proofs.Size.{few_rows}
 use Rattle.grammar.proofs.Typed.{typing_of_rows}
 use Rattle.grammar.proofs.Planned.{ShapedTree, each_row, planned_sound}
+use Rattle.std.specs.Prelude.{Ok}
 
 -- what holds at each place of a list holds of each member
 member_passes : (passes : ℕ → Bool) {x : ℕ} {ts : List ℕ} → Memᴰ x ts →
@@ -45,7 +45,7 @@ module _ (lent : Lent) where
   abbrev pub There : List ℕ → Type 0
   There ts = (x : ℕ) → Memᴰ x ts → token_there lent.off (row_count lent.items) (row_count lent.literals) (name_count lent.names) x ≡ true
 
-  pub tokens_there : (ts : List ℕ) → token_check lent ts ≡ Sound → There ts
+  pub tokens_there : (ts : List ℕ) → token_check lent ts ≡ Ok tt → There ts
   tokens_there ts e x m =
       member_passes (token_there lent.off (row_count lent.items) (row_count lent.literals) (name_count lent.names)) m
       (every_sound (λ i. token_there lent.off (row_count lent.items) (row_count lent.literals) (name_count lent.names) (get_or ts i 0)) Token (length ts) e)
@@ -155,12 +155,12 @@ module _ (lent : Lent) where
         | Body.brackets i (h → p) j ↦ record { shapes = λ x k. ((p.shapes (there_left _ (there_tail x)) tt).0, tt) }
       ]
 
-  pub shaped : {ts : List ℕ} {t : Tree} → Derives ts t → token_check lent ts ≡ Sound → ShapedTree lent t
+  pub shaped : {ts : List ℕ} {t : Tree} → Derives ts t → token_check lent ts ≡ Ok tt → ShapedTree lent t
   shaped {ts} h e = ((tree_shapes h.derivation).shapes (tokens_there ts e) tt).0
 
   -- refusal 11 is never given of what was planned
-  pub planned-plan_sound : {ts : List ℕ} {t : Tree} → Derives ts t → length ts ≤ 256 → token_check lent ts ≡ Sound → typing_from lent 0 t ≡ Sound →
-      plan_check lent (planned t) ≡ Sound
+  pub planned-plan_sound : {ts : List ℕ} {t : Tree} → Derives ts t → length ts ≤ 256 → token_check lent ts ≡ Ok tt → typing_from lent 0 t ≡ Ok tt →
+      plan_check lent (planned t) ≡ Ok tt
   planned-plan_sound {t = t} h l tokens typing = planned_sound lent t (few_rows h l) typing (shaped h tokens)
 
 -- a row is read in the part of the buffer that holds it

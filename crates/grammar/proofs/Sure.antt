@@ -8,7 +8,6 @@ use native.Mathlib.Omega.{arith}
 use lib.ListN.{length}
 use lib.Dec.{eqb, leb, ltb}
 use borrow.Author.Tests.{ltb-true, eqb-true, leb-true}
-use Rattle.tables.specs.declared.Check.TheVariants.{Sound}
 use Rattle.tables.specs.Operands.{Lent}
 use Rattle.tables.proofs.Lines.{lines_sound, every_sound, test_sound}
 use Rattle.tables.proofs.Tests.{both, four, either}
@@ -17,6 +16,7 @@ use Rattle.typing.specs.Shape.{shape_sound}
 use Rattle.typing.specs.Typing.{typed}
 use Rattle.grammar.specs.declared.PlanRow.{PlanRow}
 use Rattle.grammar.specs.Plan.{on_true, on_false, plan_row, plan_rows, plan_length_sound, plan_row_sound, plan_check, target_sound}
+use Rattle.std.specs.Prelude.{Ok}
 
 -- a target of row k, in a plan of so many rows: a later row, or a verdict
 pub record Later (rows k target : ℕ) : Type 0 where
@@ -45,7 +45,7 @@ pub record Sure (lent : Lent) (rows k : ℕ) (r : PlanRow) : Type 0 where
   pub holds : Later rows k r.holds
   pub fails : Later rows k r.fails
 
-module _ (lent : Lent) (plan : List ℕ) (p : plan_check lent plan ≡ Sound) where
+module _ (lent : Lent) (plan : List ℕ) (p : plan_check lent plan ≡ Ok tt) where
   pub lines : (plan_length_sound plan ≡ true) × ((k : ℕ) → k < plan_rows plan → plan_row_sound lent (plan_rows plan) k (plan_row plan k) ≡ true)
   lines = let s = lines_sound _ p in (test_sound _ _ s.0, every_sound _ _ _ s.1.0)
 

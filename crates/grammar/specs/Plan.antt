@@ -1,11 +1,10 @@
 -- Document 01, "The plan": its rows, their soundness (refusal 11), and running them.
 use Rattle.std.specs.Prelude.{Bool, cond, ◌&&◌, ◌||◌, List, [], ◌∷◌, ◌++◌, ℕ, zero, suc, ◌+◌, ◌*◌, ◌/◌, ◌%◌, length, get_or, eqb, leb, ltb}
-use Rattle.tables.specs.declared.Check.{Check}
 use Rattle.tables.specs.declared.Refusal.TheVariants.{PlanRow as PlanFault}
 use Rattle.tables.specs.declared.Verdict.{Verdict}
 use Rattle.tables.specs.declared.Verdict.TheVariants.{True, False, Refused}
 use Rattle.tables.specs.Operands.{Lent}
-use Rattle.tables.specs.Refusals.{unless, first_failing, first_of}
+use Rattle.tables.specs.Refusals.{unless, first_failing, first_of, Check}
 use Rattle.typing.specs.Tests.{test_of}
 use Rattle.typing.specs.Shape.{shape_sound}
 use Rattle.typing.specs.Typing.{typed}

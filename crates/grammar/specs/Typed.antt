@@ -1,9 +1,8 @@
 -- Document 01, refusal 9: "typing broken", "first such simple condition".
 use Rattle.std.specs.Prelude.{◌≡◌, true, List, [], ◌∷◌, ℕ, ◌+◌, ◌*◌, ◌≤◌, ◌<◌, length}
-use Rattle.tables.specs.declared.Check.{Check}
 use Rattle.tables.specs.declared.Refusal.TheVariants.{Typing}
 use Rattle.tables.specs.Operands.{Lent}
-use Rattle.tables.specs.Refusals.{unless, first_failing, first_of}
+use Rattle.tables.specs.Refusals.{unless, first_failing, first_of, Check}
 use Rattle.typing.specs.Tests.{test_of}
 use Rattle.typing.specs.Shape.{operands_sound}
 use Rattle.typing.specs.Typing.{typed}

@@ -10,12 +10,10 @@ use mathlib.Core.Bool.{Bool, true, false, ◌&&◌}
 use lib.ListN.{length}
 use lib.Dec.{eqb, leb}
 use borrow.Author.Tests.{leb-true, not-true}
-use Rattle.tables.specs.declared.Check.{Check}
-use Rattle.tables.specs.declared.Check.TheVariants.{Sound, Refused}
 use Rattle.tables.specs.declared.Refusal.TheVariants.{ItemTable, ItemRow, Overlap, Record, Room}
 use Rattle.tables.specs.Rows.{row_at, row_count, row_sound, is_group, lies_in}
 use Rattle.tables.specs.Operands.{lend}
-use Rattle.tables.specs.Refusals.{first_of, first_failing}
+use Rattle.tables.specs.Refusals.{first_of, first_failing, Check}
 use Rattle.tables.specs.Tables.{table_lines}
 use Rattle.tables.proofs.Tests.{both, either, or_right}
 use Rattle.tables.proofs.Lines.{every_sound, lines_sound, lines_before, line_last, test_sound}
@@ -23,15 +21,16 @@ use Rattle.tables.proofs.Bytes.{RowFacts, row_facts}
 use Rattle.items.specs.Items.{each_below, apart, clear_of, clear_at}
 use Rattle.items.specs.Lines.{item_lines, overlap_check, long_check, room_check}
 use Rattle.items.proofs.Rewriting.{Lies, Clear}
+use Rattle.std.specs.Prelude.{Err, Ok}
 
 -- a table without literals has 1 and 2 only
 pub no_literals : (items : List ℕ) → first_of (table_lines (lend items [] [])) ≡ first_of (item_lines items)
 unfolding first_of first_failing
-no_literals items = lines_before (item_lines items) (Sound ∷ Sound ∷ []) ∙ by (first_of (item_lines items))
+no_literals items = lines_before (item_lines items) (Ok tt ∷ Ok tt ∷ []) ∙ by (first_of (item_lines items))
   where
-    by : (line : Check) → first_of (line ∷ Sound ∷ Sound ∷ []) ≡ line
-    by Sound = refl
-    by (Refused refusal) = refl
+    by : (line : Check) → first_of (line ∷ Ok tt ∷ Ok tt ∷ []) ≡ line
+    by (Ok _) = refl
+    by (Err refusal) = refl
 
 -- a test of one row more
 pub each_more : (test : ℕ → Bool) (u : ℕ) → each_below test (u + 1) ≡ each_below test u && test u
@@ -55,7 +54,7 @@ each_all test zero h = refl
 each_all test (suc n) h = rw (each_all test n (λ k l. h k (omega arith)), h n (omega arith))
 
 -- 19 ruled out
-pub clear_fact : (items : List ℕ) → overlap_check items ≡ Sound → Clear items (row_count items)
+pub clear_fact : (items : List ℕ) → overlap_check items ≡ Ok tt → Clear items (row_count items)
 clear_fact items e u v h k eu ev =
     let at_v : clear_at items v ≡ true = every_sound (clear_at items) Overlap (row_count items) e v k in
     let below : each_below (clear_of items v) v ≡ true = or_right (is_group (row_at items v)) _ at_v (not-true _ ev) in
@@ -65,15 +64,15 @@ clear_fact items e u v h k eu ev =
     (either (leb ((row_at items u).offset + (row_at items u).size) (row_at items v).offset) _ free)
 
 -- 12 ruled out: every row lies in the record, groups too
-pub all_lie : (items content : List ℕ) → long_check items content ≡ Sound → (v : ℕ) → v < row_count items
+pub all_lie : (items content : List ℕ) → long_check items content ≡ Ok tt → (v : ℕ) → v < row_count items
     → (row_at items v).offset + (row_at items v).size ≤ length content
 all_lie items content e v h = leb-true _ _ (every_sound (λ k. lies_in (row_at items k) content) Record (row_count items) e v h)
 
-pub lies_fact : (items content : List ℕ) → long_check items content ≡ Sound → Lies items (length content) (row_count items)
+pub lies_fact : (items content : List ℕ) → long_check items content ≡ Ok tt → Lies items (length content) (row_count items)
 lies_fact items content e v h ev = all_lie items content e v h
 
 -- 1 and 2 ruled out
-module _ (items : List ℕ) (sound : first_of (item_lines items) ≡ Sound) where
+module _ (items : List ℕ) (sound : first_of (item_lines items) ≡ Ok tt) where
   pub row_sound_at : (v : ℕ) → v < row_count items → row_sound (row_at items v) ≡ true
   row_sound_at v h = every_sound (λ k. row_sound (row_at items k)) ItemRow (row_count items) (lines_sound (item_lines items) sound).1.0 v h
 
@@ -86,5 +85,5 @@ module _ (items : List ℕ) (sound : first_of (item_lines items) ≡ Sound) wher
       leb-true _ _ (both (eqb (length items % 5) 0) (leb (length items) 320) (test_sound _ ItemTable (lines_sound (item_lines items) sound).0)).1
 
 -- 10 ruled out
-pub room_fact : (needed room : ℕ) → room_check needed room ≡ Sound → needed ≤ room
+pub room_fact : (needed room : ℕ) → room_check needed room ≡ Ok tt → needed ≤ room
 room_fact needed room e = leb-true needed room (test_sound (leb needed room) (Room needed) e)

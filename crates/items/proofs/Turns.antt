@@ -7,7 +7,6 @@ use mathlib.Core.List.{List}
 use mathlib.Core.Bool.{Bool, true, false, not, ◌&&◌, ◌||◌, true≢false}
 use lib.Dec.{leb}
 use borrow.Author.Tests.{le-leb, leb-true, not-true, not-false}
-use Rattle.tables.specs.declared.Check.TheVariants.{Sound}
 use Rattle.tables.specs.declared.Refusal.TheVariants.{Overlap}
 use Rattle.content.specs.declared.Row.{Row}
 use Rattle.tables.proofs.Tests.{both}
@@ -16,6 +15,7 @@ use Rattle.tables.proofs.Lines.{failing_none}
 use Rattle.items.specs.Items.{clear_of, clear_at}
 use Rattle.items.specs.Lines.{overlap_check}
 use Rattle.items.proofs.Facts.{each_all}
+use Rattle.std.specs.Prelude.{Ok}
 
 -- the elementary ones of the first v rows end by `end`, and none of those rows overlaps an earlier one
 pub record InTurn (items : List ℕ) (v end : ℕ) : Type 0 where
@@ -59,7 +59,7 @@ module _ {items : List ℕ} {v end : ℕ} (t : InTurn items v end) where
         by_clear u l (yes h) = t.clear u h
         by_clear u l (no h) = let q : u ≡ v = omega arith in rw (q, g) (each_all (clear_of items v) v clear_of_lem)
 
-pub turn-all : {items : List ℕ} {v end : ℕ} → InTurn items v end → row_count items ≤ v → overlap_check items ≡ Sound
+pub turn-all : {items : List ℕ} {v end : ℕ} → InTurn items v end → row_count items ≤ v → overlap_check items ≡ Ok tt
 turn-all {items} t l = failing_none (clear_at items) Overlap 0 (row_count items) (λ k h m. t.clear k (omega arith))
 
 -- the same of what the code holds, where the rows before lie in turn

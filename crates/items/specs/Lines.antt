@@ -1,10 +1,9 @@
 -- The lines of the table of refusals that calls over whole records share.
 use Rattle.std.specs.Prelude.{List, [], ◌∷◌, ℕ, leb}
-use Rattle.tables.specs.declared.Check.{Check}
 use Rattle.tables.specs.declared.Refusal.TheVariants.{Overlap, Room}
 use Rattle.tables.specs.Rows.{row_count}
 use Rattle.tables.specs.Operands.{lend}
-use Rattle.tables.specs.Refusals.{unless, first_failing}
+use Rattle.tables.specs.Refusals.{unless, first_failing, Check}
 use Rattle.tables.specs.Tables.{item_table_check, item_row_check, record_check}
 use Rattle.items.specs.Items.{clear_at}
 

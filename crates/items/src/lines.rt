@@ -4,21 +4,21 @@ ghost use Rattle.tables.specs.Refusals.{first_of};
 ghost use Rattle.items.specs.Lines.{item_lines, room_check};
 
 use checks::lent::check_tables;
-use tables::{Check, Refusal};
+use tables::Refusal;
 
 // 1 and 2.
-pub fn check_items(items: &[u32]) -> Check
+pub fn check_items(items: &[u32]) -> Result<(), Refusal>
     ensures { result ≡ first_of (item_lines items.now) }
 {
     check_tables(items, &items[0..0], &[])
 }
 
 // 10: room for what is written.
-pub fn check_room(needed: usize, room: usize) -> Check
+pub fn check_room(needed: usize, room: usize) -> Result<(), Refusal>
     ensures { result ≡ room_check needed room }
 {
     if needed <= room {
-        return Check::Sound;
+        return Ok(());
     }
-    Check::Refused(Refusal::Room(needed))
+    Err(Refusal::Room(needed))
 }

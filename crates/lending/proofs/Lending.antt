@@ -8,7 +8,6 @@ use lib.Dec.{eqb, leb}
 use lib.ListN.{length, get_or, take, drop, length-append, length-drop, get_or-append}
 use lib.Seq.{take_at, take-append-le, drop-append-le}
 use borrow.Author.Tests.{eq-eqb, le-leb}
-use Rattle.tables.specs.declared.Check.TheVariants.{Sound}
 use Rattle.tables.specs.declared.Refusal.TheVariants.{ItemRow, LiteralRow, Name}
 use Rattle.content.specs.declared.Row as Rules
 use Rattle.tables.specs.Rows.{row_count, name_count, row_at, row_sound, part}
@@ -36,6 +35,7 @@ use Rattle.lending.proofs.Items.{rows_low}
 use Rattle.lending.proofs.Literals.{nothing, offset, rows-length, row_is, bytes_at_lem, sound_at}
 use Rattle.lending.proofs.Values.{Holds}
 use Rattle.lending.proofs.Names.{AllGood, all_good, names-length, names_sound}
+use Rattle.std.specs.Prelude.{Ok}
 
 abbrev none : Row
 none = row 0 0 0 0 0
@@ -61,24 +61,24 @@ module _ (off : Bool) (text : List ℕ) (t : Table) (e : describe text ≡ table
       entries_fit w.valid.described (λ j d h. record { item_row_lem = get_or t.rows (get_or t.conditions j d).item none; free = (w.name_kept j d h).free })
 
   -- 1, 2
-  items_long : item_table_check l ≡ Sound
+  items_long : item_table_check l ≡ Ok tt
   items_long = rw (length_sound_lem t.rows (omega (arith, w.as_many, w.items)))
 
-  items_sound : item_row_check l ≡ Sound
+  items_sound : item_row_check l ≡ Ok tt
   items_sound =
       failing_none (λ v. row_sound (row_at (rows_of t) v)) ItemRow 0 (row_count (rows_of t)) (λ v a b.
       let h : v < length t.rows = omega (arith, count_is t.rows) in
       ap row_sound (row_at_lem t.rows v none h) ∙ rows_low w.valid.described w.valid.nested v none h (w.row_kept v none h))
 
   -- 3, 4
-  literals_long : literal_table_check l ≡ Sound
+  literals_long : literal_table_check l ≡ Ok tt
   literals_long = rw (literals_are, length_sound_lem (literal_rows 0 xs) (omega (arith, rows-length 0 xs, w.literals)))
 
   row_of_lem : (k : ℕ) → k < length xs → row_at (Calls.literals_of t) k ≡ ruled (literal_row (offset xs k) (get_or xs k nothing))
   row_of_lem k h =
       ap (λ (ns : List ℕ). row_at ns k) literals_are ∙ row_at_lem (literal_rows 0 xs) k none (omega (arith, rows-length 0 xs)) ∙ ap ruled (row_is xs k none h)
 
-  literals_sound : literal_row_check l ≡ Sound
+  literals_sound : literal_row_check l ≡ Ok tt
   literals_sound =
       failing_none (λ v. literal_sound t.bytes (row_at (Calls.literals_of t) v)) LiteralRow 0 (row_count (Calls.literals_of t)) (λ v a b.
       let h : v < length xs = omega (arith, literal-count) in
@@ -120,14 +120,14 @@ module _ (off : Bool) (text : List ℕ) (t : Table) (e : describe text ≡ table
         (names_sound beside t.rows refl xs all 0 0 t.conditions
         (λ m. let y : 0 * 18 + m ≡ m = omega arith in rw y (ap (λ (ns : List ℕ). get_or ns m 0) names_are)) good refl v h)
 
-    names_fine : first_failing (name_sound beside) Name 0 (name_count (names_of t)) ≡ Sound
+    names_fine : first_failing (name_sound beside) Name 0 (name_count (names_of t)) ≡ Ok tt
     names_fine = failing_none (name_sound beside) Name 0 (name_count (names_of t)) (λ v a b. each_name v (omega (arith, names-count)))
 
-    names_checked : name_check beside ≡ Sound
+    names_checked : name_check beside ≡ Ok tt
     unfolding first_of
     names_checked = rw (names_long, names_fine)
 
-  lines : first_of (lent_lines l) ≡ Sound
+  lines : first_of (lent_lines l) ≡ Ok tt
   unfolding first_of
   lines = rw (items_long, items_sound, literals_long, literals_sound, names_checked (Calls.literals_of t) t.bytes holds)
 
@@ -186,7 +186,7 @@ front out before {n = n} q h = ap (take n) q ∙ take_at out (drop (length out) 
 pub outputs_lendable : OutputsLendable
 outputs_lendable off text rows places names name-places literals bytes rows-after places-after names-after name-places-after literals-after bytes_after a b c d e f D = by (describe text) refl
   where
-    by : (o : Outcome) → describe text ≡ o → first_of (lent_lines (lent off (take a rows-after) (take e literals-after) (take f bytes_after) (take c names-after))) ≡ Sound
+    by : (o : Outcome) → describe text ≡ o → first_of (lent_lines (lent off (take a rows-after) (take e literals-after) (take f bytes_after) (take c names-after))) ≡ Ok tt
     by (refusal p) q = let s : Counts a b c d e f ≡ Faulty p = D.answered ∙ rw q in let z : ◌≡◌ {A = ℕ} 0 1 = cc in absurd (omega arith)
     by (table t) q =
         let s =

@@ -1,13 +1,9 @@
 -- What the calls answered is what is said and saved.
 use Rattle.std.proofs.Common.{◌≡◌, ℕ, ◌+◌, ◌-◌, ◌<◌, ◌≤◌, Bool, true, false, cond, eqb, ◌⊎◌, List, ◌∷◌, ◌++◌, length, take, drop, sym, refl, ap, ◌∙◌, subst, ⊎_elim, arith, length-take, take_all, take_at, ne_eqb}
-use Rattle.tables.specs.declared.Check.{Check}
-use Rattle.tables.specs.declared.Check.TheVariants.{Sound, Refused as Unsound}
 use Rattle.tables.specs.declared.Verdict.{Verdict}
 use Rattle.tables.specs.declared.Judged.{Judged}
-use Rattle.tables.specs.declared.Written.{Written}
-use Rattle.tables.specs.declared.Written.TheVariants.{Count}
 use Rattle.tables.specs.Operands.{Lent}
-use Rattle.tables.specs.Refusals.{first_of}
+use Rattle.tables.specs.Refusals.{first_of, Check, Written}
 use Rattle.tables.proofs.Lines.{lines_before, lines_sound}
 use Rattle.rules.specs.Calls.{run_gives}
 use Rattle.lines.specs.Put.{Puts}
@@ -20,6 +16,7 @@ use Rattle.merger.specs.Desk.{Leaves}
 use Rattle.logbook_program.specs.Ruled.{status_of, merge_status, Fits, Merges, Mends}
 use Rattle.logbook_program.specs.declared.files.Loaded.{Loaded}
 use Rattle.logbook_program.specs.declared.files.Loaded.TheVariants.{Bytes}
+use Rattle.std.specs.Prelude.{Err, Ok}
 
 pub status_of_lem : {given gives : Judged} {v : Verdict} → given ≡ gives → given.verdict ≡ v → status_of v ≡ status_of gives.verdict
 status_of_lem e q = ap status_of (sym q ∙ ap (λ (j : Judged). j.verdict) e)
@@ -35,15 +32,15 @@ few_ends r n = ⊎_elim (λ e. omega (arith, e)) (λ e. by (eqb n 0) e)
     by false e = omega (arith, e)
 
 -- a record that was mended
-pub mended : (items content list : List ℕ) {answer : Written} {n : ℕ} {new old : List ℕ} → answer ≡ (mending items content list).answer → answer ≡ Count n
+pub mended : (items content list : List ℕ) {answer : Written} {n : ℕ} {new old : List ℕ} → answer ≡ (mending items content list).answer → answer ≡ Ok n
     → new ≡ (mending items content list).content → content ≡ old → Mends items old new
 mended items content list {answer} {n} {new} a q w e =
     by (mend_line items content (length list)) (sym a ∙ q) w ∙ ap (mended_record items) e
   where
-    by : (line : Check) → (mend_by line (mended_record items content) (changes items content) content list).answer ≡ Count n
+    by : (line : Check) → (mend_by line (mended_record items content) (changes items content) content list).answer ≡ Ok n
         → new ≡ (mend_by line (mended_record items content) (changes items content) content list).content → new ≡ mended_record items content
-    by Sound f w = w
-    by (Unsound refusal) f w = absurd (let z : ◌≡◌ {A = ℕ} 0 1 = cc in omega arith)
+    by (Ok _) f w = w
+    by (Err refusal) f w = absurd (let z : ◌≡◌ {A = ℕ} 0 1 = cc in omega arith)
 
 -- a file that was loaded is no longer than its room
 pub loaded_short : {r : Loaded} {n room : ℕ} (bytes : List ℕ) → Fits r room → r ≡ Bytes n → length (take n bytes) ≤ room
@@ -78,8 +75,8 @@ module _ (lent : Lent) (plan : List ℕ) (switches : ℕ) (old first second out 
           → content ≡ (merge_by line (length old) (merged_record copies verdict) (contested copies verdict) out list).content
           → rows ≡ (merge_by line (length old) (merged_record copies verdict) (contested copies verdict) out list).rows
           → Merges lent plan switches old first second (take n content) (take m rows)
-      by Sound s a c r =
-          let desk : first_of (desk_lines lent plan old first second) ≡ Sound =
+      by (Ok _) s a c r =
+          let desk : first_of (desk_lines lent plan old first second) ≡ Ok tt =
           (lines_sound (first_of (desk_lines lent plan old first second) ∷ lines) (sym (lines_before (desk_lines lent plan old first second) lines) ∙ s)).0 in
           let size : length (merged_record copies verdict) ≡ n =
           merged_long copies verdict (desk_fine lent plan old first second desk) ∙ (let e : length old ≡ n = cc in e) in
@@ -88,4 +85,4 @@ module _ (lent : Lent) (plan : List ℕ) (switches : ℕ) (old first second out 
             saved = ap (take n) c ∙ take_at (merged_record copies verdict) (drop (length old) out) n size;
             listed = ap (take m) r ∙ take_at (contested copies verdict) (drop (length (contested copies verdict)) list) m count;
           }
-      by (Unsound refusal) s a c r = absurd (let z : ◌≡◌ {A = ℕ} 0 1 = cc in omega arith)
+      by (Err refusal) s a c r = absurd (let z : ◌≡◌ {A = ℕ} 0 1 = cc in omega arith)

@@ -7,7 +7,6 @@ use crate::refusals::of_record;
 use content::Row;
 use differences::calls::differ;
 use fronts::{front, front_bytes};
-use tables::Written;
 use tables::rows::row_at;
 
 const OUTPUT: usize = 128;
@@ -126,7 +125,7 @@ fn compared(
     let mut output = [0u32; OUTPUT];
     let written = differ(items, first, second, &mut output);
     match written {
-        Written::Count(n) => lines(
+        Ok(n) => lines(
             rt,
             description,
             items,
@@ -135,7 +134,7 @@ fn compared(
             second,
             front(&output, n),
         ),
-        Written::Refused(refusal) => {
+        Err(refusal) => {
             of_record(rt, refusal, description, places);
             2
         }

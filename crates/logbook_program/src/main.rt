@@ -36,7 +36,6 @@ use print::{number, text};
 use refusals::{in_text, of_rule, sentence};
 use show_rule::show_rule;
 use sweep_file::sweep_file;
-use tables::Written;
 use tables::rows::NAME_TABLE;
 use texts::calls::read;
 
@@ -252,7 +251,7 @@ fn with_tokens(
     let mut numbers = [0u32; PLAN];
     let written = plan(items, literals, bytes, names, tokens, &mut numbers);
     match written {
-        Written::Count(n) => planned(
+        Ok(n) => planned(
             rt,
             command,
             description,
@@ -264,7 +263,7 @@ fn with_tokens(
             tokens,
             front(&numbers, n),
         ),
-        Written::Refused(refusal) => {
+        Err(refusal) => {
             of_rule(rt, refusal, description, places, name_places, rule, tokens);
             2
         }

@@ -10,7 +10,6 @@ use content::Row;
 use fronts::front_bytes;
 use item_parts::parts::same_bytes;
 use mender::calls::mend;
-use tables::Written;
 use tables::rows::{is_group, row_at};
 
 // Three numbers for each of at most 19 bytes of at most 64 items.
@@ -100,8 +99,8 @@ fn mend_part(
     let mut list = [0u32; CHANGES];
     let written = mend(items, record, &mut list);
     match written {
-        Written::Count(_) => told(rt, description, items, places, old, record),
-        Written::Refused(refusal) => {
+        Ok(_) => told(rt, description, items, places, old, record),
+        Err(refusal) => {
             of_record(rt, refusal, description, places);
             2
         }

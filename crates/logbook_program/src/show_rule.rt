@@ -15,7 +15,6 @@ use plan_lines::plans::put_plan_row;
 use plan_rows::rows::plan_row;
 use printouts::printing::print;
 use refusal_numbers::number_of;
-use tables::Written;
 
 const EXPANDED: usize = 634;
 
@@ -50,8 +49,8 @@ fn in_full(
     let mut full = [0u32; EXPANDED];
     let expanded = expand(items, literals, bytes, names, tokens, &mut full);
     match expanded {
-        Written::Count(n) => line(rt, description, literals, bytes, front(&full, n)),
-        Written::Refused(refusal) => sentence(rt, number_of(refusal)),
+        Ok(n) => line(rt, description, literals, bytes, front(&full, n)),
+        Err(refusal) => sentence(rt, number_of(refusal)),
     }
 }
 
@@ -119,8 +118,8 @@ fn named(
     let mut rows = [0u32; ROWS];
     let listed = named_items(items, literals, bytes, names, tokens, &mut rows);
     match listed {
-        Written::Count(n) => looks(rt, description, places, front(&rows, n)),
-        Written::Refused(refusal) => sentence(rt, number_of(refusal)),
+        Ok(n) => looks(rt, description, places, front(&rows, n)),
+        Err(refusal) => sentence(rt, number_of(refusal)),
     }
 }
 

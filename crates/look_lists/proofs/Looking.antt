@@ -14,12 +14,8 @@ use Rattle.items.specs.Items.{listed}
 use Rattle.items.proofs.Listing.{listed_none, listed_more}
 use Rattle.tables.specs.declared.Refusal.{Refusal}
 use Rattle.tables.specs.declared.Refusal.TheVariants.{ItemTable}
-use Rattle.tables.specs.declared.Check.{Check}
-use Rattle.tables.specs.declared.Check.TheVariants.{Sound, Refused}
-use Rattle.tables.specs.declared.Written.{Written}
-use Rattle.tables.specs.declared.Written.TheVariants.{Refused as Unwritten}
 use Rattle.tables.specs.Operands.{Lent, lend_names}
-use Rattle.tables.specs.Refusals.{first_of}
+use Rattle.tables.specs.Refusals.{first_of, Check, Written}
 use Rattle.tables.specs.Tables.{table_lines, record_check}
 use Rattle.tables.proofs.Tests.{both as both_true}
 use Rattle.tables.proofs.Lines.{test_sound, line_sound, line_refused, line_last, lines_before, lines_sound}
@@ -40,8 +36,6 @@ use Rattle.rules.specs.Calls.{condition_lines, room_check, writes, Leaves, numbe
 use Rattle.rules.specs.Footprint.{rows_asked, footprint}
 use Rattle.rules.proofs.Passing.{after_lines_lem, both_sound, read_as, condition-passes, tables_pass}
 use Rattle.rules.proofs.Answers.{plan-passes, judges_as, run_judges}
-use Rattle.resolver.specs.declared.Prepared.{Prepared}
-use Rattle.resolver.specs.declared.Prepared.TheVariants.{Rows, Refused as Unprepared}
 use Rattle.preparer.specs.Prepared.{Prepares}
 use Rattle.runner.specs.Runs.{Runnable}
 use Rattle.preparer.proofs.Ready.{ready}
@@ -49,6 +43,7 @@ use Rattle.walker.specs.Marks.{marked, marked_row, lent_names, AllMarkable, rows
 use Rattle.walker.proofs.Marking.{by_names, marked-length}
 use Rattle.walker.proofs.Range.{markable}
 use Rattle.look_lists.specs.Looked.{is_among, rising, looked_at, looked_at_plan, named_rows, named_items, judge_lines, run_lines, listing, looked_gives, looked_plan_gives, named_gives}
+use Rattle.std.specs.Prelude.{Err, Ok, Result}
 
 -- what the first rows list is the same, if each lists the same
 listed_same : (f g : ℕ → List ℕ) (n : ℕ) → ((v : ℕ) → v < n → f v ≡ g v) → listed f n ≡ listed g n
@@ -113,16 +108,16 @@ plan-named lent t =
     ∙ ap (λ rows. rows ++ named_rows lent t) (listed_none (rows_at lent (planned t)))
 
 -- the lines refuse
-pub list_refused : (lines : List Check) (rows output : List ℕ) {refusal : Refusal} → first_of lines ≡ Refused refusal → Leaves (listing lines rows output) (Unwritten refusal) output
+pub list_refused : (lines : List Check) (rows output : List ℕ) {refusal : Refusal} → first_of lines ≡ Err refusal → Leaves (listing lines rows output) (Err refusal) output
 list_refused lines rows output e =
     rw (lines_before lines (room_check rows output ∷ []) ∙ line_refused (room_check rows output ∷ []) e) (record { answered = refl; left = refl })
 
 -- or do not, and the room decides
-pub list-given : (lines : List Check) (rows output : List ℕ) {last : List ℕ} {r : Written} → first_of lines ≡ Sound → Leaves (listing [] rows output) r last →
+pub list-given : (lines : List Check) (rows output : List ℕ) {last : List ℕ} {r : Written} → first_of lines ≡ Ok tt → Leaves (listing [] rows output) r last →
     Leaves (listing lines rows output) r last
 list-given lines rows output e h = rw (after_lines_lem lines (room_check rows output ∷ []) e) h
 
-pub few_items : (lent : Lent) → first_of (lent_lines lent) ≡ Sound → row_count lent.items ≤ 64
+pub few_items : (lent : Lent) → first_of (lent_lines lent) ≡ Ok tt → row_count lent.items ≤ 64
 few_items lent e =
     let short = test_sound (eqb (length lent.items % 5) 0 && leb (length lent.items) 320) ItemTable (lines_sound (table_lines lent) (tables_sound lent e)).0 in
     omega (arith, leb-true (length lent.items) 320 (both_true (eqb (length lent.items % 5) 0) _ short).1)
@@ -152,21 +147,21 @@ module _ (items literals bytes names plan content : List ℕ) where
   abbrev left : List Check
   left = plan_check lent plan ∷ record_check lent content ∷ []
 
-  pub tables_line : {refusal : Refusal} → first_of (lent_lines lent) ≡ Refused refusal → Refused refusal ≡ first_of (run_lines lent plan content)
+  pub tables_line : {refusal : Refusal} → first_of (lent_lines lent) ≡ Err refusal → Err refusal ≡ first_of (run_lines lent plan content)
   tables_line e = sym (lines_before (lent_lines lent) left ∙ line_refused left e)
 
-  module _ (t : first_of (lent_lines lent) ≡ Sound) {line : Check} (q : line ≡ plan_check (lend_names items literals [] names) plan) where
+  module _ (t : first_of (lent_lines lent) ≡ Ok tt) {line : Check} (q : line ≡ plan_check (lend_names items literals [] names) plan) where
     plan_is : plan_check lent plan ≡ line
     plan_is = plan-lent false items literals bytes names plan ∙ sym q
 
-    pub plan_line_lem : {refusal : Refusal} → line ≡ Refused refusal → Refused refusal ≡ first_of (run_lines lent plan content)
+    pub plan_line_lem : {refusal : Refusal} → line ≡ Err refusal → Err refusal ≡ first_of (run_lines lent plan content)
     plan_line_lem e = sym (after_lines_lem (lent_lines lent) left t ∙ line_refused _ (plan_is ∙ e))
 
-    pub record_line : line ≡ Sound → record_check lent content ≡ first_of (run_lines lent plan content)
+    pub record_line : line ≡ Ok tt → record_check lent content ≡ first_of (run_lines lent plan content)
     record_line e = sym (after_lines_lem (lent_lines lent) left t ∙ line_sound _ (plan_is ∙ e) ∙ line_last _)
 
 -- no line of a run refuses: its plan can be run, and what it reaches is what the definition walks
-module _ (lent : Lent) (plan content : List ℕ) (e : first_of (run_lines lent plan content) ≡ Sound) where
+module _ (lent : Lent) (plan content : List ℕ) (e : first_of (run_lines lent plan content) ≡ Ok tt) where
   pub run_ready : Runnable lent plan content
   run_ready =
       let (t, o) = both_sound (lent_lines lent) (plan_check lent plan ∷ record_check lent content ∷ []) e in
@@ -179,28 +174,28 @@ module _ (lent : Lent) (plan content : List ℕ) (e : first_of (run_lines lent p
   unfolding looked_plan_gives run_walk
   run-listed switches output h = list-given (run_lines lent plan content) (looked_at_plan lent plan content switches) output e (rw e h)
 
-pub run_refused : (lent : Lent) (plan content : List ℕ) (switches : ℕ) (output : List ℕ) {refusal : Refusal} → first_of (run_lines lent plan content) ≡ Refused refusal →
-    Leaves (looked_plan_gives lent plan content switches output) (Unwritten refusal) output
+pub run_refused : (lent : Lent) (plan content : List ℕ) (switches : ℕ) (output : List ℕ) {refusal : Refusal} → first_of (run_lines lent plan content) ≡ Err refusal →
+    Leaves (looked_plan_gives lent plan content switches output) (Err refusal) output
 unfolding looked_plan_gives
 run_refused lent plan content switches output e = list_refused (run_lines lent plan content) (looked_at_plan lent plan content switches) output e
 
 -- a condition that is refused before it is judged
-module _ {lent : Lent} {tokens : List ℕ} {r : Prepared} {before after : List ℕ} (p : Prepares lent tokens r before after) {refusal : Refusal} (e : r ≡ Unprepared refusal) where
-  lines_refuse : first_of (condition_lines lent tokens) ≡ Refused refusal
+module _ {lent : Lent} {tokens : List ℕ} {r : Result ℕ Refusal} {before after : List ℕ} (p : Prepares lent tokens r before after) {refusal : Refusal} (e : r ≡ Err refusal) where
+  lines_refuse : first_of (condition_lines lent tokens) ≡ Err refusal
   lines_refuse = (rw e at p.readied).0
 
-  pub named_refused : (output : List ℕ) → Leaves (named_gives lent tokens output) (Unwritten refusal) output
+  pub named_refused : (output : List ℕ) → Leaves (named_gives lent tokens output) (Err refusal) output
   unfolding named_gives
   named_refused output = list_refused (condition_lines lent tokens) (numbers_of (named_items lent) (read tokens)) output lines_refuse
 
-  pub looked_refused : (content : List ℕ) (switches : ℕ) (output : List ℕ) → Leaves (looked_gives lent tokens content switches output) (Unwritten refusal) output
+  pub looked_refused : (content : List ℕ) (switches : ℕ) (output : List ℕ) → Leaves (looked_gives lent tokens content switches output) (Err refusal) output
   unfolding looked_gives
   looked_refused content switches output =
       list_refused (judge_lines lent tokens content) (looked_at lent tokens content switches) output
       (lines_before (condition_lines lent tokens) (record_check lent content ∷ []) ∙ line_refused _ lines_refuse)
 
 -- one that is not
-module _ {lent : Lent} {tokens : List ℕ} {r : Prepared} {before after : List ℕ} (p : Prepares lent tokens r before after) {count : ℕ} (e : r ≡ Rows count) where
+module _ {lent : Lent} {tokens : List ℕ} {r : Result ℕ Refusal} {before after : List ℕ} (p : Prepares lent tokens r before after) {count : ℕ} (e : r ≡ Ok count) where
   pub rows_markable : AllMarkable lent.names 64 (take (count * 5) after)
   rows_markable =
       let y = ready p e in
@@ -222,11 +217,11 @@ module _ {lent : Lent} {tokens : List ℕ} {r : Prepared} {before after : List �
     record_is : first_of (judge_lines lent tokens content) ≡ record_check lent content
     record_is = after_lines_lem (condition_lines lent tokens) (record_check lent content ∷ []) (condition-passes (ready p e).passes) ∙ line_last _
 
-    pub looked_record_refused : {refusal : Refusal} → record_check lent content ≡ Refused refusal → Leaves (looked_gives lent tokens content switches output) (Unwritten refusal) output
+    pub looked_record_refused : {refusal : Refusal} → record_check lent content ≡ Err refusal → Leaves (looked_gives lent tokens content switches output) (Err refusal) output
     unfolding looked_gives
     looked_record_refused h = list_refused (judge_lines lent tokens content) (looked_at lent tokens content switches) output (record_is ∙ h)
 
-    pub looked_listed : record_check lent content ≡ Sound → {last : List ℕ} {w : Written} →
+    pub looked_listed : record_check lent content ≡ Ok tt → {last : List ℕ} {w : Written} →
         Leaves (listing [] (rising lent.items (footprint lent (run_visits (outcome lent content switches) (take (count * 5) after)))) output) w last →
         Leaves (looked_gives lent tokens content switches output) w last
     unfolding looked_gives

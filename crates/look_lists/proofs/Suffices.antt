@@ -12,13 +12,11 @@ use lib.ListN.{length, get_or, length-append, get_or-append}
 use lib.Seq.{get_or_at}
 use borrow.Author.Tests.{eq-eqb, eqb-true}
 use Rattle.tables.proofs.Tests.{either as one_of}
-use Rattle.tables.specs.declared.Check.{Check}
-use Rattle.tables.specs.declared.Check.TheVariants.{Sound, Refused}
 use Rattle.tables.specs.declared.Outcome.{Outcome}
 use Rattle.tables.specs.declared.Verdict.{Verdict}
 use Rattle.tables.specs.declared.Verdict.TheVariants.{True, False, Refused as Stops}
 use Rattle.tables.specs.Operands.{Lent}
-use Rattle.tables.specs.Refusals.{first_of}
+use Rattle.tables.specs.Refusals.{first_of, Check}
 use Rattle.tables.specs.Rows.{row_count}
 use Rattle.tables.specs.Tables.{record_check}
 use Rattle.tables.proofs.Lines.{lines_sound}
@@ -44,6 +42,7 @@ use Rattle.walker.proofs.Marking.{reached-next, reached_none, goes_later}
 use Rattle.walker.proofs.Range.{below}
 use Rattle.look_lists.specs.Looked.{is_among, rising, named_rows}
 use Rattle.look_lists.specs.Theorems.{LookedAtSuffices, SameMembers, ListsAll, Rises, ListsRise}
+use Rattle.std.specs.Prelude.{Err, Ok}
 
 -- a member of a list, as a test
 pub among_member : (v : ℕ) (rows : List ℕ) → is_among v rows ≡ true → Memᴰ v rows
@@ -176,10 +175,10 @@ module _ (lent : Lent) (plan content : List ℕ) (p : Runnable lent plan content
       by (no l) rest = λ row h. absurd (not_in_none lent (rw (reached_none out (plan_row plan) (suc m) k (omega arith) top) at h))
 
 -- what a walk comes to is in the table: where a line refuses, it comes to nothing
-answers-below : (lent : Lent) (line : Check) (w : Walk) → (line ≡ Sound → AllBelow (row_count lent.items) (footprint lent w.visits)) →
+answers-below : (lent : Lent) (line : Check) (w : Walk) → (line ≡ Ok tt → AllBelow (row_count lent.items) (footprint lent w.visits)) →
     AllBelow (row_count lent.items) (footprint lent (answers line w).visits)
-answers-below lent Sound w h = h refl
-answers-below lent (Refused refusal) w h = λ row m. absurd (not_in_none lent m)
+answers-below lent (Ok _) w h = h refl
+answers-below lent (Err refusal) w h = λ row m. absurd (not_in_none lent m)
 
 run-below : (lent : Lent) (plan content : List ℕ) (switches : ℕ) → AllBelow (row_count lent.items) (footprint lent (run_walk lent plan content switches).visits)
 unfolding run_walk run_visits
@@ -238,8 +237,8 @@ module _ (lent : Lent) (out : Outcomes) where
 
   answers-named : (line : Check) (w : Walk) (rows : List ℕ) (row : ℕ) → (Memᴰ row (footprint lent w.visits) → Memᴰ row rows) →
       Memᴰ row (footprint lent (answers line w).visits) → Memᴰ row rows
-  answers-named Sound w rows row f m = f m
-  answers-named (Refused refusal) w rows row f m = absurd (not_in_none lent m)
+  answers-named (Ok _) w rows row f m = f m
+  answers-named (Err refusal) w rows row f m = absurd (not_in_none lent m)
 
 judge_named : (lent : Lent) (tokens content : List ℕ) (switches : ℕ) (t : Tree) → read tokens ≡ accepted t → (row : ℕ) →
     Memᴰ row (footprint lent (judge_walk lent tokens content switches).visits) → Memᴰ row (named_rows lent t)

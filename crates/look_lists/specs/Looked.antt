@@ -1,9 +1,8 @@
 -- Document 02, n), "which bytes a rule can depend on": the whole answers of the calls that list what a rule looks at, for every input.
 use Rattle.std.specs.Prelude.{Bool, false, cond, ◌||◌, List, [], ◌∷◌, ◌++◌, ℕ, eqb}
-use Rattle.tables.specs.declared.Check.{Check}
 use Rattle.tables.specs.Operands.{Lent}
 use Rattle.tables.specs.Rows.{row_count}
-use Rattle.tables.specs.Refusals.{first_of}
+use Rattle.tables.specs.Refusals.{first_of, Check}
 use Rattle.tables.specs.Tables.{record_check}
 use Rattle.items.specs.Items.{listed}
 use Rattle.typing.specs.Tests.{test_of}

@@ -12,7 +12,7 @@ ghost use Rattle.walker.specs.Marks.{lent_names, AllMarkable, rows_at};
 ghost use Rattle.look_lists.specs.Looked.{rising, listing};
 
 use content::Row;
-use tables::Written;
+use tables::Refusal;
 use walker::marks::give_marked;
 use walks::{mark_named, mark_reached};
 
@@ -26,7 +26,7 @@ pub fn list_reached<'a>(
     record: &'a [u8],
     switches: u8,
     rows: &mut [u32],
-) -> Written
+) -> Result<usize, Refusal>
     requires { Runnable (lend_names items.now literals.now bytes.now names.now) plan.now «record».now }
     ensures { Leaves (listing [] (rising items.now (footprint (lend_names items.now literals.now bytes.now names.now) (run_visits (outcome (lend_names items.now literals.now bytes.now names.now) «record».now switches) plan.now))) rows.old) result rows.new }
 {
@@ -38,7 +38,12 @@ pub fn list_reached<'a>(
 }
 
 // The items of every row of a plan.
-pub fn list_named(items: &[u32], names: &[u32], plan: &[u32], rows: &mut [u32]) -> Written
+pub fn list_named(
+    items: &[u32],
+    names: &[u32],
+    plan: &[u32],
+    rows: &mut [u32],
+) -> Result<usize, Refusal>
     requires { (row_count items.now ≤ 64) × AllMarkable names.now 64 plan.now }
     ensures { Leaves (listing [] (rising items.now (in_turn (rows_at (lent_names names.now) plan.now) (plan_rows plan.now))) rows.old) result rows.new }
 {

@@ -10,8 +10,7 @@ use look_lists::lists::{list_named, list_reached};
 use plan_checks::check_plan;
 use preparer::lent::check_lent;
 use preparer::prepare::prepare;
-use resolver::Prepared;
-use tables::{Check, Written};
+use tables::Refusal;
 
 // The item rows of the simple conditions that judging came to, in rising order, each once.
 pub fn looked_at<'a>(
@@ -23,31 +22,23 @@ pub fn looked_at<'a>(
     record: &'a [u8],
     switches: u8,
     rows: &mut [u32],
-) -> Written
+) -> Result<usize, Refusal>
     ensures { Leaves (looked_gives (lend_names items.now literals.now bytes.now names.now) tokens.now «record».now switches rows.old) result rows.new }
 {
     let mut plan = [0u32; 640];
-    let prepared = prepare(false, items, literals, bytes, names, tokens, &mut plan);
-    match prepared {
-        Prepared::Refused(refusal) => Written::Refused(refusal),
-        Prepared::Rows(count) => {
-            let held = check_record(items, record);
-            if let Check::Refused(refusal) = held {
-                return Written::Refused(refusal);
-            }
-            let end = count * 5;
-            list_reached(
-                items,
-                literals,
-                bytes,
-                names,
-                &plan[..end],
-                record,
-                switches,
-                rows,
-            )
-        }
-    }
+    let count = prepare(false, items, literals, bytes, names, tokens, &mut plan)?;
+    check_record(items, record)?;
+    let end = count * 5;
+    list_reached(
+        items,
+        literals,
+        bytes,
+        names,
+        &plan[..end],
+        record,
+        switches,
+        rows,
+    )
 }
 
 // 1 to 4, 18, 11, 12.
@@ -58,17 +49,11 @@ fn check_run(
     names: &[u32],
     plan: &[u32],
     record: &[u8],
-) -> Check
+) -> Result<(), Refusal>
     ensures { result ≡ first_of (run_lines (lend_names items.now literals.now bytes.now names.now) plan.now «record».now) }
 {
-    let lent = check_lent(items, literals, bytes, names);
-    if let Check::Refused(refusal) = lent {
-        return Check::Refused(refusal);
-    }
-    let rows = check_plan(false, items, literals, names, plan);
-    if let Check::Refused(refusal) = rows {
-        return Check::Refused(refusal);
-    }
+    check_lent(items, literals, bytes, names)?;
+    check_plan(false, items, literals, names, plan)?;
     check_record(items, record)
 }
 
@@ -82,13 +67,10 @@ pub fn looked_at_plan<'a>(
     record: &'a [u8],
     switches: u8,
     rows: &mut [u32],
-) -> Written
+) -> Result<usize, Refusal>
     ensures { Leaves (looked_plan_gives (lend_names items.now literals.now bytes.now names.now) plan.now «record».now switches rows.old) result rows.new }
 {
-    let line = check_run(items, literals, bytes, names, plan, record);
-    if let Check::Refused(refusal) = line {
-        return Written::Refused(refusal);
-    }
+    check_run(items, literals, bytes, names, plan, record)?;
     list_reached(items, literals, bytes, names, plan, record, switches, rows)
 }
 
@@ -100,16 +82,11 @@ pub fn named_items(
     names: &[u32],
     tokens: &[u32],
     rows: &mut [u32],
-) -> Written
+) -> Result<usize, Refusal>
     ensures { Leaves (named_gives (lend_names items.now literals.now bytes.now names.now) tokens.now rows.old) result rows.new }
 {
     let mut plan = [0u32; 640];
-    let prepared = prepare(false, items, literals, bytes, names, tokens, &mut plan);
-    match prepared {
-        Prepared::Refused(refusal) => Written::Refused(refusal),
-        Prepared::Rows(count) => {
-            let end = count * 5;
-            list_named(items, names, &plan[..end], rows)
-        }
-    }
+    let count = prepare(false, items, literals, bytes, names, tokens, &mut plan)?;
+    let end = count * 5;
+    list_named(items, names, &plan[..end], rows)
 }

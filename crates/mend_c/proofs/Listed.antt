@@ -2,11 +2,11 @@
 use mathlib.Core.Path.{◌≡◌}
 use mathlib.Core.List.{List}
 use Prim.Native.Nat.{ℕ}
-use Rattle.tables.specs.declared.Written.{Written}
 use Rattle.mending.specs.Mend.{mending}
 use Rattle.answers.specs.Answer.{written_number, listed_numbers, Told}
 use Rattle.answers.proofs.Telling.{answer-told}
 use Rattle.mend_c.specs.Mending.{Mends}
+use Rattle.tables.specs.Refusals.{Written}
 
 pub mend_told : {items content list answer after listed : List ℕ} {written : Written} {returned : ℕ}
     → written ≡ (mending items content list).answer → after ≡ (mending items content list).content → listed ≡ (mending items content list).list

@@ -14,7 +14,6 @@ use lib.Dec.{eqb, leb}
 use borrow.Author.Tests.{leb-true}
 use Rattle.tables.specs.Rows.{row_at, row_count, part}
 use Rattle.tables.proofs.Bytes.{RowFacts}
-use Rattle.tables.specs.declared.Check.TheVariants.{Sound}
 use Rattle.tables.specs.Refusals.{first_of}
 use Rattle.items.specs.Items.{elementary_at, part_at, replaced}
 use Rattle.mending.specs.Mend.{mended_item, mended_at, mended_record, changes_from, changes, mend_lines}
@@ -25,6 +24,7 @@ use native.Mathlib.Decide.{dec_lt}
 use Rattle.mending.proofs.Theorems.{clear, lies, facts, mended_long, byte_untouched, item_mended}
 use Rattle.mender.proofs.Walking.{half, seen, seen_more, half_more, still_old, seen_same, half_same, Ahead, free_until, ahead_row}
 use Rattle.content.specs.Kinds.{is_zoned}
+use Rattle.std.specs.Prelude.{Ok}
 
 -- the walk stands at an offset, and this row is the next
 pub record Walk (items content : List ℕ) (at row : ℕ) : Type 0 where
@@ -58,7 +58,7 @@ zoned_few r f z = by (dec_lt r.kind 5)
     by (yes p) = omega (arith, f.plain three (omega arith))
     by (no p) = (f.apart (omega arith) six).1
 
-module _ (items content : List ℕ) (sound : first_of (mend_lines items content) ≡ Sound) where
+module _ (items content : List ℕ) (sound : first_of (mend_lines items content) ≡ Ok tt) where
   long : length (mended_record items content) ≡ length content
   long = mended_long items content sound
 

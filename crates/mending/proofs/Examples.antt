@@ -4,13 +4,12 @@ use mathlib.Core.Path.{◌≡◌, refl}
 use mathlib.Core.List.{List, [], ◌∷◌}
 use Rattle.content.specs.Content.{all}
 use Rattle.content.specs.WrongByte.{first_from, valid_content}
-use Rattle.tables.specs.declared.Check.TheVariants.{Sound, Refused}
 use Rattle.tables.specs.declared.Refusal.TheVariants.{ItemTable, ItemRow, Overlap, Record, Room}
-use Rattle.tables.specs.declared.Written.TheVariants.{Count, Refused as Unwritten}
 use Rattle.tables.specs.Refusals.{first_failing, first_of}
 use Rattle.items.specs.Items.{rewritten, each_below}
 use Rattle.items.specs.Lines.{overlap_check}
 use Rattle.mending.specs.Mend.{filled, leading, attempt, mended_item, changes_from, changes, mend_line, mending}
+use Rattle.std.specs.Prelude.{Err, Ok}
 
 -- one item mended, or not: inner spaces, another byte before the digits, packed and nonnumeric items are not
 abbrev Mends : ℕ → ℕ → List ℕ → List ℕ → Type 0
@@ -54,8 +53,8 @@ listed = refl
 
 -- 19: items overlap; a group over its members, kind 7 too, does not count, nor do rows that touch
 overlaps :
-    (overlap_check (0 ∷ 0 ∷ 4 ∷ 0 ∷ 0 ∷ 2 ∷ 0 ∷ 2 ∷ 0 ∷ 0 ∷ 2 ∷ 2 ∷ 2 ∷ 0 ∷ 0 ∷ []) ≡ Sound)
-    × (overlap_check (2 ∷ 0 ∷ 2 ∷ 0 ∷ 0 ∷ 7 ∷ 0 ∷ 4 ∷ 0 ∷ 0 ∷ 2 ∷ 1 ∷ 2 ∷ 0 ∷ 0 ∷ []) ≡ Refused (Overlap 2))
+    (overlap_check (0 ∷ 0 ∷ 4 ∷ 0 ∷ 0 ∷ 2 ∷ 0 ∷ 2 ∷ 0 ∷ 0 ∷ 2 ∷ 2 ∷ 2 ∷ 0 ∷ 0 ∷ []) ≡ Ok tt)
+    × (overlap_check (2 ∷ 0 ∷ 2 ∷ 0 ∷ 0 ∷ 7 ∷ 0 ∷ 4 ∷ 0 ∷ 0 ∷ 2 ∷ 1 ∷ 2 ∷ 0 ∷ 0 ∷ []) ≡ Err (Overlap 2))
 unfolding first_failing each_below
 overlaps = (refl, refl)
 
@@ -64,10 +63,10 @@ short : List ℕ
 short = 0x20 ∷ 0x20 ∷ 0x37 ∷ 0x20 ∷ []
 
 refused :
-    (mend_line (3 ∷ []) short 0 ≡ Refused ItemTable)
-    × (mend_line (3 ∷ 3 ∷ 2 ∷ 0 ∷ 1 ∷ []) short 0 ≡ Refused (ItemRow 0))
-    × (mend_line two short 0 ≡ Refused (Record 0))
-    × (mend_line two blanks 8 ≡ Refused (Room 9))
-    × (mend_line two blanks 9 ≡ Sound)
+    (mend_line (3 ∷ []) short 0 ≡ Err ItemTable)
+    × (mend_line (3 ∷ 3 ∷ 2 ∷ 0 ∷ 1 ∷ []) short 0 ≡ Err (ItemRow 0))
+    × (mend_line two short 0 ≡ Err (Record 0))
+    × (mend_line two blanks 8 ≡ Err (Room 9))
+    × (mend_line two blanks 9 ≡ Ok tt)
 unfolding two blanks short first_of first_failing each_below changes_from rewritten mended_item attempt leading filled all valid_content first_from
 refused = (refl, refl, refl, refl, refl)

@@ -11,8 +11,6 @@ use borrow.Author.Tests.{le-leb}
 use Rattle.content.specs.Content.{all, digit_bytes}
 use Rattle.content.specs.Letters.{is_space}
 use Rattle.content.specs.WrongByte.{valid_content}
-use Rattle.tables.specs.declared.Check.TheVariants.{Sound}
-use Rattle.tables.specs.declared.Written.TheVariants.{Count}
 use Rattle.tables.specs.Rows.{row_at, row_count}
 use Rattle.tables.specs.Operands.{lend}
 use Rattle.tables.specs.Refusals.{first_of}
@@ -26,19 +24,20 @@ use Rattle.items.proofs.Facts.{clear_fact, lies_fact, row_fact}
 use Rattle.mending.specs.Mend.{mended_item, mended_at, mended_record, changes, mend_lines, mending, restored, Rising}
 use Rattle.mending.proofs.Fields.{mended_valid, valid_untouched, blank_untouched, mended_length, mended_twice}
 use Rattle.mending.proofs.Changes.{rising, changes_none, put_back}
+use Rattle.std.specs.Prelude.{Ok}
 
 -- each line before 10 ruled out
 pub record Mendable (items content : List ℕ) : Type 0 where
-  pub table : first_of (item_lines items) ≡ Sound
-  pub overlap : overlap_check items ≡ Sound
-  pub long : long_check items content ≡ Sound
+  pub table : first_of (item_lines items) ≡ Ok tt
+  pub overlap : overlap_check items ≡ Ok tt
+  pub long : long_check items content ≡ Ok tt
 
-pub mendable : (items content : List ℕ) → first_of (mend_lines items content) ≡ Sound → Mendable items content
+pub mendable : (items content : List ℕ) → first_of (mend_lines items content) ≡ Ok tt → Mendable items content
 mendable items content sound =
     let s = lines_sound (mend_lines items content) sound in
     record { table = line_sound _ s.0 ∙ line_last (item_row_check (lend items [] [])) ∙ s.1.0; overlap = s.1.1.0; long = s.1.1.1.0 }
 
-module _ (items content : List ℕ) (sound : first_of (mend_lines items content) ≡ Sound) where
+module _ (items content : List ℕ) (sound : first_of (mend_lines items content) ≡ Ok tt) where
   pub clear : Clear items (row_count items)
   clear = clear_fact items (mendable items content sound).overlap
 
@@ -111,11 +110,11 @@ module _ (items content : List ℕ) (sound : first_of (mend_lines items content)
 
   -- its whole answer: no change counted, the record and the list as they were
   pub second_call : (list : List ℕ)
-      → mending items (mended_record items content) list ≡ record { answer = Count 0; content = mended_record items content; list = list }
+      → mending items (mended_record items content) list ≡ record { answer = Ok 0; content = mended_record items content; list = list }
   unfolding first_of
   second_call list =
       let s = lines_sound (mend_lines items content) sound in
       rw (list_again, record_again, s.0, s.1.0, s.1.1.0, again, le-leb 0 (length list) (omega arith))
     where
-      again : long_check items (mended_record items content) ≡ Sound
+      again : long_check items (mended_record items content) ≡ Ok tt
       again = rw mended_long (mendable items content sound).long

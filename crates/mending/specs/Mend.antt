@@ -1,14 +1,10 @@
 -- Document 02, m), "Mending blank meters".
-use Rattle.std.specs.Prelude.{Bool, cond, ◌&&◌, List, [], ◌∷◌, ◌++◌, ℕ, suc, ◌≤◌, length, drop, set, eqb, leb}
+use Rattle.std.specs.Prelude.{Bool, cond, ◌&&◌, List, [], ◌∷◌, ◌++◌, ℕ, suc, ◌≤◌, length, drop, set, eqb, leb, Err, Ok}
 use Rattle.content.specs.Content.{all, first_byte, last_byte, but_first, but_last}
 use Rattle.content.specs.Letters.{is_space}
 use Rattle.content.specs.WrongByte.{valid_content}
-use Rattle.tables.specs.declared.Check.{Check}
-use Rattle.tables.specs.declared.Check.TheVariants.{Sound, Refused}
-use Rattle.tables.specs.declared.Written.{Written}
-use Rattle.tables.specs.declared.Written.TheVariants.{Count, Refused as Unwritten}
 use Rattle.tables.specs.Rows.{row_at, row_count}
-use Rattle.tables.specs.Refusals.{first_of}
+use Rattle.tables.specs.Refusals.{first_of, Check, Written}
 use Rattle.items.specs.Items.{part_at, rewritten}
 use Rattle.items.specs.Lines.{item_lines, overlap_check, long_check, room_check}
 use Rattle.content.specs.Kinds.{kind_sign_leading, kind_sign_trailing, is_zoned}
@@ -67,9 +63,9 @@ pub record Mending : Type 0 where
   pub list : List ℕ
 
 abbrev pub mend_by : Check → List ℕ → List ℕ → List ℕ → List ℕ → Mending
-mend_by (Refused refusal) mended listed content list = record { answer = Unwritten refusal; content = content; list = list }
-mend_by Sound mended listed content list =
-    record { answer = Count (length listed); content = mended; list = listed ++ drop (length listed) list }
+mend_by (Err refusal) mended listed content list = record { answer = Err refusal; content = content; list = list }
+mend_by (Ok _) mended listed content list =
+    record { answer = Ok (length listed); content = mended; list = listed ++ drop (length listed) list }
 
 abbrev pub mending : List ℕ → List ℕ → List ℕ → Mending
 mending items content list =

@@ -7,14 +7,12 @@ use mathlib.Core.List.Memᴰ
 use mathlib.Core.List.{List, [], ◌∷◌, ◌++◌, Memᴰ}
 use mathlib.Core.Bool.{Bool, true, false}
 use lib.ListN.{length, drop}
-use Rattle.tables.specs.declared.Check.{Check}
-use Rattle.tables.specs.declared.Check.TheVariants.{Sound, Refused}
 use Rattle.tables.specs.declared.Refusal.{Refusal}
 use Rattle.tables.specs.declared.Verdict.{Verdict}
 use Rattle.tables.specs.declared.Verdict.TheVariants.{True, False, Refused as Stopped}
 use Rattle.tables.specs.Rows.{row_count}
 use Rattle.tables.specs.Operands.{Lent, lend_names}
-use Rattle.tables.specs.Refusals.{first_of}
+use Rattle.tables.specs.Refusals.{first_of, Check}
 use Rattle.tables.specs.Tables.{item_row_check}
 use Rattle.tables.proofs.Lines.{lines_before, line_sound, line_refused, line_last, lines_sound}
 use Rattle.values.specs.Names.{lent_lines}
@@ -32,6 +30,7 @@ use Rattle.merging.proofs.Accepted.{desk_fine}
 use Rattle.merging.proofs.Exchanging.{any_verdict}
 use Rattle.copies.specs.Ready.{Ready}
 use Rattle.merger.specs.Desk.{contested_count, Decides, rooms_for, Leaves}
+use Rattle.std.specs.Prelude.{Err, Ok}
 
 -- the lines in order
 module _ (items literals bytes names plan old first second : List ℕ) where
@@ -41,39 +40,39 @@ module _ (items literals bytes names plan old first second : List ℕ) where
   abbrev after : List Check
   after = overlap_check items ∷ length_check old first second ∷ plan_check lent plan ∷ long_check items old ∷ []
 
-  pub lent_refuses : {refusal : Refusal} → first_of (lent_lines lent) ≡ Refused refusal → first_of (desk_lines lent plan old first second) ≡ Refused refusal
+  pub lent_refuses : {refusal : Refusal} → first_of (lent_lines lent) ≡ Err refusal → first_of (desk_lines lent plan old first second) ≡ Err refusal
   lent_refuses e = lines_before (lent_lines lent) after ∙ line_refused after e
 
-  module _ (t : first_of (lent_lines lent) ≡ Sound) where
-    pub overlap_refuses : {refusal : Refusal} → overlap_check items ≡ Refused refusal → first_of (desk_lines lent plan old first second) ≡ Refused refusal
+  module _ (t : first_of (lent_lines lent) ≡ Ok tt) where
+    pub overlap_refuses : {refusal : Refusal} → overlap_check items ≡ Err refusal → first_of (desk_lines lent plan old first second) ≡ Err refusal
     overlap_refuses e = lines_before (lent_lines lent) after ∙ line_sound after t ∙ line_refused _ e
 
-    module _ (o : overlap_check items ≡ Sound) where
-      pub lengths_refuse : {refusal : Refusal} → length_check old first second ≡ Refused refusal → first_of (desk_lines lent plan old first second) ≡ Refused refusal
+    module _ (o : overlap_check items ≡ Ok tt) where
+      pub lengths_refuse : {refusal : Refusal} → length_check old first second ≡ Err refusal → first_of (desk_lines lent plan old first second) ≡ Err refusal
       lengths_refuse e = lines_before (lent_lines lent) after ∙ line_sound after t ∙ line_sound _ o ∙ line_refused _ e
 
   -- the lines before the plan's pass
   pub record Passed : Type 0 where
-    pub tables : first_of (lent_lines lent) ≡ Sound
-    pub apart : overlap_check items ≡ Sound
-    pub long : length_check old first second ≡ Sound
+    pub tables : first_of (lent_lines lent) ≡ Ok tt
+    pub apart : overlap_check items ≡ Ok tt
+    pub long : length_check old first second ≡ Ok tt
 
 module _ {items literals bytes names plan old first second : List ℕ} (P : Passed items literals bytes names plan old first second) where
   to_plan : first_of (desk_lines (lend_names items literals bytes names) plan old first second)
       ≡ first_of (plan_check (lend_names items literals bytes names) plan ∷ long_check items old ∷ [])
   to_plan = lines_before (lent_lines (lend_names items literals bytes names)) _ ∙ line_sound _ P.tables ∙ line_sound _ P.apart ∙ line_sound _ P.long
 
-  pub plan_refuses : {refusal : Refusal} → plan_check (lend_names items literals [] names) plan ≡ Refused refusal
-      → first_of (desk_lines (lend_names items literals bytes names) plan old first second) ≡ Refused refusal
+  pub plan_refuses : {refusal : Refusal} → plan_check (lend_names items literals [] names) plan ≡ Err refusal
+      → first_of (desk_lines (lend_names items literals bytes names) plan old first second) ≡ Err refusal
   plan_refuses e = to_plan ∙ line_refused _ (plan-lent false items literals bytes names plan ∙ e)
 
-  pub record_decides : plan_check (lend_names items literals [] names) plan ≡ Sound → {line : Check} → line ≡ long_check items old
+  pub record_decides : plan_check (lend_names items literals [] names) plan ≡ Ok tt → {line : Check} → line ≡ long_check items old
       → line ≡ first_of (desk_lines (lend_names items literals bytes names) plan old first second)
   record_decides e line-is = line-is ∙ sym (to_plan ∙ line_sound _ (plan-lent false items literals bytes names plan ∙ e) ∙ line_last _)
 
 -- a desk that refuses nothing: what the writing of a merge assumes
 module _ (items literals bytes names plan old first second : List ℕ)
-    (fine : first_of (desk_lines (lend_names items literals bytes names) plan old first second) ≡ Sound) where
+    (fine : first_of (desk_lines (lend_names items literals bytes names) plan old first second) ≡ Ok tt) where
   abbrev lines : List Check
   lines =
       overlap_check items ∷ length_check old first second ∷ plan_check (lend_names items literals bytes names) plan ∷ long_check items old ∷ []
@@ -97,13 +96,13 @@ module _ (items literals bytes names plan old first second : List ℕ)
       few_fact items (line_sound (item_row_check (lend_names items literals bytes names) ∷ []) each.0 ∙ line_sound [] each.1.0)
 
 -- what a merge leaves
-pub lines_refuse : (lines : List Check) (copies : Copies) (verdict : Verdict) (out list : List ℕ) {refusal : Refusal} → first_of lines ≡ Refused refusal
+pub lines_refuse : (lines : List Check) (copies : Copies) (verdict : Verdict) (out list : List ℕ) {refusal : Refusal} → first_of lines ≡ Err refusal
     → Leaves (merge_with lines copies verdict out list) (Unmerged refusal) out list
 lines_refuse lines copies verdict out list e =
     rw (lines_before lines (room_lines (length copies.old) (length (contested copies verdict)) out list) ∙ line_refused _ e)
     (record { answered = refl; record_is = refl; contested_are = refl })
 
-pub lines_pass : (lines : List Check) (copies : Copies) (verdict : Verdict) (out list : List ℕ) → first_of lines ≡ Sound
+pub lines_pass : (lines : List Check) (copies : Copies) (verdict : Verdict) (out list : List ℕ) → first_of lines ≡ Ok tt
     → merge_with [] copies verdict out list ≡ merge_with lines copies verdict out list
 lines_pass lines copies verdict out list e =
     rw (lines_before lines (room_lines (length copies.old) (length (contested copies verdict)) out list) ∙ line_sound _ e)
@@ -148,11 +147,11 @@ module _ (copies : Copies) (verdict : Verdict) (rows : ℕ) (counted : rows ≡ 
   rooms : first_of (rooms_for (length copies.old) rows (length out) (length list)) ≡ first_of (room_lines (length copies.old) (length (contested copies verdict)) out list)
   rooms = ap (λ (n : ℕ). first_of (rooms_for (length copies.old) n (length out) (length list))) counted
 
-  pub room_refuses : {line : Check} → line ≡ first_of (rooms_for (length copies.old) rows (length out) (length list)) → {refusal : Refusal} → line ≡ Refused refusal
+  pub room_refuses : {line : Check} → line ≡ first_of (rooms_for (length copies.old) rows (length out) (length list)) → {refusal : Refusal} → line ≡ Err refusal
       → Leaves (merge_with [] copies verdict out list) (Unmerged refusal) out list
   room_refuses e f = rw (sym rooms ∙ sym e ∙ f) (record { answered = refl; record_is = refl; contested_are = refl })
 
-  module _ {line : Check} (e : line ≡ first_of (rooms_for (length copies.old) rows (length out) (length list))) (f : line ≡ Sound) where
+  module _ {line : Check} (e : line ≡ first_of (rooms_for (length copies.old) rows (length out) (length list))) (f : line ≡ Ok tt) where
     pub bytes_fit : length copies.old ≤ length out
     bytes_fit = room_fact (length copies.old) (length out) (lines_sound (rooms_for (length copies.old) rows (length out) (length list)) (sym e ∙ f)).0
 

@@ -1,6 +1,5 @@
 -- What the call leaves, and what its private functions promise.
 use Rattle.std.specs.Prelude.{◌≡◌, List, [], ◌∷◌, ℕ}
-use Rattle.tables.specs.declared.Check.{Check}
 use Rattle.tables.specs.declared.Verdict.{Verdict}
 use Rattle.tables.specs.declared.Verdict.TheVariants.{True, False, Refused as Stopped}
 use Rattle.tables.specs.Operands.{Lent}
@@ -8,6 +7,7 @@ use Rattle.rules.specs.Calls.{run_gives}
 use Rattle.items.specs.Lines.{room_check}
 use Rattle.merging.specs.declared.Merged.{Merged}
 use Rattle.merging.specs.Merge.{Merging}
+use Rattle.tables.specs.Refusals.{Check}
 
 -- how many rows are contested, of so many that were changed apart
 abbrev pub contested_count : Verdict → ℕ → ℕ

@@ -15,16 +15,16 @@ use merging::Merged;
 use overlaps::check_overlap;
 use plan_checks::check_plan;
 use preparer::lent::check_lent;
-use tables::{Check, Refusal, Verdict};
+use tables::{Refusal, Verdict};
 
 // 20: copies of unequal length.
-fn check_lengths(old: &[u8], first: &[u8], second: &[u8]) -> Check
+fn check_lengths(old: &[u8], first: &[u8], second: &[u8]) -> Result<(), Refusal>
     ensures { result ≡ length_check old.now first.now second.now }
 {
     if (first.len() == old.len()) & (second.len() == old.len()) {
-        return Check::Sound;
+        return Ok(());
     }
-    Check::Refused(Refusal::Lengths)
+    Err(Refusal::Lengths)
 }
 
 // 1 to 4, 18, 19, 20, 11, 12, in this order.
@@ -37,25 +37,13 @@ fn check_desk(
     old: &[u8],
     first: &[u8],
     second: &[u8],
-) -> Check
+) -> Result<(), Refusal>
     ensures { result ≡ first_of (desk_lines (lend_names items.now literals.now bytes.now names.now) plan.now old.now first.now second.now) }
 {
-    let lent = check_lent(items, literals, bytes, names);
-    if let Check::Refused(refusal) = lent {
-        return Check::Refused(refusal);
-    }
-    let overlap = check_overlap(items);
-    if let Check::Refused(refusal) = overlap {
-        return Check::Refused(refusal);
-    }
-    let lengths = check_lengths(old, first, second);
-    if let Check::Refused(refusal) = lengths {
-        return Check::Refused(refusal);
-    }
-    let rows = check_plan(false, items, literals, names, plan);
-    if let Check::Refused(refusal) = rows {
-        return Check::Refused(refusal);
-    }
+    check_lent(items, literals, bytes, names)?;
+    check_overlap(items)?;
+    check_lengths(old, first, second)?;
+    check_plan(false, items, literals, names, plan)?;
     check_record(items, old)
 }
 
@@ -110,13 +98,10 @@ fn write_contested(
 }
 
 // 10: room for the record, then for the contested rows.
-fn check_rooms(bytes: usize, rows: usize, merged: usize, contested: usize) -> Check
+fn check_rooms(bytes: usize, rows: usize, merged: usize, contested: usize) -> Result<(), Refusal>
     ensures { result ≡ first_of (rooms_for bytes rows merged contested) }
 {
-    let whole = check_room(bytes, merged);
-    if let Check::Refused(refusal) = whole {
-        return Check::Refused(refusal);
-    }
+    check_room(bytes, merged)?;
     check_room(rows, contested)
 }
 
@@ -137,7 +122,7 @@ fn merge_decided<'a>(
     let rows = contested_count(verdict, apart);
     let bytes = old.len();
     let room = check_rooms(bytes, rows, merged.len(), contested.len());
-    if let Check::Refused(refusal) = room {
+    if let Err(refusal) = room {
         return Merged::Refused(refusal);
     }
     write_merged(items, old, first, second, verdict, &mut merged[..bytes]);
@@ -163,7 +148,7 @@ pub fn merge<'a>(
     ensures { Leaves (merge_gives (lend_names items.now literals.now bytes.now names.now) plan.now switches old.now first.now second.now merged.old contested.old) result merged.new contested.new }
 {
     let desk = check_desk(items, literals, bytes, names, plan, old, first, second);
-    if let Check::Refused(refusal) = desk {
+    if let Err(refusal) = desk {
         return Merged::Refused(refusal);
     }
     let apart = count_apart(items, old, first, second);

@@ -10,15 +10,13 @@ use mathlib.Core.Bool.{Bool, true, false, ◌&&◌}
 use lib.Dec.{eqb}
 use lib.ListN.{length, get_or}
 use borrow.Author.Tests.{eqb-true}
-use Rattle.tables.specs.declared.Check.{Check}
-use Rattle.tables.specs.declared.Check.TheVariants.{Sound}
 use Rattle.tables.specs.declared.Refusal.TheVariants.{Lengths}
 use Rattle.content.specs.declared.Row.{Row}
 use Rattle.tables.specs.declared.Verdict.{Verdict}
 use Rattle.tables.specs.declared.Verdict.TheVariants.{True, False, Refused as Stopped}
 use Rattle.tables.specs.Rows.{row_at, row_count}
 use Rattle.tables.specs.Operands.{Lent}
-use Rattle.tables.specs.Refusals.{first_of}
+use Rattle.tables.specs.Refusals.{first_of, Check}
 use Rattle.tables.proofs.Tests.{both}
 use Rattle.tables.proofs.Lines.{lines_before, lines_sound, test_sound}
 use Rattle.tables.proofs.Bytes.{part_length}
@@ -32,6 +30,7 @@ use Rattle.merging.specs.Merge.{Copies, copies_of, decided, apart_at, merged_ite
 use Rattle.merging.specs.Theorems.{Merges, MergesAsSaid, Contests, ContestsAsSaid}
 use Rattle.merging.proofs.OneItem.{only_first, only_second, alike, apart-decided, merged_length, one_of}
 use Rattle.merging.proofs.Rows.{rows_all, rows_only}
+use Rattle.std.specs.Prelude.{Ok}
 
 -- what the lines say where none refuses
 pub record Fine (copies : Copies) : Type 0 where
@@ -40,13 +39,13 @@ pub record Fine (copies : Copies) : Type 0 where
   pub second_long : length copies.second ≡ length copies.old
   pub lies : Lies copies.items (length copies.old) (row_count copies.items)
 
-pub length_fact : (old first second : List ℕ) → length_check old first second ≡ Sound
+pub length_fact : (old first second : List ℕ) → length_check old first second ≡ Ok tt
     → (length first ≡ length old) × (length second ≡ length old)
 length_fact old first second e =
     let b = both (eqb (length first) (length old)) (eqb (length second) (length old)) (test_sound _ Lengths e) in
     (eqb-true _ _ b.0, eqb-true _ _ b.1)
 
-pub desk_fine : (lent : Lent) (plan old first second : List ℕ) → first_of (desk_lines lent plan old first second) ≡ Sound
+pub desk_fine : (lent : Lent) (plan old first second : List ℕ) → first_of (desk_lines lent plan old first second) ≡ Ok tt
     → Fine (copies_of lent.items old first second)
 desk_fine lent plan old first second e =
     let rest : List Check =

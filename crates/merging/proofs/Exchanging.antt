@@ -5,13 +5,12 @@ use mathlib.Core.List.{List, [], ◌∷◌, ◌++◌}
 use mathlib.Core.Bool.{Bool, true, false, ◌&&◌, and_comm}
 use lib.Dec.{eqb}
 use lib.ListN.{length}
-use Rattle.tables.specs.declared.Check.{Check}
 use Rattle.tables.specs.declared.Refusal.TheVariants.{Lengths}
 use Rattle.tables.specs.declared.Verdict.{Verdict}
 use Rattle.tables.specs.declared.Verdict.TheVariants.{True, False, Refused as Stopped}
 use Rattle.tables.specs.Rows.{row_count}
 use Rattle.tables.specs.Operands.{Lent}
-use Rattle.tables.specs.Refusals.{unless}
+use Rattle.tables.specs.Refusals.{unless, Check}
 use Rattle.values.specs.Names.{lent_lines}
 use Rattle.grammar.specs.Plan.{plan_check}
 use Rattle.rules.specs.Calls.{run_gives}

@@ -1,13 +1,11 @@
 -- Document 02, k): the merge desk.
-use Rattle.std.specs.Prelude.{Bool, true, false, cond, not, ◌&&◌, List, [], ◌∷◌, ◌++◌, ℕ, length, drop, eqb}
-use Rattle.tables.specs.declared.Check.{Check}
-use Rattle.tables.specs.declared.Check.TheVariants.{Sound, Refused}
+use Rattle.std.specs.Prelude.{Bool, true, false, cond, not, ◌&&◌, List, [], ◌∷◌, ◌++◌, ℕ, length, drop, eqb, Err, Ok}
 use Rattle.tables.specs.declared.Refusal.TheVariants.{Lengths}
 use Rattle.tables.specs.declared.Verdict.{Verdict}
 use Rattle.tables.specs.declared.Verdict.TheVariants.{True, False, Refused as Stopped}
 use Rattle.tables.specs.Rows.{row_count}
 use Rattle.tables.specs.Operands.{Lent}
-use Rattle.tables.specs.Refusals.{unless, first_of}
+use Rattle.tables.specs.Refusals.{unless, first_of, Check}
 use Rattle.values.specs.Names.{lent_lines}
 use Rattle.grammar.specs.Plan.{plan_check}
 use Rattle.rules.specs.Calls.{run_gives}
@@ -103,8 +101,8 @@ pub record Merging : Type 0 where
 
 -- the counts of bytes and of contested rows written from the start of the outputs; a refusal changes neither
 abbrev pub merge_by : Check → ℕ → List ℕ → List ℕ → List ℕ → List ℕ → Merging
-merge_by (Refused refusal) bytes merged listed out list = record { answer = Unmerged refusal; content = out; rows = list }
-merge_by Sound bytes merged listed out list =
+merge_by (Err refusal) bytes merged listed out list = record { answer = Unmerged refusal; content = out; rows = list }
+merge_by (Ok _) bytes merged listed out list =
     record {
       answer = Counts bytes (length listed);
       content = merged ++ drop bytes out;

@@ -1,7 +1,6 @@
 -- Document 02, k): what holds of every merge.
-use Rattle.std.specs.Prelude.{◌≡◌, true, false, ◌⊎◌, ℕ, ◌+◌, ◌≤◌, ◌<◌, length, get_or}
+use Rattle.std.specs.Prelude.{◌≡◌, true, false, ◌⊎◌, ℕ, ◌+◌, ◌≤◌, ◌<◌, length, get_or, Ok}
 use mathlib.Core.List.{List, Memᴰ}
-use Rattle.tables.specs.declared.Check.TheVariants.{Sound}
 use Rattle.tables.specs.declared.Refusal.{Refusal}
 use Rattle.tables.specs.declared.Verdict.{Verdict}
 use Rattle.tables.specs.declared.Verdict.TheVariants.{Refused as Stopped}
@@ -44,7 +43,7 @@ module _ (copies : Copies) (verdict : Verdict) where
 
 abbrev pub MergesAsSaid : Type 0
 MergesAsSaid =
-    (lent : Lent) (plan old first second : List ℕ) → first_of (desk_lines lent plan old first second) ≡ Sound → (verdict : Verdict)
+    (lent : Lent) (plan old first second : List ℕ) → first_of (desk_lines lent plan old first second) ≡ Ok tt → (verdict : Verdict)
     → Merges (copies_of lent.items old first second) verdict
 
 -- "its row number is listed as contested": where the run refuses, the rows changed apart and no others

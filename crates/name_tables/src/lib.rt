@@ -1,8 +1,7 @@
 // Refusal 18: the rows of the name table, of tables that 1 to 4 let pass.
 #![tactic(auto)]
 
-ghost use Rattle.std.specs.Prelude.{◌≡◌, ◌+◌, ◌*◌, ◌<◌, length};
-ghost use Rattle.tables.specs.declared.Check.TheVariants.{Sound};
+ghost use Rattle.std.specs.Prelude.{◌≡◌, ◌+◌, ◌*◌, ◌<◌, length, Ok};
 ghost use Rattle.tables.specs.Rows.{name_width};
 ghost use Rattle.tables.specs.Operands.{lend, lend_names};
 ghost use Rattle.tables.specs.Refusals.{first_of};
@@ -13,8 +12,8 @@ ghost use Rattle.literal_sides.specs.Ranges.{Literals, place_of};
 use content::Row;
 use literal_sides::literals::number_at;
 use name_pairs::pair_sound;
+use tables::Refusal;
 use tables::rows::{NAME_TABLE, NAME_WIDTH, row_at};
-use tables::{Check, Refusal};
 
 // Place k of the eight: a pair, or zeros.
 fn place_sound(item: Row, literals: &[u32], bytes: &[u8], names: &[u32], v: usize, k: usize) -> bool
@@ -59,31 +58,39 @@ fn name_sound(items: &[u32], literals: &[u32], bytes: &[u8], names: &[u32], v: u
 }
 
 // 18 of a table: an unfit length, or the first row that is not sound.
-fn check_name_rows(items: &[u32], literals: &[u32], bytes: &[u8], names: &[u32]) -> Check
-    requires { first_of (table_lines (lend items.now literals.now bytes.now)) ≡ Sound }
+fn check_name_rows(
+    items: &[u32],
+    literals: &[u32],
+    bytes: &[u8],
+    names: &[u32],
+) -> Result<(), Refusal>
+    requires { first_of (table_lines (lend items.now literals.now bytes.now)) ≡ Ok tt }
     ensures { result ≡ name_check (lend_names items.now literals.now bytes.now names.now) }
 {
     let rows = names.len() / NAME_WIDTH;
     if !((names.len() % NAME_WIDTH == 0) & (names.len() <= NAME_TABLE)) {
-        return Check::Refused(Refusal::Name(0));
+        return Err(Refusal::Name(0));
     }
-    let mut v: usize = 0;
-    while v < rows {
+    for v in 0..rows {
         if !name_sound(items, literals, bytes, names, v) {
-            return Check::Refused(Refusal::Name(v));
+            return Err(Refusal::Name(v));
         }
-        v += 1;
     }
-    Check::Sound
+    Ok(())
 }
 
 // 18. Most rules have no names: a test of the length is then all.
-pub fn check_names(items: &[u32], literals: &[u32], bytes: &[u8], names: &[u32]) -> Check
-    requires { first_of (table_lines (lend items.now literals.now bytes.now)) ≡ Sound }
+pub fn check_names(
+    items: &[u32],
+    literals: &[u32],
+    bytes: &[u8],
+    names: &[u32],
+) -> Result<(), Refusal>
+    requires { first_of (table_lines (lend items.now literals.now bytes.now)) ≡ Ok tt }
     ensures { result ≡ name_check (lend_names items.now literals.now bytes.now names.now) }
 {
     if names.len() == 0 {
-        return Check::Sound;
+        return Ok(());
     }
     check_name_rows(items, literals, bytes, names)
 }

@@ -6,7 +6,6 @@ use Prim.Native.Nat.{ℕ, ◌+◌, ◌*◌, ◌≤◌, ◌<◌}
 use native.Mathlib.Omega.{arith}
 use lib.ListN.{length, drop, length-take, length-drop}
 use Rattle.content.specs.WrongByte.{valid_content}
-use Rattle.tables.specs.declared.Check.TheVariants.{Sound}
 use Rattle.tables.specs.declared.Outcome.{Outcome}
 use Rattle.content.specs.declared.Row.{Row}
 use Rattle.tables.specs.Rows.{row_count, row_at, is_numeric, part}
@@ -22,6 +21,7 @@ use Rattle.values.proofs.Faults.{StopAt, item_flag, goes_on}
 use Rattle.values.proofs.Reading.{tables_sound}
 use Rattle.values.proofs.Names.{literal_fit, item_fit, item_there, few_pairs, pair_at}
 use Rattle.literal_sides.specs.Ranges.{Literals, Pairs}
+use Rattle.std.specs.Prelude.{Ok}
 
 pub fit_as : {row : Row} {bytes : List ℕ} (item other : Bool) → Fit (side item row bytes) → Fit (side other row bytes)
 fit_as item other f = record { sound = f.sound; sized = f.sized }
@@ -54,7 +54,7 @@ alike a b e f = rw (e, f) (by (is_numeric a) (is_numeric b))
 
 -- the item of a name, as the code reads it
 module _ {lent : Lent} {content : List ℕ} {v : ℕ} (n : Named lent content v) where
-  tables : first_of (table_lines lent) ≡ Sound
+  tables : first_of (table_lines lent) ≡ Ok tt
   tables = tables_sound lent n.tables
 
   pub name_literals : Literals lent.literals lent.bytes

@@ -1,15 +1,14 @@
 // 19: elementary items that share a byte.
 #![tactic(auto)]
 
-ghost use Rattle.std.specs.Prelude.{◌≡◌, true, ◌*◌, ◌+◌, ◌<◌, length};
-ghost use Rattle.tables.specs.declared.Check.TheVariants.{Sound};
+ghost use Rattle.std.specs.Prelude.{◌≡◌, true, ◌*◌, ◌+◌, ◌<◌, length, Ok};
 ghost use Rattle.items.specs.Items.{apart, clear_at};
 ghost use Rattle.items.specs.Lines.{overlap_check};
 ghost use Rattle.content.specs.Kinds.{row_width};
 
 use content::Row;
+use tables::Refusal;
 use tables::rows::{ends_within, is_group, row_at};
-use tables::{Check, Refusal};
 
 fn wide(x: u32) -> usize
     ensures { result ≡ x }
@@ -44,24 +43,22 @@ fn is_clear(items: &[u32], v: usize) -> bool
 }
 
 // The first elementary row that shares a byte with an earlier one, each tried against all before it.
-fn first_overlap(items: &[u32]) -> Check
+fn first_overlap(items: &[u32]) -> Result<(), Refusal>
     ensures { result ≡ overlap_check items.now }
 {
     let rows = items.len() / Row::WIDTH;
-    let mut v: usize = 0;
-    while v < rows {
+    for v in 0..rows {
         if !is_clear(items, v) {
-            return Check::Refused(Refusal::Overlap(v));
+            return Err(Refusal::Overlap(v));
         }
-        v += 1;
     }
-    Check::Sound
+    Ok(())
 }
 
 // Whether each elementary row starts where the one before it ends, or later: so rows of a description lie, and one pass tells that none
 // of them overlap.
 fn lie_in_turn(items: &[u32]) -> bool
-    ensures { result ≡ true → overlap_check items.now ≡ Sound }
+    ensures { result ≡ true → overlap_check items.now ≡ Ok tt }
 {
     let rows = items.len() / Row::WIDTH;
     let mut in_turn = true;
@@ -79,11 +76,11 @@ fn lie_in_turn(items: &[u32]) -> bool
 }
 
 // 19: the first elementary row that shares a byte with an earlier one.
-pub fn check_overlap(items: &[u32]) -> Check
+pub fn check_overlap(items: &[u32]) -> Result<(), Refusal>
     ensures { result ≡ overlap_check items.now }
 {
     if lie_in_turn(items) {
-        return Check::Sound;
+        return Ok(());
     }
     first_overlap(items)
 }

@@ -9,7 +9,7 @@ use grammar::PlanRow;
 use plan_rows::rows::plan_row;
 use plans::Target;
 use shapes::condition_sound;
-use tables::{Check, Refusal};
+use tables::Refusal;
 
 // A target of row k is a later row of the plan, or a verdict.
 fn target_sound(rows: usize, k: usize, target: u32) -> bool
@@ -46,19 +46,23 @@ fn row_sound(
 }
 
 // 11: a plan of 1 to 128 rows of five, and the first row that is not as a plan's rows are.
-pub fn check_plan(off: bool, items: &[u32], literals: &[u32], names: &[u32], plan: &[u32]) -> Check
+pub fn check_plan(
+    off: bool,
+    items: &[u32],
+    literals: &[u32],
+    names: &[u32],
+    plan: &[u32],
+) -> Result<(), Refusal>
     ensures { result ≡ plan_check (under off (lend_names items.now literals.now [] names.now)) plan.now }
 {
     let rows = plan.len() / 5;
     if !((plan.len() % 5 == 0) & (1 <= rows) & (rows <= 128)) {
-        return Check::Refused(Refusal::PlanRow(0));
+        return Err(Refusal::PlanRow(0));
     }
-    let mut k: usize = 0;
-    while k < rows {
+    for k in 0..rows {
         if !row_sound(off, items, literals, names, rows, k, plan_row(plan, k)) {
-            return Check::Refused(Refusal::PlanRow(k));
+            return Err(Refusal::PlanRow(k));
         }
-        k += 1;
     }
-    Check::Sound
+    Ok(())
 }

@@ -8,32 +8,29 @@ use lib.ListN.{length}
 use lib.Dec.{leb}
 use borrow.Author.Tests.{leb-true}
 use Rattle.tables.specs.declared.Refusal.{Refusal}
-use Rattle.tables.specs.declared.Check.{Check}
-use Rattle.tables.specs.declared.Check.TheVariants.{Sound, Refused}
 use Rattle.tables.specs.Operands.{Lent, lend, lend_names, under}
-use Rattle.tables.specs.Refusals.{first_of}
+use Rattle.tables.specs.Refusals.{first_of, Check}
 use Rattle.tables.specs.Tables.{token_count_check, token_check}
 use Rattle.values.specs.Names.{lent_lines}
 use Rattle.tables.proofs.Lines.{test_sound, line_sound, line_refused, line_last, lines_before, lines_sound}
 use Rattle.tables.proofs.Tests.{both}
 use Rattle.grammar.specs.Parser.{Reading, accepted, refused, read}
 use Rattle.grammar.proofs.Lent.{typing_lent}
-use Rattle.resolver.specs.declared.Prepared.{Prepared}
-use Rattle.resolver.specs.declared.Prepared.TheVariants.{Rows, Refused as Unprepared}
 use Rattle.rules.specs.Calls.{typing_check, token_lines, grammar_lines, condition_lines}
 use Rattle.resolver.specs.Resolved.{There, Readies, Resolves}
 use Rattle.preparer.specs.Prepared.{Prepares}
+use Rattle.std.specs.Prelude.{Err, Ok, Result}
 
 -- 1 to 6
 module _ (lent : Lent) (tokens : List ℕ) {t : Check} (tables : t ≡ first_of (lent_lines lent)) where
-  pub tables_refused : {refusal : Refusal} → t ≡ Refused refusal → Refused refusal ≡ first_of (token_lines lent tokens)
+  pub tables_refused : {refusal : Refusal} → t ≡ Err refusal → Err refusal ≡ first_of (token_lines lent tokens)
   tables_refused e = sym (lines_before (lent_lines lent) _ ∙ line_refused _ (sym tables ∙ e))
 
-  pub count_refused : t ≡ Sound → {n : Check} → n ≡ token_count_check tokens → {refusal : Refusal} → n ≡ Refused refusal →
-      Refused refusal ≡ first_of (token_lines lent tokens)
+  pub count_refused : t ≡ Ok tt → {n : Check} → n ≡ token_count_check tokens → {refusal : Refusal} → n ≡ Err refusal →
+      Err refusal ≡ first_of (token_lines lent tokens)
   count_refused e count f = sym (lines_before (lent_lines lent) _ ∙ line_sound _ (sym tables ∙ e) ∙ line_refused _ (sym count ∙ f))
 
-  pub tokens_checked : t ≡ Sound → {n : Check} → n ≡ token_count_check tokens → n ≡ Sound → {r : Check} → r ≡ token_check lent tokens →
+  pub tokens_checked : t ≡ Ok tt → {n : Check} → n ≡ token_count_check tokens → n ≡ Ok tt → {r : Check} → r ≡ token_check lent tokens →
       r ≡ first_of (token_lines lent tokens)
   tokens_checked e count f last =
       last ∙ sym (lines_before (lent_lines lent) _ ∙ line_sound _ (sym tables ∙ e) ∙ line_sound _ (sym count ∙ f) ∙ line_last _)
@@ -49,32 +46,32 @@ module _ (off : Bool) (items literals bytes names tokens : List ℕ) {lines : Ch
   abbrev tables : Lent
   tables = under off (lend_names items literals bytes names)
 
-  pub lent_refused : {refusal : Refusal} {buffer : List ℕ} → lines ≡ Refused refusal →
-      Prepares tables tokens (Unprepared refusal) buffer buffer
+  pub lent_refused : {refusal : Refusal} {buffer : List ℕ} → lines ≡ Err refusal →
+      Prepares tables tokens (Err refusal) buffer buffer
   lent_refused e = record { readied = (lines_before (token_lines tables tokens) _ ∙ line_refused _ (sym six ∙ e), refl); untouched = λ _. refl }
 
-  whole : lines ≡ Sound → first_of (condition_lines tables tokens) ≡ first_of (grammar_lines (lend items literals []) tokens)
+  whole : lines ≡ Ok tt → first_of (condition_lines tables tokens) ≡ first_of (grammar_lines (lend items literals []) tokens)
   whole e =
       lines_before (token_lines tables tokens) _
       ∙ line_sound _ (sym six ∙ e)
       ∙ rw (typing_check-lent off items literals bytes names (read tokens))
 
-  readied : lines ≡ Sound → (r : Prepared) (before after : List ℕ) →
+  readied : lines ≡ Ok tt → (r : Result ℕ Refusal) (before after : List ℕ) →
       Readies (first_of (grammar_lines (lend items literals []) tokens)) (read tokens) r before after →
       Readies (first_of (condition_lines tables tokens)) (read tokens) r before after
-  readied e (Rows count) before after h = (whole e ∙ h.0, h.1)
-  readied e (Unprepared refusal) before after h = (whole e ∙ h.0, h.1)
+  readied e (Ok count) before after h = (whole e ∙ h.0, h.1)
+  readied e (Err refusal) before after h = (whole e ∙ h.0, h.1)
 
   -- what is sound is not refused
-  unrefused : lines ≡ Sound → {refusal : Refusal} → first_of (token_lines tables tokens) ≡ Refused refusal → ⊥
+  unrefused : lines ≡ Ok tt → {refusal : Refusal} → first_of (token_lines tables tokens) ≡ Err refusal → ⊥
   unrefused e f = let z : ◌≡◌ {A = ℕ} 0 1 = cc (six, e, f) in omega arith
 
-  pub prepared : lines ≡ Sound → {r : Prepared} {before after : List ℕ} → Resolves (lend items literals []) tokens r before after →
+  pub prepared : lines ≡ Ok tt → {r : Result ℕ Refusal} {before after : List ℕ} → Resolves (lend items literals []) tokens r before after →
       Prepares tables tokens r before after
   prepared e {r} {before} {after} h = record { readied = readied e r before after h.readied; untouched = λ f. absurd (unrefused e f) }
 
   -- what resolving needs to know of the tokens
-  pub resolvable : lines ≡ Sound → (length tokens ≤ 256) × There items literals tokens
+  pub resolvable : lines ≡ Ok tt → (length tokens ≤ 256) × There items literals tokens
   resolvable e =
       let s = lines_sound (token_lines tables tokens) (sym six ∙ e) in
       (leb-true _ _ (both (leb 1 (length tokens)) (leb (length tokens) 256) (test_sound _ _ s.1.1.1.1.1.0)).1, record { off = off; names = names; exist = s.1.1.1.1.1.1.0 })

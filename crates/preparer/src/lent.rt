@@ -6,15 +6,17 @@ ghost use Rattle.values.specs.Names.{lent_lines};
 
 use checks::lent::check_tables;
 use name_tables::check_names;
-use tables::Check;
+use tables::Refusal;
 
 // 1 to 4 and 18.
-pub fn check_lent(items: &[u32], literals: &[u32], bytes: &[u8], names: &[u32]) -> Check
+pub fn check_lent(
+    items: &[u32],
+    literals: &[u32],
+    bytes: &[u8],
+    names: &[u32],
+) -> Result<(), Refusal>
     ensures { result ≡ first_of (lent_lines (lend_names items.now literals.now bytes.now names.now)) }
 {
-    let tables = check_tables(items, literals, bytes);
-    if let Check::Refused(refusal) = tables {
-        return Check::Refused(refusal);
-    }
+    check_tables(items, literals, bytes)?;
     check_names(items, literals, bytes, names)
 }

@@ -6,8 +6,8 @@ ghost use Rattle.rules.specs.Calls.{token_lines};
 ghost use Rattle.preparer.specs.Prepared.{Prepares};
 
 use crate::lent::check_lent;
-use resolver::{Prepared, resolve};
-use tables::Check;
+use resolver::resolve;
+use tables::Refusal;
 use token_checks::tokens::{check_token_count, check_tokens};
 
 // 1 to 6, and 18 just after 4. `off`, here and below: the rules have the switch-off words.
@@ -18,21 +18,15 @@ fn check_lines(
     bytes: &[u8],
     names: &[u32],
     tokens: &[u32],
-) -> Check
+) -> Result<(), Refusal>
     ensures { result ≡ first_of (token_lines (under off (lend_names items.now literals.now bytes.now names.now)) tokens.now) }
 {
-    let lent = check_lent(items, literals, bytes, names);
-    if let Check::Refused(refusal) = lent {
-        return Check::Refused(refusal);
-    }
-    let count = check_token_count(tokens);
-    if let Check::Refused(refusal) = count {
-        return Check::Refused(refusal);
-    }
+    check_lent(items, literals, bytes, names)?;
+    check_token_count(tokens)?;
     check_tokens(off, items, literals, names, tokens)
 }
 
-// 1 to 9 and 18.
+// 1 to 9 and 18; the number of the condition's rows where none refuses.
 pub fn prepare(
     off: bool,
     items: &[u32],
@@ -41,13 +35,10 @@ pub fn prepare(
     names: &[u32],
     tokens: &[u32],
     rows: &mut [u32],
-) -> Prepared
+) -> Result<usize, Refusal>
     requires { 640 ≤ length rows.old }
     ensures { Prepares (under off (lend_names items.now literals.now bytes.now names.now)) tokens.now result rows.old rows.new }
 {
-    let lines = check_lines(off, items, literals, bytes, names, tokens);
-    match lines {
-        Check::Refused(refusal) => Prepared::Refused(refusal),
-        Check::Sound => resolve(items, literals, tokens, rows),
-    }
+    check_lines(off, items, literals, bytes, names, tokens)?;
+    resolve(items, literals, tokens, rows)
 }

@@ -10,11 +10,9 @@ use lib.ListN.{length, get_or, take}
 use borrow.Author.Tests.{leb-true, lt-ltb, le-ltb, le-leb, lt-leb, ltb-true, ltb-false}
 use Rattle.tables.specs.declared.Refusal.{Refusal}
 use Rattle.tables.specs.declared.Refusal.TheVariants.{LiteralTable, LiteralRow, TokenCount as WrongCount, Token, Room as Short}
-use Rattle.tables.specs.declared.Check.{Check}
-use Rattle.tables.specs.declared.Check.TheVariants.{Sound, Refused as Fails}
 use Rattle.tables.specs.Rows.{row_count, row_at}
 use Rattle.tables.specs.Operands.{lend}
-use Rattle.tables.specs.Refusals.{number, place, first_failing, first_of, unless}
+use Rattle.tables.specs.Refusals.{number, place, first_failing, first_of, unless, Check}
 use Rattle.tables.specs.Tables.{length_sound, literal_sound, table_lines, literal_table_check, literal_row_check, token_count_check}
 use Rattle.description.specs.Limits.{Outcome}
 use Rattle.spelling.specs.Names.{Known}
@@ -33,6 +31,7 @@ use Rattle.books.specs.declared.Book.{Book}
 use Rattle.books.specs.declared.Named.TheVariants.{Given, Faulty}
 use Rattle.books.specs.Calls.{unprinted_as, line_out, PrintedAs, Sized, NamedBy}
 use Rattle.books.proofs.Finding.{book-found, book_refused}
+use Rattle.std.specs.Prelude.{Err, Ok}
 
 one_more : (a b : ℕ) → ltb (suc a) (suc b) ≡ ltb a b
 one_more a b = by (ltb a b) refl
@@ -73,25 +72,25 @@ passes_each test (t ∷ ts) h i l = by (test t) refl h i l (passes_each test ts)
     by false e h i l rec = absurd (omega arith)
 
 -- no row fails
-each_sound : (test : ℕ → Bool) (f : ℕ → Refusal) (at n : ℕ) → first_failing test f at n ≡ Sound → (v : ℕ) → at ≤ v → v < at + n → test v ≡ true
+each_sound : (test : ℕ → Bool) (f : ℕ → Refusal) (at n : ℕ) → first_failing test f at n ≡ Ok tt → (v : ℕ) → at ≤ v → v < at + n → test v ≡ true
 unfolding first_failing
 each_sound test f at zero e v h l = absurd (omega arith)
 each_sound test f at (suc n) e v h l = by (test at) refl e (ℕ_discrete v at) (each_sound test f (suc at) n)
   where
-    by : (b : Bool) → test at ≡ b → cond b (first_failing test f (suc at) n) (Fails (f at)) ≡ Sound → Dec (v ≡ at)
-        → (first_failing test f (suc at) n ≡ Sound → (v : ℕ) → suc at ≤ v → v < suc at + n → test v ≡ true) → test v ≡ true
+    by : (b : Bool) → test at ≡ b → cond b (first_failing test f (suc at) n) (Err (f at)) ≡ Ok tt → Dec (v ≡ at)
+        → (first_failing test f (suc at) n ≡ Ok tt → (v : ℕ) → suc at ≤ v → v < suc at + n → test v ≡ true) → test v ≡ true
     by true q e (yes z) rec = rw z q
     by true q e (no z) rec = rec e v (omega arith) (omega arith)
     by false q e d rec = let z : ◌≡◌ {A = ℕ} 0 1 = cc in absurd (omega arith)
 
 -- the rows' line refuses by a row's number
-row_refusal : (test : ℕ → Bool) (at n : ℕ) (r : Refusal) → first_failing test LiteralRow at n ≡ Fails r → Refused r ≡ unprinted_as (number r) (place r)
+row_refusal : (test : ℕ → Bool) (at n : ℕ) (r : Refusal) → first_failing test LiteralRow at n ≡ Err r → Refused r ≡ unprinted_as (number r) (place r)
 unfolding first_failing
 row_refusal test at zero r e = let z : ◌≡◌ {A = ℕ} 0 1 = cc in absurd (omega arith)
 row_refusal test at (suc n) r e = by (test at) e (row_refusal test (suc at) n r)
   where
-    by : (b : Bool) → cond b (first_failing test LiteralRow (suc at) n) (Fails (LiteralRow at)) ≡ Fails r
-        → (first_failing test LiteralRow (suc at) n ≡ Fails r → Refused r ≡ unprinted_as (number r) (place r)) → Refused r ≡ unprinted_as (number r) (place r)
+    by : (b : Bool) → cond b (first_failing test LiteralRow (suc at) n) (Err (LiteralRow at)) ≡ Err r
+        → (first_failing test LiteralRow (suc at) n ≡ Err r → Refused r ≡ unprinted_as (number r) (place r)) → Refused r ≡ unprinted_as (number r) (place r)
     by true e rec = rec e
     by false e rec = let z : LiteralRow at ≡ r = cc in subst (λ (x : Refusal). Refused x ≡ unprinted_as (number x) (place x)) z refl
 
@@ -100,13 +99,13 @@ module _ (known : Known) (rows content tokens : List ℕ) where
   later = before (first_token (printable known rows) 6 0 tokens) (first_token (has_name known) 16 0 tokens)
 
   -- 3 and 4
-  pub tables_refuse : {r : Refusal} → first_of (table_lines (lend [] rows content)) ≡ Fails r
+  pub tables_refuse : {r : Refusal} → first_of (table_lines (lend [] rows content)) ≡ Err r
       → (printing known rows content tokens ≡ refused (number r) (place r)) × (Refused r ≡ unprinted_as (number r) (place r))
   unfolding printing first_of first_failing
   tables_refuse {r} e = by (length_sound rows) refl (literal_row_check (lend [] rows content)) refl e
     where
       by : (b : Bool) → length_sound rows ≡ b → (c : Check) → literal_row_check (lend [] rows content) ≡ c
-          → first_of (unless b LiteralTable ∷ c ∷ []) ≡ Fails r
+          → first_of (unless b LiteralTable ∷ c ∷ []) ≡ Err r
           → (print_result (before (found (unless (length_sound rows) LiteralTable)) (before (found (literal_row_check (lend [] rows content))) (before (found
           (token_count_check tokens)) later))) (printed known rows content tokens)
           ≡ refused (number r) (place r)) × (Refused r ≡ unprinted_as (number r) (place r))
@@ -114,34 +113,34 @@ module _ (known : Known) (rows content tokens : List ℕ) where
           (print_result (before (found (unless (length_sound rows) LiteralTable)) (before (found (literal_row_check (lend [] rows content))) (before (found
           (token_count_check tokens)) later))) (printed known rows content tokens)
           ≡ refused (number x) (place x)) × (Refused x ≡ unprinted_as (number x) (place x))) z (rw l, refl)
-      by true l Sound q e = let z : ◌≡◌ {A = ℕ} 0 1 = cc in absurd (omega arith)
-      by true l (Fails x) q e =
+      by true l (Ok _) q e = let z : ◌≡◌ {A = ℕ} 0 1 = cc in absurd (omega arith)
+      by true l (Err x) q e =
           let z : x ≡ r = cc in
-          (rw (l, q, z), row_refusal (λ v. literal_sound content (row_at rows v)) 0 (row_count rows) r (q ∙ ap Fails z))
+          (rw (l, q, z), row_refusal (λ v. literal_sound content (row_at rows v)) 0 (row_count rows) r (q ∙ ap Err z))
 
-  pub tables_sound : first_of (table_lines (lend [] rows content)) ≡ Sound
-      → (literal_table_check (lend [] rows content) ≡ Sound) × (literal_row_check (lend [] rows content) ≡ Sound)
+  pub tables_sound : first_of (table_lines (lend [] rows content)) ≡ Ok tt
+      → (literal_table_check (lend [] rows content) ≡ Ok tt) × (literal_row_check (lend [] rows content) ≡ Ok tt)
   unfolding first_of first_failing
   tables_sound e = by (length_sound rows) refl (literal_row_check (lend [] rows content)) refl e
     where
-      by : (b : Bool) → length_sound rows ≡ b → (c : Check) → literal_row_check (lend [] rows content) ≡ c → first_of (unless b LiteralTable ∷ c ∷ []) ≡ Sound
-          → (unless (length_sound rows) LiteralTable ≡ Sound) × (literal_row_check (lend [] rows content) ≡ Sound)
-      by true l Sound q e = (rw l, q)
-      by true l (Fails x) q e = let z : ◌≡◌ {A = ℕ} 0 1 = cc in absurd (omega arith)
+      by : (b : Bool) → length_sound rows ≡ b → (c : Check) → literal_row_check (lend [] rows content) ≡ c → first_of (unless b LiteralTable ∷ c ∷ []) ≡ Ok tt
+          → (unless (length_sound rows) LiteralTable ≡ Ok tt) × (literal_row_check (lend [] rows content) ≡ Ok tt)
+      by true l (Ok _) q e = (rw l, q)
+      by true l (Err x) q e = let z : ◌≡◌ {A = ℕ} 0 1 = cc in absurd (omega arith)
       by false l c q e = let z : ◌≡◌ {A = ℕ} 0 1 = cc in absurd (omega arith)
 
-  module _ (table-fine : literal_table_check (lend [] rows content) ≡ Sound) (rows-fine : literal_row_check (lend [] rows content) ≡ Sound) where
+  module _ (table-fine : literal_table_check (lend [] rows content) ≡ Ok tt) (rows-fine : literal_row_check (lend [] rows content) ≡ Ok tt) where
     -- 5
-    pub count_refuses : {r : Refusal} → token_count_check tokens ≡ Fails r
+    pub count_refuses : {r : Refusal} → token_count_check tokens ≡ Err r
         → (printing known rows content tokens ≡ refused (number r) (place r)) × (Refused r ≡ unprinted_as (number r) (place r))
     unfolding printing
     count_refuses {r} e = (rw (table-fine, rows-fine, e), by (leb 1 (length tokens) && leb (length tokens) 256) e)
       where
-        by : (b : Bool) → unless b WrongCount ≡ Fails r → Refused r ≡ unprinted_as (number r) (place r)
+        by : (b : Bool) → unless b WrongCount ≡ Err r → Refused r ≡ unprinted_as (number r) (place r)
         by true e = let z : ◌≡◌ {A = ℕ} 0 1 = cc in absurd (omega arith)
         by false e = let z : WrongCount ≡ r = cc in subst (λ (x : Refusal). Refused x ≡ unprinted_as (number x) (place x)) z refl
 
-    module _ (count-fine : token_count_check tokens ≡ Sound) where
+    module _ (count-fine : token_count_check tokens ≡ Ok tt) where
       -- 6
       pub token_refuses : passing (printable known rows) tokens < length tokens
           → printing known rows content tokens ≡ refused 6 (passing (printable known rows) tokens)
@@ -170,7 +169,7 @@ module _ {description : List ℕ} {items : ℕ} {places rows content tokens : Li
   pub some-tokens : (1 ≤ length tokens) × (length tokens ≤ 256)
   some-tokens = by (leb 1 (length tokens)) refl (leb (length tokens) 256) refl S.count_sound
     where
-      by : (a : Bool) → leb 1 (length tokens) ≡ a → (b : Bool) → leb (length tokens) 256 ≡ b → unless (a && b) WrongCount ≡ Sound → (1 ≤ length tokens) × (length tokens ≤ 256)
+      by : (a : Bool) → leb 1 (length tokens) ≡ a → (b : Bool) → leb (length tokens) 256 ≡ b → unless (a && b) WrongCount ≡ Ok tt → (1 ≤ length tokens) × (length tokens ≤ 256)
       by true p true q e = (leb-true _ _ p, leb-true _ _ q)
       by true p false q e = let z : ◌≡◌ {A = ℕ} 0 1 = cc in absurd (omega arith)
       by false p b q e = let z : ◌≡◌ {A = ℕ} 0 1 = cc in absurd (omega arith)

@@ -10,7 +10,7 @@ use checks::lent::check_tables;
 use content::Row;
 use printable::refusals::{first_missing, first_unnamed};
 use printer::lines::{line_size, put_line};
-use tables::{Check, Refusal};
+use tables::Refusal;
 use token_checks::tokens::check_token_count;
 
 // The line, where there is room.
@@ -77,11 +77,11 @@ fn print_named(
     ensures { PrintedAs (printing (known_at description.now items places.now) literals.now bytes.now tokens.now) text.old result text.new }
 {
     let tables = check_tables(&literals[..0], literals, bytes);
-    if let Check::Refused(refusal) = tables {
+    if let Err(refusal) = tables {
         return Printed::Refused(refusal);
     }
     let count = check_token_count(tokens);
-    if let Check::Refused(refusal) = count {
+    if let Err(refusal) = count {
         return Printed::Refused(refusal);
     }
     print_there(description, places, items, literals, bytes, tokens, text)

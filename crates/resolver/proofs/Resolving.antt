@@ -10,10 +10,8 @@ use lib.Dec.{leb}
 use borrow.Author.Tests.{le-leb, lt-leb}
 use Rattle.tables.specs.declared.Refusal.{Refusal}
 use Rattle.tables.specs.declared.Refusal.TheVariants.{Grammar}
-use Rattle.tables.specs.declared.Check.{Check}
-use Rattle.tables.specs.declared.Check.TheVariants.{Sound, Refused}
 use Rattle.tables.specs.Operands.{Lent, lend, lend_names, under}
-use Rattle.tables.specs.Refusals.{place, first_of}
+use Rattle.tables.specs.Refusals.{place, first_of, Check}
 use Rattle.tables.proofs.Lines.{line_sound, line_refused, line_last}
 use Rattle.parser.specs.declared.Parse.{Parse}
 use Rattle.parser.specs.declared.Parse.TheVariants.{Accepted}
@@ -30,15 +28,15 @@ use Rattle.grammar.proofs.Size.{few_rows}
 use Rattle.tables.proofs.Front.{later_rest}
 use Rattle.rules.proofs.Deep.{deep_enough}
 use Rattle.grammar.proofs.Shapes.{shaped, rows_shaped, rows-typed}
-use Rattle.resolver.specs.declared.Prepared.TheVariants.{Rows, Refused as Unprepared}
 use Rattle.rules.specs.Calls.{grammar_check, earlier, typing_check, grammar_lines}
 use Rattle.resolver.specs.Resolved.{parse_check, parsed_tokens, There, RowsStand, Resolves}
+use Rattle.std.specs.Prelude.{Err, Ok}
 
 -- of 7 and 8
-pub seven_first : (seven : ℕ) (eight : Refusal) → seven ≤ place eight → Refused (Grammar seven) ≡ earlier (Refused (Grammar seven)) (Refused eight)
+pub seven_first : (seven : ℕ) (eight : Refusal) → seven ≤ place eight → Err (Grammar seven) ≡ earlier (Err (Grammar seven)) (Err eight)
 seven_first seven eight h = rw (le-leb seven (place eight) h)
 
-pub eight_first : (seven : ℕ) (eight : Refusal) → place eight < seven → Refused eight ≡ earlier (Refused (Grammar seven)) (Refused eight)
+pub eight_first : (seven : ℕ) (eight : Refusal) → place eight < seven → Err eight ≡ earlier (Err (Grammar seven)) (Err eight)
 eight_first seven eight h = rw (lt-leb seven (place eight) h)
 
 -- what was parsed is what is read
@@ -71,13 +69,13 @@ spared tokens r before after l w = go (read tokens) refl w
         (rw w.1 (drop_at (planned t) (drop (simple_count t * 5) before) (simple_count t * 5) (planned-length t)))
 
 -- the tokens that are parsed tell as much of 7 and 8 as all do
-pub eight_inside : (tokens : List ℕ) {depth : Check} {eight : Refusal} → depth ≡ depth_check tokens → depth ≡ Refused eight → place eight < length tokens
+pub eight_inside : (tokens : List ℕ) {depth : Check} {eight : Refusal} → depth ≡ depth_check tokens → depth ≡ Err eight → place eight < length tokens
 eight_inside tokens d e = depth_inside tokens (sym d ∙ e)
 
 parsed_enough : (tokens : List ℕ) (depth : Check) → depth ≡ depth_check tokens →
     earlier (grammar_check (read (take (parsed_tokens tokens depth) tokens))) depth ≡ earlier (grammar_check (read tokens)) depth
-parsed_enough tokens Sound d = rw (take_all (length tokens) tokens (omega arith))
-parsed_enough tokens (Refused eight) d = deep_enough tokens eight (sym d)
+parsed_enough tokens (Ok _) d = rw (take_all (length tokens) tokens (omega arith))
+parsed_enough tokens (Err eight) d = deep_enough tokens eight (sym d)
 
 -- 7 to 9, of a sequence of which 1 to 6 refuse nothing
 module _ (lent : Lent) (tokens before after : List ℕ) (parsed : Parse) {depth : Check} {end : ℕ} (d : depth ≡ depth_check tokens)
@@ -89,29 +87,29 @@ module _ (lent : Lent) (tokens before after : List ℕ) (parsed : Parse) {depth 
       (sym (parsed_enough tokens depth d)
       ∙ rw (← n, ← seven parsed before after (read (take end tokens)) parses) (sym e))
 
-  pub grammar_refused : length tokens ≤ 256 → end ≤ length tokens → {r : Check} → r ≡ earlier (parse_check parsed) depth → {refusal : Refusal} → r ≡ Refused refusal →
-      Resolves lent tokens (Unprepared refusal) before after
+  pub grammar_refused : length tokens ≤ 256 → end ≤ length tokens → {r : Check} → r ≡ earlier (parse_check parsed) depth → {refusal : Refusal} → r ≡ Err refusal →
+      Resolves lent tokens (Err refusal) before after
   grammar_refused l k e f =
       let short : length (take end tokens) ≤ 256 = omega (arith, length-take-le end tokens k) in
       record { readied = (line_refused _ (first-line e ∙ f), spared (take end tokens) parsed before after short parses) }
 
 -- a sequence that is not parsed is refused with 7 or 8
-pub unparsed_refused : (depth r : Check) (at : ℕ) → r ≡ earlier (Refused (Grammar at)) depth → r ≡ Sound → ⊥
-unparsed_refused Sound r at e f = let z : ◌≡◌ {A = ℕ} 0 1 = cc in omega arith
-unparsed_refused (Refused eight) r at e f = pick (leb at (place eight)) (sym e ∙ f)
+pub unparsed_refused : (depth r : Check) (at : ℕ) → r ≡ earlier (Err (Grammar at)) depth → r ≡ Ok tt → ⊥
+unparsed_refused (Ok _) r at e f = let z : ◌≡◌ {A = ℕ} 0 1 = cc in omega arith
+unparsed_refused (Err eight) r at e f = pick (leb at (place eight)) (sym e ∙ f)
   where
-    pick : (b : Bool) → cond b (Refused (Grammar at)) (Refused eight) ≡ Sound → ⊥
+    pick : (b : Bool) → cond {A = Check} b (Err (Grammar at)) (Err eight) ≡ Ok tt → ⊥
     pick true k = let z : ◌≡◌ {A = ℕ} 0 1 = cc in omega arith
     pick false k = let z : ◌≡◌ {A = ℕ} 0 1 = cc in omega arith
 
 -- where neither 7 nor 8 refuses, all tokens are parsed
-all_parsed : (tokens before after : List ℕ) (p : Parse) (depth : Check) → depth ≡ Sound → Parses (take (parsed_tokens tokens depth) tokens) p before after →
+all_parsed : (tokens before after : List ℕ) (p : Parse) (depth : Check) → depth ≡ Ok tt → Parses (take (parsed_tokens tokens depth) tokens) p before after →
     Parses tokens p before after
 all_parsed tokens before after p depth e h = rw (e, take_all (length tokens) tokens (omega arith)) at h
 
 module _ (items literals tokens before after : List ℕ) (count : ℕ) {depth : Check} {end : ℕ} (d : depth ≡ depth_check tokens)
     (n : end ≡ parsed_tokens tokens depth) (parsed : Parses (take end tokens) (Accepted count) before after) {r : Check}
-    (e : r ≡ earlier (parse_check (Accepted count)) depth) (f : r ≡ Sound) (there : There items literals tokens) where
+    (e : r ≡ earlier (parse_check (Accepted count)) depth) (f : r ≡ Ok tt) (there : There items literals tokens) where
   abbrev lent : Lent
   lent = lend items literals []
 
@@ -140,9 +138,9 @@ module _ (items literals tokens before after : List ℕ) (count : ℕ) {depth : 
       ∙ typing_of (read tokens) (lies count before after (read tokens) parses)
       ∙ sym g
 
-  pub typing_refused : length tokens ≤ 256 → {typing : Check} → typing ≡ typed_rows lent after count → {refusal : Refusal} → typing ≡ Refused refusal →
-      Resolves lent tokens (Unprepared refusal) before after
+  pub typing_refused : length tokens ≤ 256 → {typing : Check} → typing ≡ typed_rows lent after count → {refusal : Refusal} → typing ≡ Err refusal →
+      Resolves lent tokens (Err refusal) before after
   typing_refused l g h = record { readied = (last_line g ∙ h, spared tokens (Accepted count) before after l parses) }
 
-  pub resolved : {typing : Check} → typing ≡ typed_rows lent after count → typing ≡ Sound → Resolves lent tokens (Rows count) before after
+  pub resolved : {typing : Check} → typing ≡ typed_rows lent after count → typing ≡ Ok tt → Resolves lent tokens (Ok count) before after
   resolved g h = record { readied = (last_line g ∙ h, lies count before after (read tokens) parses) }

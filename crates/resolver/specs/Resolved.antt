@@ -1,36 +1,33 @@
 -- What 7 to 9 leave: a refusal, or the rows of the condition's tree in a buffer.
-use Rattle.std.specs.Prelude.{◌≡◌, Bool, List, [], ◌++◌, ℕ, suc, ◌*◌, length, drop}
+use Rattle.std.specs.Prelude.{◌≡◌, Bool, List, [], ◌++◌, ℕ, suc, ◌*◌, length, drop, Err, Ok, Result}
+use Rattle.tables.specs.declared.Refusal.{Refusal}
 use Rattle.tables.specs.declared.Refusal.TheVariants.{Grammar}
-use Rattle.tables.specs.declared.Check.{Check}
-use Rattle.tables.specs.declared.Check.TheVariants.{Sound, Refused}
 use Rattle.tables.specs.Operands.{Lent, lend_names, under}
 use Rattle.tables.specs.Tables.{token_check}
-use Rattle.tables.specs.Refusals.{place, first_of}
+use Rattle.tables.specs.Refusals.{place, first_of, Check}
 use Rattle.parser.specs.declared.Parse.{Parse}
 use Rattle.parser.specs.declared.Parse.TheVariants.{Accepted, Refused as Unparsed}
 use Rattle.grammar.specs.Grammar.{Tree}
 use Rattle.grammar.specs.Parser.{Reading, accepted, read}
 use Rattle.grammar.specs.Judging.{simple_count}
 use Rattle.grammar.specs.Plan.{planned}
-use Rattle.resolver.specs.declared.Prepared.{Prepared}
-use Rattle.resolver.specs.declared.Prepared.TheVariants.{Rows, Refused as Unprepared}
 use Rattle.rules.specs.Calls.{grammar_lines}
 
 -- every token exists, whatever the names are, by the rules with or without the switch-off words: 7 to 9 do not ask for them
 pub record There (items literals tokens : List ℕ) : Type 0 where
   pub off : Bool
   pub names : List ℕ
-  pub exist : token_check (under off (lend_names items literals [] names)) tokens ≡ Sound
+  pub exist : token_check (under off (lend_names items literals [] names)) tokens ≡ Ok tt
 
 -- 7, of what was parsed
 abbrev pub parse_check : Parse → Check
-parse_check (Accepted n) = Sound
-parse_check (Unparsed at) = Refused (Grammar at)
+parse_check (Accepted n) = Ok tt
+parse_check (Unparsed at) = Err (Grammar at)
 
 -- how many tokens 7 is looked for in: up to the "(" at which 8 refuses
 abbrev pub parsed_tokens : List ℕ → Check → ℕ
-parsed_tokens tokens Sound = length tokens
-parsed_tokens tokens (Refused eight) = suc (place eight)
+parsed_tokens tokens (Ok _) = length tokens
+parsed_tokens tokens (Err eight) = suc (place eight)
 
 -- the buffer is so many rows of a tree, and then as it was
 pub record RowsStand (reading : Reading) (count : ℕ) (before after : List ℕ) : Type 0 where
@@ -41,10 +38,10 @@ pub record RowsStand (reading : Reading) (count : ℕ) (before after : List ℕ)
 
 -- What is prepared: the refusal of the lines, or the rows. Of a condition that is refused the first 640 numbers of the buffer,
 -- 128 rows, are free: there may stand rows of what was parsed.
-abbrev pub Readies : Check → Reading → Prepared → List ℕ → List ℕ → Type 0
-Readies check reading (Unprepared refusal) before after = (check ≡ Refused refusal) × (drop 640 after ≡ drop 640 before)
-Readies check reading (Rows count) before after = (check ≡ Sound) × RowsStand reading count before after
+abbrev pub Readies : Check → Reading → Result ℕ Refusal → List ℕ → List ℕ → Type 0
+Readies check reading (Err refusal) before after = (check ≡ Err refusal) × (drop 640 after ≡ drop 640 before)
+Readies check reading (Ok count) before after = (check ≡ Ok tt) × RowsStand reading count before after
 
 -- 7 to 9
-pub record Resolves (lent : Lent) (tokens : List ℕ) (r : Prepared) (before after : List ℕ) : Type 0 where
+pub record Resolves (lent : Lent) (tokens : List ℕ) (r : Result ℕ Refusal) (before after : List ℕ) : Type 0 where
   pub readied : Readies (first_of (grammar_lines lent tokens)) (read tokens) r before after

@@ -12,28 +12,21 @@ use parser::Parse;
 use parser::cycle::parse;
 use refusal_numbers::place_of;
 use row_typing::rows::check_typing;
-use tables::{Check, Refusal};
-
-// What the refusals leave of a condition: the number of its rows, or a refusal.
-#[derive(Clone, Copy)]
-pub enum Prepared {
-    Rows(usize),
-    Refused(Refusal),
-}
+use tables::Refusal;
 
 // Of 7 and 8 the one at the smaller place, and 7 on a tie.
-fn earlier_of(parsed: Parse, depth: Check) -> Check
+fn earlier_of(parsed: Parse, depth: Result<(), Refusal>) -> Result<(), Refusal>
     ensures { result ≡ earlier (parse_check parsed) depth }
 {
     match parsed {
         Parse::Accepted(_) => depth,
         Parse::Refused(seven) => match depth {
-            Check::Sound => Check::Refused(Refusal::Grammar(seven)),
-            Check::Refused(eight) => {
+            Ok(()) => Err(Refusal::Grammar(seven)),
+            Err(eight) => {
                 if seven <= place_of(eight) {
-                    Check::Refused(Refusal::Grammar(seven))
+                    Err(Refusal::Grammar(seven))
                 } else {
-                    Check::Refused(eight)
+                    Err(eight)
                 }
             }
         },
@@ -42,36 +35,35 @@ fn earlier_of(parsed: Parse, depth: Check) -> Check
 
 // How many tokens are parsed: no more than the first "(" that makes 17 open, so that the cycle goes no deeper. A 7 beyond it
 // would give way to 8.
-fn parsed_tokens(tokens: &[u32], depth: Check) -> usize
+fn parsed_tokens(tokens: &[u32], depth: Result<(), Refusal>) -> usize
     requires { depth ≡ depth_check tokens.now }
     ensures { (result ≡ parsed_tokens tokens.now depth) × (result ≤ length tokens.now) }
 {
     match depth {
-        Check::Sound => tokens.len(),
-        Check::Refused(eight) => place_of(eight) + 1,
+        Ok(()) => tokens.len(),
+        Err(eight) => place_of(eight) + 1,
     }
 }
 
-// 7 to 9, of tokens that 1 to 6 do not refuse: the names do not matter any more.
-pub fn resolve(items: &[u32], literals: &[u32], tokens: &[u32], rows: &mut [u32]) -> Prepared
+// 7 to 9, of tokens that 1 to 6 do not refuse: the names do not matter any more. Gives the number of the condition's rows.
+pub fn resolve(
+    items: &[u32],
+    literals: &[u32],
+    tokens: &[u32],
+    rows: &mut [u32],
+) -> Result<usize, Refusal>
     requires { (length tokens.now ≤ 256) × There items.now literals.now tokens.now × (640 ≤ length rows.old) }
     ensures { Resolves (lend items.now literals.now []) tokens.now result rows.old rows.new }
 {
     let depth = check_depth(tokens);
     let end = parsed_tokens(tokens, depth);
     let parsed = parse(&tokens[..end], rows);
-    let refused = earlier_of(parsed, depth);
-    if let Check::Refused(refusal) = refused {
-        return Prepared::Refused(refusal);
-    }
+    earlier_of(parsed, depth)?;
     match parsed {
-        Parse::Refused(at) => Prepared::Refused(Refusal::Grammar(at)),
+        Parse::Refused(at) => Err(Refusal::Grammar(at)),
         Parse::Accepted(count) => {
-            let typing = check_typing(items, literals, rows, count);
-            match typing {
-                Check::Sound => Prepared::Rows(count),
-                Check::Refused(refusal) => Prepared::Refused(refusal),
-            }
+            check_typing(items, literals, rows, count)?;
+            Ok(count)
         }
     }
 }

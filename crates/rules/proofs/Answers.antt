@@ -7,13 +7,9 @@ use borrow.Author.Tests.{le-leb, lt-leb}
 use lib.ListN.{length}
 use Rattle.tables.specs.declared.Refusal.{Refusal}
 use Rattle.tables.specs.declared.Refusal.TheVariants.{Room}
-use Rattle.tables.specs.declared.Check.{Check}
-use Rattle.tables.specs.declared.Check.TheVariants.{Sound, Refused}
-use Rattle.tables.specs.declared.Written.{Written}
-use Rattle.tables.specs.declared.Written.TheVariants.{Refused as Unwritten}
 use Rattle.tables.specs.declared.Verdict.TheVariants.{Refused as Unjudged}
 use Rattle.tables.specs.Operands.{Lent}
-use Rattle.tables.specs.Refusals.{first_of}
+use Rattle.tables.specs.Refusals.{first_of, Check, Written}
 use Rattle.tables.specs.Tables.{record_check}
 use Rattle.values.specs.Names.{lent_lines}
 use Rattle.tables.proofs.Lines.{line_sound, line_refused, line_last, lines_before}
@@ -29,6 +25,7 @@ use Rattle.grammar.proofs.Shapes.{planned-plan_sound}
 use Rattle.rules.specs.Calls.{written_over, Gives, Leaves, condition_lines, room_check, numbers_of, writing, expand_gives, plan_gives, answers, told, judge_walk, run_walk, run_gives}
 use Rattle.rules.specs.Demands.{rules_walk, Refuses}
 use Rattle.rules.proofs.Passing.{typing_passes, after_lines_lem, Passes, read_as, condition-passes, tables_pass, few_tokens, tokens_exist}
+use Rattle.std.specs.Prelude.{Err, Ok}
 
 -- a call leaves what it gives
 pub leaves_as : {gives : Gives} {answer : Written} {output : List ℕ} → gives ≡ record { answer = answer; output = output } → Leaves gives answer output
@@ -49,7 +46,7 @@ module _ {lent : Lent} {tokens : List ℕ} {t : Tree} (p : Passes lent tokens t)
   writes-over make output l = rw (room-left make output, read_as p, le-leb _ _ l)
 
   pub lacks_room : (make : Tree → List ℕ) (output : List ℕ) → length output < length (make t) →
-      writing make lent tokens output ≡ record { answer = Unwritten (Room (length (make t))); output = output }
+      writing make lent tokens output ≡ record { answer = Err (Room (length (make t))); output = output }
   lacks_room make output l = rw (room-left make output, lt-leb _ _ l)
 
   pub judges_as : (content : List ℕ) (switches : ℕ) → judge_walk lent tokens content switches ≡ rules_walk lent content switches t
@@ -60,7 +57,7 @@ module _ {lent : Lent} {tokens : List ℕ} {t : Tree} (p : Passes lent tokens t)
   pub few_leaves : simple_count t ≤ 128
   few_leaves = few_rows p.accepts.derives (few_tokens p)
 
-  pub plan-passes : plan_check lent (planned t) ≡ Sound
+  pub plan-passes : plan_check lent (planned t) ≡ Ok tt
   plan-passes = planned-plan_sound lent p.accepts.derives (few_tokens p) (tokens_exist p) (typing_passes lent 0 t p.accepts.typed)
 
   pub run_judges : (content : List ℕ) (switches : ℕ) → running (outcome lent content switches) (planned t) ≡ judging (outcome lent content switches) t
@@ -68,8 +65,8 @@ module _ {lent : Lent} {tokens : List ℕ} {t : Tree} (p : Passes lent tokens t)
       ap₂ walk (run_is_judging (outcome lent content switches) t (omega (arith, few_leaves))) (run_visits_lem (outcome lent content switches) t (omega (arith, few_leaves)))
 
 -- a condition that a line refuses
-module _ (lent : Lent) (tokens : List ℕ) {refusal : Refusal} (e : first_of (condition_lines lent tokens) ≡ Refused refusal) where
-  before : (others : List Check) → first_of (condition_lines lent tokens ++ others) ≡ Refused refusal
+module _ (lent : Lent) (tokens : List ℕ) {refusal : Refusal} (e : first_of (condition_lines lent tokens) ≡ Err refusal) where
+  before : (others : List Check) → first_of (condition_lines lent tokens ++ others) ≡ Err refusal
   before others = lines_before (condition_lines lent tokens) others ∙ line_refused others e
 
   pub refuses : Refuses lent tokens refusal
@@ -86,22 +83,22 @@ module _ (lent : Lent) (plan content : List ℕ) (switches : ℕ) where
   abbrev others : List Check
   others = plan_check lent plan ∷ record_check lent content ∷ []
 
-  pub tables_refuse : {refusal : Refusal} → first_of (lent_lines lent) ≡ Refused refusal → walk (Unjudged refusal) [] ≡ run_walk lent plan content switches
+  pub tables_refuse : {refusal : Refusal} → first_of (lent_lines lent) ≡ Err refusal → walk (Unjudged refusal) [] ≡ run_walk lent plan content switches
   unfolding run_walk
   tables_refuse e = rw (lines_before (lent_lines lent) others, line_refused others e)
 
-  pub after_tables : first_of (lent_lines lent) ≡ Sound → run_walk lent plan content switches ≡ answers (first_of others) (running (outcome lent content switches) plan)
+  pub after_tables : first_of (lent_lines lent) ≡ Ok tt → run_walk lent plan content switches ≡ answers (first_of others) (running (outcome lent content switches) plan)
   unfolding run_walk
   after_tables t = rw (after_lines_lem (lent_lines lent) others t)
 
-  pub after-plan : first_of (lent_lines lent) ≡ Sound → plan_check lent plan ≡ Sound →
+  pub after-plan : first_of (lent_lines lent) ≡ Ok tt → plan_check lent plan ≡ Ok tt →
       run_walk lent plan content switches ≡ answers (record_check lent content) (running (outcome lent content switches) plan)
   after-plan t e = after_tables t ∙ rw (line_sound (record_check lent content ∷ []) e, line_last)
 
 -- no run goes through more rows than the plan has
 answers_few : (line : Check) (w : Walk) (n : ℕ) → length w.visits ≤ n → (told (answers line w)).count ≤ n
-answers_few Sound w n h = h
-answers_few (Refused refusal) w n h = omega arith
+answers_few (Ok _) w n h = h
+answers_few (Err refusal) w n h = omega arith
 
 pub run_few : (lent : Lent) (plan content : List ℕ) (switches : ℕ) → (run_gives lent plan content switches).count ≤ plan_rows plan
 unfolding run_walk

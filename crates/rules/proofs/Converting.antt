@@ -7,13 +7,10 @@ use native.Mathlib.Omega.{arith}
 use borrow.Author.Tests.{eqb-true, le-leb, leb-true}
 use lib.ListN.{length, take, drop}
 use lib.Seq.{take_at}
-use Rattle.tables.specs.declared.Check.{Check}
-use Rattle.tables.specs.declared.Check.TheVariants.{Sound, Refused}
 use Rattle.tables.specs.declared.Verdict.TheVariants.{True, False, Refused as Stopped}
-use Rattle.tables.specs.declared.Written.TheVariants.{Count}
 use Rattle.tables.specs.Tokens.{is_off, is_name}
 use Rattle.tables.specs.Operands.{Lent, under, operand_sound, alone_sound}
-use Rattle.tables.specs.Refusals.{first_of}
+use Rattle.tables.specs.Refusals.{Check, Written, first_of}
 use Rattle.tables.specs.Tables.{token_count_check, token_check, record_check}
 use Rattle.values.specs.Names.{lent_lines}
 use Rattle.tables.proofs.Lines.{test_sound, line_sound, line_last, lines_sound}
@@ -44,6 +41,7 @@ use Rattle.rules.specs.Converting.{fit_check, convert_gives, convert_plan_gives,
 use Rattle.rules.proofs.Passing.{after_lines_lem, both_sound, Passes, passed, tables_pass, tokens_exist, read_as}
 use Rattle.rules.proofs.Answers.{room-left, judges_as, plan-passes, after-plan}
 use Rattle.rules.proofs.Demands.{demand_three}
+use Rattle.std.specs.Prelude.{Err, Ok}
 
 -- a sequence has one tree
 one_tree : {lent : Lent} {tokens : List ℕ} {t u : Tree} → Accepted lent tokens t → Accepted lent tokens u → t ≡ u
@@ -150,14 +148,14 @@ module _ (lent : Lent) {tokens : List ℕ} {t : Tree} (p : Passes (under true le
 -- two walks that judge the same conditions, one by on switches, after the same line
 answers_on : (line : Check) (w : Walk) → answers line (walk w.verdict (on_visits w.visits)) ≡ walk (answers line w).verdict (on_visits (answers line w).visits)
 unfolding on_visits
-answers_on Sound w = refl
-answers_on (Refused refusal) w = refl
+answers_on (Ok _) w = refl
+answers_on (Err refusal) w = refl
 
 told_on : (v : Walk) (w : Walk) → v ≡ walk w.verdict (on_visits w.visits) → told v ≡ told w
 told_on v w e = ap told e ∙ rw (visits_length w.visits)
 
 -- the plan that was written of a condition that passes is that of its tree
-old_plan_is : {lent : Lent} {tokens : List ℕ} {t : Tree} → Passes lent tokens t → (output : List ℕ) (m : ℕ) → (plan_gives lent tokens output).answer ≡ Count m →
+old_plan_is : {lent : Lent} {tokens : List ℕ} {t : Tree} → Passes lent tokens t → (output : List ℕ) (m : ℕ) → (plan_gives lent tokens output).answer ≡ Ok m →
     take m (plan_gives lent tokens output).output ≡ planned t
 old_plan_is {lent} {tokens} {t} p output m e = (demand_three lent tokens output m e).rows ∙ ap planned (one_tree (demand_three lent tokens output m e).accepted p.accepts)
 
@@ -200,17 +198,17 @@ module _ (lent : Lent) {tokens : List ℕ} {t : Tree} (p : Passes (under true le
             rw h (plan_on other);
       }
     where
-      old_plan : (output : List ℕ) (m : ℕ) → (plan_gives (under true lent) tokens output).answer ≡ Count m → take m (plan_gives (under true lent) tokens output).output ≡ planned t
+      old_plan : (output : List ℕ) (m : ℕ) → (plan_gives (under true lent) tokens output).answer ≡ Ok m → take m (plan_gives (under true lent) tokens output).output ≡ planned t
       old_plan output m e = old_plan_is p output m e
 
 -- the numbers that a converter counted
 module _ (numbers output : List ℕ) where
-  written_count : (line : Check) (n : ℕ) → (writes line numbers output).answer ≡ Count n → (line ≡ Sound) × (take n (writes line numbers output).output ≡ numbers)
-  written_count Sound n e = (refl, count_of n e)
+  written_count : (line : Check) (n : ℕ) → (writes line numbers output).answer ≡ Ok n → (line ≡ Ok tt) × (take n (writes line numbers output).output ≡ numbers)
+  written_count (Ok _) n e = (refl, count_of n e)
     where
-      count_of : (n : ℕ) → ◌≡◌ {A = _} (Count (length numbers)) (Count n) → take n (numbers ++ drop (length numbers) output) ≡ numbers
+      count_of : (n : ℕ) → ◌≡◌ {A = Written} (Ok (length numbers)) (Ok n) → take n (numbers ++ drop (length numbers) output) ≡ numbers
       count_of n e = let c : length numbers ≡ n = cc in take_at numbers (drop (length numbers) output) n c
-  written_count (Refused refusal) n e = absurd (let z : ◌≡◌ {A = ℕ} 0 1 = cc in omega arith)
+  written_count (Err refusal) n e = absurd (let z : ◌≡◌ {A = ℕ} 0 1 = cc in omega arith)
 
 -- an off token is no token under the new rules, and no row has one
 pub retired_words : RetiredWords
@@ -243,7 +241,7 @@ conditions_convert lent tokens output n e =
     rw f (means lent p l)
 
 -- a plan that the old rules let pass
-module _ (lent : Lent) (plan : List ℕ) (s : plan_check (under true lent) plan ≡ Sound) where
+module _ (lent : Lent) (plan : List ℕ) (s : plan_check (under true lent) plan ≡ Ok tt) where
   module _ (content : List ℕ) (switches : ℕ) where
     run_on : running (outcome (under false lent) content switches) (converted_plan plan)
         ≡ walk (running (outcome (under true lent) content switches) plan).verdict (on_visits (running (outcome (under true lent) content switches) plan).visits)
@@ -256,7 +254,7 @@ module _ (lent : Lent) (plan : List ℕ) (s : plan_check (under true lent) plan 
         (plan_rows plan) (omega (arith, some-rows (under true lent) plan s)) in
         rw (outcome_rules lent content switches, converted_count plan) (ap₂ walk r.0 r.1)
 
-    plan-walk : first_of (lent_lines (under true lent)) ≡ Sound → run_walk (under false lent) (converted_plan plan) content switches
+    plan-walk : first_of (lent_lines (under true lent)) ≡ Ok tt → run_walk (under false lent) (converted_plan plan) content switches
         ≡ walk (run_walk (under true lent) plan content switches).verdict (on_visits (run_walk (under true lent) plan content switches).visits)
     plan-walk h =
         after-plan (under false lent) (converted_plan plan) content switches h (converted_plan_sound lent plan s)
@@ -264,7 +262,7 @@ module _ (lent : Lent) (plan : List ℕ) (s : plan_check (under true lent) plan 
         ∙ answers_on (record_check lent content) (running (outcome (under true lent) content switches) plan)
         ∙ ap (λ w. walk w.verdict (on_visits w.visits)) (sym (after-plan (under true lent) plan content switches h s))
 
-  run_means : first_of (lent_lines (under true lent)) ≡ Sound → ConvertedRun lent plan (converted_plan plan)
+  run_means : first_of (lent_lines (under true lent)) ≡ Ok tt → ConvertedRun lent plan (converted_plan plan)
   run_means h =
       record {
         numbers_are = refl;

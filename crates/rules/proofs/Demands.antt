@@ -6,11 +6,8 @@ use native.Mathlib.Omega.{arith}
 use borrow.Author.Tests.{leb-true}
 use lib.ListN.{length, take, drop}
 use lib.Seq.{take_at}
-use Rattle.tables.specs.declared.Check.{Check}
-use Rattle.tables.specs.declared.Check.TheVariants.{Sound, Refused}
-use Rattle.tables.specs.declared.Written.TheVariants.{Count}
 use Rattle.tables.specs.Operands.{Lent}
-use Rattle.tables.specs.Refusals.{first_of}
+use Rattle.tables.specs.Refusals.{first_of, Check}
 use Rattle.tables.specs.Tables.{record_check}
 use Rattle.tables.proofs.Lines.{test_sound, lines_before, lines_sound}
 use Rattle.grammar.specs.Grammar.{Tree}
@@ -21,6 +18,7 @@ use Rattle.rules.specs.Calls.{written_over, condition_lines, room_check, Gives, 
 use Rattle.rules.specs.Demands.{Accepted, Writes, Judges, DemandTwo, Demand3, DemandThree}
 use Rattle.rules.proofs.Passing.{both_sound, Passes, passed, read_as, passes_again, Nine, condition_nine, underived_refused, ill_typed_refused}
 use Rattle.rules.proofs.Answers.{writes-over, judges_as, runs_as, refuses, run_few}
+use Rattle.std.specs.Prelude.{Err, Ok}
 
 -- no condition is written, nor judged, but one that passes
 module _ (lent : Lent) (tokens : List ℕ) where
@@ -31,8 +29,8 @@ module _ (lent : Lent) (tokens : List ℕ) where
     where
       go : (line : Check) → first_of (condition_lines lent tokens) ≡ line → Nine line →
           Writes (writes (first_of (line ∷ room_check (numbers_of make (read tokens)) output ∷ [])) (numbers_of make (read tokens)) output).answer → (t : Tree) × Passes lent tokens t
-      go Sound q s w = passed lent tokens q
-      go (Refused refusal) q s w = absurd (omega arith)
+      go (Ok _) q s w = passed lent tokens q
+      go (Err refusal) q s w = absurd (omega arith)
 
   judged_only : Nine (first_of (condition_lines lent tokens)) → (content : List ℕ) (switches : ℕ) → Judges (judge_gives lent tokens content switches).verdict → (t : Tree) × Passes lent tokens t
   unfolding judge_walk first_of
@@ -41,11 +39,11 @@ module _ (lent : Lent) (tokens : List ℕ) where
     where
       go : (line : Check) → first_of (condition_lines lent tokens) ≡ line → Nine line →
           Judges (answers (first_of (line ∷ record_check lent content ∷ [])) (tree_answer lent content switches (read tokens))).verdict → (t : Tree) × Passes lent tokens t
-      go Sound q s j = passed lent tokens q
-      go (Refused refusal) q s j = absurd (omega arith)
+      go (Ok _) q s j = passed lent tokens q
+      go (Err refusal) q s j = absurd (omega arith)
 
   -- where numbers are counted, they are those of the tree
-  pub counted : (make : Tree → List ℕ) (output : List ℕ) (n : ℕ) → (writing make lent tokens output).answer ≡ Count n →
+  pub counted : (make : Tree → List ℕ) (output : List ℕ) (n : ℕ) → (writing make lent tokens output).answer ≡ Ok n →
       (t : Tree) × Passes lent tokens t × (length (make t) ≤ length output)
   counted make output n e = go (first_of (condition_lines lent tokens ++ room ∷ [])) refl e
     where
@@ -53,12 +51,12 @@ module _ (lent : Lent) (tokens : List ℕ) where
       room = room_check (numbers_of make (read tokens)) output
 
       go : (line : Check) → first_of (condition_lines lent tokens ++ room ∷ []) ≡ line →
-          (writes line (numbers_of make (read tokens)) output).answer ≡ Count n → (t : Tree) × Passes lent tokens t × (length (make t) ≤ length output)
-      go Sound q e =
+          (writes line (numbers_of make (read tokens)) output).answer ≡ Ok n → (t : Tree) × Passes lent tokens t × (length (make t) ≤ length output)
+      go (Ok _) q e =
           let (f, g) = both_sound (condition_lines lent tokens) (room ∷ []) q in
           let (t, p) = passed lent tokens f in
           (t, p, leb-true _ _ (test_sound _ _ (rw (read_as p) at (lines_sound (room ∷ []) g).0)))
-      go (Refused refusal) q e = absurd (let z : ◌≡◌ {A = ℕ} 0 1 = cc in omega arith)
+      go (Err refusal) q e = absurd (let z : ◌≡◌ {A = ℕ} 0 1 = cc in omega arith)
 
 pub demand_two : DemandTwo
 unfolding expand_gives plan_gives
@@ -81,7 +79,7 @@ demand_two lent tokens f d =
     passes t a = record { token_lines_lem = f; shallow = d; accepts = a }
 
 -- the numbers that a call counted are those that it wrote
-module _ (gives : Gives) (numbers output : List ℕ) (n : ℕ) (w : gives ≡ written_over numbers output) (e : gives.answer ≡ Count n) where
+module _ (gives : Gives) (numbers output : List ℕ) (n : ℕ) (w : gives ≡ written_over numbers output) (e : gives.answer ≡ Ok n) where
   pub count_is : length numbers ≡ n
   count_is = cc
 

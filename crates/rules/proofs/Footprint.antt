@@ -5,15 +5,13 @@ use mathlib.Core.List.Memᴰ
 use mathlib.Core.List.{List, [], ◌∷◌, ◌++◌, Memᴰ}
 use Prim.Native.Nat.{ℕ}
 use lib.ListN.{length}
-use Rattle.tables.specs.declared.Check.{Check}
-use Rattle.tables.specs.declared.Check.TheVariants.{Sound, Refused}
 use Rattle.tables.specs.declared.Refusal.TheVariants.{Record}
 use Rattle.tables.specs.Tokens.{is_item, is_name, index_of}
 use Rattle.tables.specs.Rows.{row_at, row_count, part, lies_in}
 use Rattle.tables.specs.Operands.{Lent, row_of, operand_bytes}
 use Rattle.tables.specs.Tables.{record_check}
 use Rattle.values.specs.Names.{lent_lines, name_holds}
-use Rattle.tables.specs.Refusals.{first_of}
+use Rattle.tables.specs.Refusals.{first_of, Check}
 use Rattle.tables.proofs.Lines.{failing_same}
 use Rattle.tables.specs.Names.{name_item}
 use Rattle.compare.specs.Switches.{switch_holds}
@@ -28,6 +26,7 @@ use Rattle.grammar.specs.Plan.{plan_check, run, run_visits, running}
 use Rattle.grammar.proofs.Walk.{Alike, judged-alike, run-alike}
 use Rattle.rules.specs.Calls.{condition_lines, answers, tree_answer, judge_walk, run_walk}
 use Rattle.rules.specs.Footprint.{rows_asked, rows_of_visit, items_among, footprint, Agree, LooksAt, LooksAtItsItems}
+use Rattle.std.specs.Prelude.{Err, Ok}
 
 -- an item among the operands of one of the visits is in the footprint
 among : {x : ℕ} {operands : List ℕ} → Memᴰ x operands → is_item x ≡ true → Memᴰ (index_of x) (items_among operands)
@@ -95,8 +94,8 @@ module _ (lent : Lent) (content other : List ℕ) (switches : ℕ) where
   -- and a walk, where the lines before it do not refuse
   after : (line : Check) (w z : Walk) → (Agree lent (footprint lent w.visits) content other → w ≡ z) →
       Agree lent (footprint lent (answers line w).visits) content other → answers line w ≡ answers line z
-  after Sound w z f h = f h
-  after (Refused refusal) w z f h = refl
+  after (Ok _) w z f h = f h
+  after (Err refusal) w z f h = refl
 
   tree_same : (r : Reading) → Agree lent (footprint lent (tree_answer lent content switches r).visits) content other →
       tree_answer lent content switches r ≡ tree_answer lent other switches r

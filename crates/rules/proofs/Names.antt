@@ -9,7 +9,6 @@ use lib.ListN.{length}
 use lib.Dec.{eqb, leb}
 use borrow.Author.Tests.{leb-true, eqb-true}
 use Rattle.content.specs.WrongByte.{Wrong, Nowhere, At, valid_content}
-use Rattle.tables.specs.declared.Check.TheVariants.{Sound}
 use Rattle.tables.specs.declared.Refusal.{Refusal}
 use Rattle.tables.specs.declared.Refusal.TheVariants.{ItemTable, LiteralTable, LiteralRow, Name}
 use Rattle.tables.specs.declared.Outcome.TheVariants.{Stopped}
@@ -34,6 +33,7 @@ use Rattle.values.specs.Truth.{truth, or_stop, stop_of, relation_outcome, name_o
 use Rattle.grammar.specs.Judging.{Outcomes, simple_count, when, at, judged}
 use Rattle.rules.specs.Demands.{WellTyped}
 use Rattle.rules.specs.Names.{pair_tree, pairs_tree, name_tree, Means, NamesMean}
+use Rattle.std.specs.Prelude.{Ok}
 
 -- what is true or false, as a verdict
 abbrev told : Bool → Verdict
@@ -107,12 +107,12 @@ item_relation word s row bytes e = rw e (by (is_group s.row))
     by true = refl
     by false = refl
 
-few_rows : (table : List ℕ) (refusal : Refusal) → unless (length_sound table) refusal ≡ Sound → row_count table ≤ 64
+few_rows : (table : List ℕ) (refusal : Refusal) → unless (length_sound table) refusal ≡ Ok tt → row_count table ≤ 64
 few_rows table refusal e =
     let l : length table ≤ 320 = leb-true _ _ (both (eqb (length table % 5) 0) (leb (length table) 320) (test_sound _ refusal e)).1 in
     omega arith
 
-module _ (lent : Lent) (tables : first_of (lent_lines lent) ≡ Sound) (v : ℕ) (inside : v < name_count lent.names) where
+module _ (lent : Lent) (tables : first_of (lent_lines lent) ≡ Ok tt) (v : ℕ) (inside : v < name_count lent.names) where
   lines : AllSound (lent_lines lent)
   lines = lines_sound (lent_lines lent) tables
 

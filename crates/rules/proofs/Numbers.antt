@@ -8,12 +8,11 @@ use lib.Dec.{eqb}
 use Rattle.tables.specs.declared.Refusal.{Refusal}
 use Rattle.tables.specs.declared.Refusal.TheVariants.{ItemTable, ItemRow, LiteralTable, LiteralRow, TokenCount, Token, Grammar, Depth}
 use Rattle.tables.specs.declared.Refusal.TheVariants.{Typing, Room, PlanRow, Record, Data, Letters, Name, Overlap, Lengths}
-use Rattle.tables.specs.declared.Written.{Written}
-use Rattle.tables.specs.declared.Written.TheVariants.{Count, Refused as Unwritten}
 use Rattle.tables.specs.declared.Verdict.{Verdict}
 use Rattle.tables.specs.declared.Verdict.TheVariants.{True, False, Refused as Unjudged}
-use Rattle.tables.specs.Refusals.{number}
+use Rattle.tables.specs.Refusals.{number, Written}
 use Rattle.rules.specs.Numbers.{of_refusal, of_written, of_verdict, NumbersTell}
+use Rattle.std.specs.Prelude.{Err, Ok}
 
 -- the refusal of a number, a place and a byte
 abbrev refusal_of : ℕ → ℕ → ℕ → Refusal
@@ -60,12 +59,12 @@ refusal_back (Overlap row) = (refl, refl)
 refusal_back Lengths = (refl, refl)
 
 written_in : List ℕ → Written
-written_in numbers = cond (eqb (get_or numbers 0 0) 0) (Count (get_or numbers 1 0)) (Unwritten (refusal_in numbers))
+written_in numbers = cond (eqb (get_or numbers 0 0) 0) (Ok (get_or numbers 1 0)) (Err (refusal_in numbers))
 
 written_back : (a : Written) → written_in (of_written a) ≡ a
 unfolding written_in
-written_back (Count n) = refl
-written_back (Unwritten refusal) = let (back, some) = refusal_back refusal in rw (some, back)
+written_back (Ok n) = refl
+written_back (Err refusal) = let (back, some) = refusal_back refusal in rw (some, back)
 
 verdict_in : List ℕ → Verdict
 verdict_in numbers = cond (eqb (get_or numbers 0 0) 0) (cond (eqb (get_or numbers 1 0) 1) True False) (Unjudged (refusal_in numbers))

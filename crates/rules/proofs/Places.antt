@@ -10,10 +10,6 @@ use lib.Dec.{leb, eqb}
 use borrow.Author.Tests.{leb-true}
 use Rattle.tables.specs.declared.Refusal.{Refusal}
 use Rattle.tables.specs.declared.Refusal.TheVariants.{ItemTable, ItemRow, LiteralTable, LiteralRow, TokenCount, Token, Grammar, Depth, Typing, Room, PlanRow as PlanFault, Record, Name}
-use Rattle.tables.specs.declared.Check.{Check}
-use Rattle.tables.specs.declared.Check.TheVariants.{Sound, Refused}
-use Rattle.tables.specs.declared.Written.{Written}
-use Rattle.tables.specs.declared.Written.TheVariants.{Count, Refused as Unwritten}
 use Rattle.tables.specs.declared.Outcome.{Outcome}
 use Rattle.tables.specs.declared.Outcome.TheVariants.{True as Holds, False as Fails, Stopped}
 use Rattle.tables.specs.declared.Stop.TheVariants.{Digits, Letters}
@@ -21,7 +17,7 @@ use Rattle.tables.specs.declared.Verdict.{Verdict}
 use Rattle.tables.specs.declared.Verdict.TheVariants.{True, False, Refused as Unjudged}
 use Rattle.tables.specs.Rows.{row_count, name_count}
 use Rattle.tables.specs.Operands.{Lent, under}
-use Rattle.tables.specs.Refusals.{place, byte_of, unless, first_failing, first_of}
+use Rattle.tables.specs.Refusals.{place, byte_of, unless, first_failing, first_of, Check}
 use Rattle.tables.specs.Tables.{length_sound, item_table_check, item_row_check, literal_table_check, literal_row_check, token_count_check, token_check, record_check}
 use Rattle.values.specs.Names.{name_check, lent_lines}
 use Rattle.tables.specs.Names.{names_length_sound}
@@ -50,13 +46,14 @@ use Rattle.rules.specs.Calls.{answers, told, tree_answer, judge_walk, judge_give
 use Rattle.rules.proofs.Passing.{both_sound, passed, read_as, few_tokens as short-passed}
 use Rattle.rules.proofs.Answers.{runs_as}
 use Rattle.rules.proofs.Stops.{Stops, stops_near}
+use Rattle.std.specs.Prelude.{Err, Ok}
 
 -- a line that is none, or one whose place is at most 640, without a byte
 abbrev Low : Check → Type 0
-Low Sound = Unit {0}
-Low (Refused refusal) = (place refusal ≤ 640) × (byte_of refusal ≡ 0)
+Low (Ok _) = Unit {0}
+Low (Err refusal) = (place refusal ≤ 640) × (byte_of refusal ≡ 0)
 
-low_unless : (test : Bool) (refusal : Refusal) → Low (Refused refusal) → Low (unless test refusal)
+low_unless : (test : Bool) (refusal : Refusal) → Low (Err refusal) → Low (unless test refusal)
 low_unless true refusal h = tt
 low_unless false refusal h = h
 
@@ -66,21 +63,21 @@ unfolding first_failing
 low_failing test refusal h at zero l = tt
 low_failing test refusal h at (suc n) l = go (test at) (low_failing test refusal h (suc at) n (omega arith))
   where
-    go : (b : Bool) → Low (first_failing test refusal (suc at) n) → Low (cond b (first_failing test refusal (suc at) n) (Refused (refusal at)))
+    go : (b : Bool) → Low (first_failing test refusal (suc at) n) → Low (cond b (first_failing test refusal (suc at) n) (Err (refusal at)))
     go true g = g
     go false g = (omega (arith, (h at).0), (h at).1)
 
 -- the first line that applies, each line looked at where those before it do not
-low_first : (line : Check) (lines : List Check) → Low line → (line ≡ Sound → Low (first_of lines)) → Low (first_of (line ∷ lines))
+low_first : (line : Check) (lines : List Check) → Low line → (line ≡ Ok tt → Low (first_of lines)) → Low (first_of (line ∷ lines))
 unfolding first_of
-low_first Sound lines h g = g refl
-low_first (Refused refusal) lines h g = h
+low_first (Ok _) lines h g = g refl
+low_first (Err refusal) lines h g = h
 
 low_last : (line : Check) → Low line → Low (first_of (line ∷ []))
 low_last line h = rw (line_last line) h
 
 -- a table has at most 64 rows
-few_of : (table : List ℕ) (refusal : Refusal) → unless (length_sound table) refusal ≡ Sound → row_count table ≤ 64
+few_of : (table : List ℕ) (refusal : Refusal) → unless (length_sound table) refusal ≡ Ok tt → row_count table ≤ 64
 few_of table refusal e =
     let l : length table ≤ 320 = leb-true _ _ (both (eqb (length table % 5) 0) (leb (length table) 320) (test_sound _ refusal e)).1 in
     omega arith
@@ -109,11 +106,11 @@ low_record lent content few = low_failing _ Record (λ k. (refl, refl)) 0 (row_c
 
 -- 7 and 8: places of the tokens, or the place after them
 low_earlier : (seven eight : Check) → Low seven → Low eight → Low (earlier seven eight)
-low_earlier Sound eight h g = g
-low_earlier (Refused seven) Sound h g = h
-low_earlier (Refused seven) (Refused eight) h g = pick (leb (place seven) (place eight))
+low_earlier (Ok _) eight h g = g
+low_earlier (Err seven) (Ok _) h g = h
+low_earlier (Err seven) (Err eight) h g = pick (leb (place seven) (place eight))
   where
-    pick : (b : Bool) → Low (cond b (Refused seven) (Refused eight))
+    pick : (b : Bool) → Low (cond b (Err seven) (Err eight))
     pick true = h
     pick false = g
 
@@ -130,7 +127,7 @@ low_depth at opened [] l = tt
 low_depth at opened (x ∷ tokens) l = pick (eqb x 262144) (eqb opened 16) (λ n. low_depth (suc at) n tokens (omega arith))
   where
     pick : (b c : Bool) → ((n : ℕ) → Low (depth_from (suc at) n tokens)) →
-        Low (cond b (cond c (Refused (Depth at)) (depth_from (suc at) (suc opened) tokens)) (depth_from (suc at) (cond (eqb x 262145) (pred opened) opened) tokens))
+        Low (cond b (cond c (Err (Depth at)) (depth_from (suc at) (suc opened) tokens)) (depth_from (suc at) (cond (eqb x 262145) (pred opened) opened) tokens))
     pick true true later = (omega arith, refl)
     pick true false later = later (suc opened)
     pick false c later = later (cond (eqb x 262145) (pred opened) opened)
@@ -146,7 +143,7 @@ low_typing lent n (chained t u) l =
 low_typing lent n (either t u) l =
     low_first (typing_from lent n t) _ (low_typing lent n t (omega arith)) (λ _. low_last _ (low_typing lent (n + simple_count t) u (omega arith)))
 
-few_tokens : (tokens : List ℕ) → token_count_check tokens ≡ Sound → length tokens ≤ 256
+few_tokens : (tokens : List ℕ) → token_count_check tokens ≡ Ok tt → length tokens ≤ 256
 few_tokens tokens e = leb-true _ _ (both (leb 1 (length tokens)) (leb (length tokens) 256) (test_sound _ TokenCount e)).1
 
 -- 1 to 9, and lines after them that are low where none of them applies
@@ -170,9 +167,9 @@ low_room : (numbers output : List ℕ) → length numbers ≤ 640 → Low (first
 low_room numbers output l = low_last _ (low_unless (leb (length numbers) (length output)) (Room (length numbers)) (l, refl))
 
 -- a count or a place of a writing call
-small_writes : (line : Check) (numbers output : List ℕ) → Low line → (line ≡ Sound → length numbers ≤ 640) → Small (writes line numbers output).answer
-small_writes Sound numbers output h g = g refl
-small_writes (Refused refusal) numbers output h g = h
+small_writes : (line : Check) (numbers output : List ℕ) → Low line → (line ≡ Ok tt → length numbers ≤ 640) → Small (writes line numbers output).answer
+small_writes (Ok _) numbers output h g = g refl
+small_writes (Err refusal) numbers output h g = h
 
 -- the numbers that a call makes of the tree of a sequence that passes, or none
 module _ (make : Tree → List ℕ) (few : (tokens : List ℕ) (t : Tree) → Derives tokens t → length tokens ≤ 256 → length (make t) ≤ 640) where
@@ -202,9 +199,9 @@ unfolding plan_gives
 plan_small = small_writing planned (λ tokens t h short. omega (arith, planned-length t, few_rows h short))
 
 -- a place of judge or run
-modest_answers : (line : Check) (w : Walk) → Low line → (line ≡ Sound → Modest w.verdict) → Modest (answers line w).verdict
-modest_answers Sound w h g = g refl
-modest_answers (Refused refusal) w h g = (h.0, omega (arith, h.1))
+modest_answers : (line : Check) (w : Walk) → Low line → (line ≡ Ok tt → Modest w.verdict) → Modest (answers line w).verdict
+modest_answers (Ok _) w h g = g refl
+modest_answers (Err refusal) w h g = (h.0, omega (arith, h.1))
 
 -- 13, 17
 modest_at : (n : ℕ) (o : Outcome) → n ≤ 640 → Stops 131072 o → Modest (at n o)
@@ -221,9 +218,9 @@ modest_when False a b h p q = q
 modest_when (Unjudged refusal) a b h p q = h
 
 -- a count of judge or run
-few_answers : (line : Check) (w : Walk) → (line ≡ Sound → length w.visits ≤ 128) → (told (answers line w)).count ≤ 128
-few_answers Sound w g = g refl
-few_answers (Refused refusal) w g = omega arith
+few_answers : (line : Check) (w : Walk) → (line ≡ Ok tt → length w.visits ≤ 128) → (told (answers line w)).count ≤ 128
+few_answers (Ok _) w g = g refl
+few_answers (Err refusal) w g = omega arith
 
 judge_few : (lent : Lent) (tokens content : List ℕ) (switches : ℕ) → (judge_gives lent tokens content switches).count ≤ 128
 unfolding judge_walk
@@ -242,7 +239,7 @@ run_few lent plan content switches =
     omega (arith, run-count (outcome lent content switches) plan, some-rows lent plan s))
 
 -- a run of a sound plan comes to its rows only
-module _ (lent : Lent) (plan : List ℕ) (s : plan_check lent plan ≡ Sound) (out : Outcomes)
+module _ (lent : Lent) (plan : List ℕ) (s : plan_check lent plan ≡ Ok tt) (out : Outcomes)
     (each : (k : ℕ) → k < plan_rows plan → Stops 131072 (out (plan_row plan k).subject (plan_row plan k).relation (plan_row plan k).object)) where
   abbrev Near : ℕ → Type 0
   Near k = (k ≤ on_true) × (k < on_false → k < plan_rows plan)
@@ -295,7 +292,7 @@ convert_small lent tokens output =
     low_room numbers output (fit numbers fits))))
     (λ e. fit numbers (lines_sound rest (both_sound (condition_lines (under true lent) tokens) rest e).1).0)
   where
-    fit : (numbers : List ℕ) → fit_check numbers ≡ Sound → length numbers ≤ 640
+    fit : (numbers : List ℕ) → fit_check numbers ≡ Ok tt → length numbers ≤ 640
     fit numbers e = omega (arith, leb-true (length numbers) 256 (test_sound _ TokenCount e))
 
 pub convert_plan_small : (lent : Lent) (plan output : List ℕ) → Small (convert_plan_gives lent plan output).answer
@@ -308,7 +305,7 @@ convert_plan_small lent plan output =
     (low_tables old rest (λ few. low_first (plan_check old plan) _ (low_plan old plan) (λ s. low_room numbers output (many s))))
     (λ e. many (lines_sound rest (both_sound (lent_lines old) rest e).1).0)
   where
-    many : plan_check (under true lent) plan ≡ Sound → length (converted_plan plan) ≤ 640
+    many : plan_check (under true lent) plan ≡ Ok tt → length (converted_plan plan) ≤ 640
     many s = omega (arith, converted_length plan, some-rows (under true lent) plan s)
 
 run_modest : (lent : Lent) (plan content : List ℕ) (switches : ℕ) → Modest (run_gives lent plan content switches).verdict

@@ -4,7 +4,6 @@ use mathlib.Core.List.{List, [], ◌∷◌, ◌++◌}
 use Prim.Native.Nat.{ℕ}
 use mathlib.Core.Bool.{true, false}
 use Rattle.tables.specs.declared.Refusal.TheVariants.{ItemRow, Record, Token, Grammar, Typing, PlanRow as PlanFault, Data, Letters, Name}
-use Rattle.tables.specs.declared.Check.TheVariants.{Sound, Refused as Unsound}
 use Rattle.tables.specs.declared.Verdict.TheVariants.{True, False, Refused}
 use Rattle.tables.specs.Operands.{Lent, under}
 use lib.IntN.{negsuc}
@@ -28,6 +27,7 @@ use Rattle.grammar.specs.Plan.{flat, plan_row, plan_row_sound, follow, run, reac
 use Rattle.grammar.specs.Converted.{only_on, converted_tokens, on_row, on_rows, rows_from, converted_plan}
 use Rattle.rules.specs.Calls.{judge_walk, judge_gives, run_walk, run_gives}
 use Rattle.rules.specs.Footprint.{items_among, footprint}
+use Rattle.std.specs.Prelude.{Err, Ok}
 
 -- four items of kind 3, one digit each: a, b, c, d are 0 to 3; of the record, c is blank
 abbrev digits : Lent
@@ -239,13 +239,13 @@ names = (refl, refl, refl, refl, refl, refl, refl, refl, refl)
 abbrev zeros : List ℕ
 zeros = 0 ∷ 0 ∷ 0 ∷ 0 ∷ 0 ∷ 0 ∷ 0 ∷ 0 ∷ 0 ∷ 0 ∷ 0 ∷ 0 ∷ []
 
-unsound : (name_check (named (0 ∷ 1 ∷ [])) ≡ Unsound (Name 0))
-    × (name_check (named (pairs ++ 0 ∷ 1 ∷ 1 ∷ 0 ∷ 0 ∷ 0 ∷ zeros)) ≡ Unsound (Name 2))
-    × (name_check (named (pairs ++ 0 ∷ 0 ∷ 0 ∷ 0 ∷ 0 ∷ 0 ∷ zeros)) ≡ Unsound (Name 2))
-    × (name_check (named (pairs ++ 0 ∷ 1 ∷ 2 ∷ 3 ∷ 0 ∷ 0 ∷ zeros)) ≡ Unsound (Name 2))
-    × (name_check (named (pairs ++ 0 ∷ 1 ∷ 0 ∷ 1 ∷ 1 ∷ 0 ∷ zeros)) ≡ Unsound (Name 2))
-    × (name_check (named (pairs ++ 1 ∷ 1 ∷ 0 ∷ 1 ∷ 0 ∷ 0 ∷ zeros)) ≡ Unsound (Name 2))
-    × (name_check (named (pairs ++ 0 ∷ 1 ∷ 3 ∷ 3 ∷ 0 ∷ 0 ∷ zeros)) ≡ Sound)
+unsound : (name_check (named (0 ∷ 1 ∷ [])) ≡ Err (Name 0))
+    × (name_check (named (pairs ++ 0 ∷ 1 ∷ 1 ∷ 0 ∷ 0 ∷ 0 ∷ zeros)) ≡ Err (Name 2))
+    × (name_check (named (pairs ++ 0 ∷ 0 ∷ 0 ∷ 0 ∷ 0 ∷ 0 ∷ zeros)) ≡ Err (Name 2))
+    × (name_check (named (pairs ++ 0 ∷ 1 ∷ 2 ∷ 3 ∷ 0 ∷ 0 ∷ zeros)) ≡ Err (Name 2))
+    × (name_check (named (pairs ++ 0 ∷ 1 ∷ 0 ∷ 1 ∷ 1 ∷ 0 ∷ zeros)) ≡ Err (Name 2))
+    × (name_check (named (pairs ++ 1 ∷ 1 ∷ 0 ∷ 1 ∷ 0 ∷ 0 ∷ zeros)) ≡ Err (Name 2))
+    × (name_check (named (pairs ++ 0 ∷ 1 ∷ 3 ∷ 3 ∷ 0 ∷ 0 ∷ zeros)) ≡ Ok tt)
 unfolding all number_from first_failing first_of every some byte_order comparison
 unsound = (refl, refl, refl, refl, refl, refl, refl)
 
@@ -279,6 +279,6 @@ packed value =
 
 amount_names : (judge_gives (packed 0) (327680 ∷ []) (0x00 ∷ 0x53 ∷ []) 0 ≡ record { verdict = True; count = 1 })
     × (judge_gives (packed 0) (327680 ∷ []) (0x00 ∷ 0x55 ∷ []) 0 ≡ record { verdict = Refused (Data 0 1); count = 1 })
-    × (name_check (packed 1) ≡ Unsound (Name 0))
+    × (name_check (packed 1) ≡ Err (Name 0))
 unfolding all number_from packed_from first_from valid_content first_failing first_of every some typed byte_order comparison class_holds switch_holds outcome class on parse_condition read depth_from typing_from simple_count when at judged visited judge_walk
 amount_names = (refl, refl, refl)

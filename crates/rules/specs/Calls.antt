@@ -1,14 +1,10 @@
 -- Document 01, "What each call may say": the whole answer of expand, plan, judge and run, for every input.
-use Rattle.std.specs.Prelude.{◌≡◌, cond, List, [], ◌∷◌, ◌++◌, ℕ, length, drop, leb}
+use Rattle.std.specs.Prelude.{◌≡◌, cond, List, [], ◌∷◌, ◌++◌, ℕ, length, drop, leb, Err, Ok}
 use Rattle.tables.specs.declared.Refusal.TheVariants.{Grammar, Room}
-use Rattle.tables.specs.declared.Check.{Check}
-use Rattle.tables.specs.declared.Check.TheVariants.{Sound, Refused}
-use Rattle.tables.specs.declared.Written.{Written}
-use Rattle.tables.specs.declared.Written.TheVariants.{Count, Refused as Unwritten}
 use Rattle.tables.specs.declared.Judged.{Judged}
 use Rattle.tables.specs.declared.Verdict.TheVariants.{Refused as Unjudged}
 use Rattle.tables.specs.Operands.{Lent}
-use Rattle.tables.specs.Refusals.{place, unless, first_of}
+use Rattle.tables.specs.Refusals.{place, unless, first_of, Check, Written}
 use Rattle.tables.specs.Tables.{token_count_check, token_check, record_check}
 use Rattle.values.specs.Names.{lent_lines}
 use Rattle.values.specs.Truth.{outcome}
@@ -22,19 +18,19 @@ use Rattle.grammar.specs.Plan.{planned, plan_check, running}
 
 -- 7: "the grammar derives no such sequence"
 abbrev pub grammar_check : Reading → Check
-grammar_check (accepted t) = Sound
-grammar_check (refused at) = Refused (Grammar at)
+grammar_check (accepted t) = Ok tt
+grammar_check (refused at) = Err (Grammar at)
 
 -- "of 7 and 8 the smaller place wins, and 7 on a tie": 7 is the first argument, 8 the second
 abbrev pub earlier : Check → Check → Check
-earlier Sound eight = eight
-earlier (Refused seven) Sound = Refused seven
-earlier (Refused seven) (Refused eight) = cond (leb (place seven) (place eight)) (Refused seven) (Refused eight)
+earlier (Ok _) eight = eight
+earlier (Err seven) (Ok _) = Err seven
+earlier (Err seven) (Err eight) = cond (leb (place seven) (place eight)) (Err seven) (Err eight)
 
 -- 9: "typing broken", of a sequence that has a tree
 abbrev pub typing_check : Lent → Reading → Check
 typing_check lent (accepted t) = typing_from lent 0 t
-typing_check lent (refused at) = Sound
+typing_check lent (refused at) = Ok tt
 
 -- 1 to 6, in the order of their numbers, 18 "just after 4" (02, h)
 abbrev pub token_lines : Lent → List ℕ → List Check
@@ -68,12 +64,12 @@ pub record Leaves (gives : Gives) (answer : Written) (output : List ℕ) : Type 
 
 -- "Success: expand and plan give the count of numbers written from the start of the output, the rest of it unchanged"
 abbrev pub written_over : List ℕ → List ℕ → Gives
-written_over numbers output = record { answer = Count (length numbers); output = numbers ++ drop (length numbers) output }
+written_over numbers output = record { answer = Ok (length numbers); output = numbers ++ drop (length numbers) output }
 
 -- and "A refusal gives a number and a place, counted from 0, and changes nothing."
 abbrev pub writes : Check → List ℕ → List ℕ → Gives
-writes (Refused refusal) numbers output = record { answer = Unwritten refusal; output = output }
-writes Sound numbers output = written_over numbers output
+writes (Err refusal) numbers output = record { answer = Err refusal; output = output }
+writes (Ok _) numbers output = written_over numbers output
 
 -- the numbers made of a sequence's tree; a sequence without one is refused with 7
 abbrev pub numbers_of : (Tree → List ℕ) → Reading → List ℕ
@@ -94,8 +90,8 @@ plan_gives = writing planned
 
 -- a walk, after the lines that refuse: where one does, nothing was judged
 abbrev pub answers : Check → Walk → Walk
-answers (Refused refusal) w = walk (Unjudged refusal) []
-answers Sound w = w
+answers (Err refusal) w = walk (Unjudged refusal) []
+answers (Ok _) w = w
 
 -- "Judge and run also report how many simple conditions were judged, a refused one counted, 0 if refused earlier."
 abbrev pub told : Walk → Judged

@@ -1,6 +1,5 @@
 -- Document 01, "Sixteen cases to prove together": one table, and what it is for a case to hold (proofs/Cases.antt proves all).
-use Rattle.std.specs.Prelude.{◌≡◌, List, [], ◌∷◌, ◌++◌, ℕ, ◌+◌, length, take, drop, replicate, ℤ, negsuc, false}
-use Rattle.tables.specs.declared.Written.TheVariants.{Count, Refused as Unwritten}
+use Rattle.std.specs.Prelude.{◌≡◌, List, [], ◌∷◌, ◌++◌, ℕ, ◌+◌, length, take, drop, replicate, ℤ, negsuc, false, Err, Ok}
 use Rattle.tables.specs.declared.Verdict.{Verdict}
 use Rattle.tables.specs.declared.Judged.{Judged}
 use Rattle.tables.specs.declared.Verdict.TheVariants.{True, False}
@@ -30,7 +29,7 @@ lent_output = replicate 24 7
 
 -- the plan that the rules write for a case's condition
 abbrev pub plan_of : Gives → List ℕ
-plan_of gives = elim gives.answer [ Count n ↦ take n gives.output | Unwritten refusal ↦ [] ]
+plan_of gives = elim gives.answer [ Ok n ↦ take n gives.output | Err refusal ↦ [] ]
 
 module _ (lent : Lent) (tokens : List ℕ) where
   abbrev pub runs : List ℕ → Judged

@@ -1,11 +1,9 @@
 -- Document 02, l): "Switch-off words go." The two converters, and what is promised of them. `under true` is the old rules, which have
 -- switch-off words; `under false` the new ones.
-use Rattle.std.specs.Prelude.{◌≡◌, true, false, List, [], ◌∷◌, ◌++◌, ℕ, length, take, leb}
-use Rattle.tables.specs.declared.Check.{Check}
+use Rattle.std.specs.Prelude.{◌≡◌, true, false, List, [], ◌∷◌, ◌++◌, ℕ, length, take, leb, Ok}
 use Rattle.tables.specs.declared.Refusal.TheVariants.{TokenCount}
-use Rattle.tables.specs.declared.Written.TheVariants.{Count}
 use Rattle.tables.specs.Operands.{Lent, under}
-use Rattle.tables.specs.Refusals.{unless, first_of}
+use Rattle.tables.specs.Refusals.{unless, first_of, Check}
 use Rattle.values.specs.Names.{lent_lines}
 use Rattle.tables.specs.Tokens.{is_off, token_there}
 use Rattle.tables.specs.Rows.{row_count, name_count}
@@ -56,11 +54,11 @@ pub record Converted (lent : Lent) (tokens new : List ℕ) : Type 0 where
       (judge_walk (under false lent) new content switches).visits ≡ on_visits (judge_walk (under true lent) tokens content switches).visits
   -- "where the condition converts, both ways give one plan": the plan of the new condition, with every output, is what the converter of
   -- plans gives of the plan that the old rules wrote
-  pub one_plan : (output : List ℕ) (m : ℕ) → (plan_gives (under true lent) tokens output).answer ≡ Count m → (other : List ℕ) →
+  pub one_plan : (output : List ℕ) (m : ℕ) → (plan_gives (under true lent) tokens output).answer ≡ Ok m → (other : List ℕ) →
       plan_gives (under false lent) new other ≡ convert_plan_gives lent (take m (plan_gives (under true lent) tokens output).output) other
 
 abbrev pub ConditionsConvert : Type 0
-ConditionsConvert = (lent : Lent) (tokens output : List ℕ) (n : ℕ) → (convert_gives lent tokens output).answer ≡ Count n →
+ConditionsConvert = (lent : Lent) (tokens output : List ℕ) (n : ℕ) → (convert_gives lent tokens output).answer ≡ Ok n →
     Converted lent tokens (take n (convert_gives lent tokens output).output)
 
 -- Of a plan that is converted, with the numbers that the converter counted: run gives the same, on every record and switch byte.
@@ -71,5 +69,5 @@ pub record ConvertedRun (lent : Lent) (plan new : List ℕ) : Type 0 where
       (run_walk (under false lent) new content switches).visits ≡ on_visits (run_walk (under true lent) plan content switches).visits
 
 abbrev pub PlansConvert : Type 0
-PlansConvert = (lent : Lent) (plan output : List ℕ) (n : ℕ) → (convert_plan_gives lent plan output).answer ≡ Count n →
+PlansConvert = (lent : Lent) (plan output : List ℕ) (n : ℕ) → (convert_plan_gives lent plan output).answer ≡ Ok n →
     ConvertedRun lent plan (take n (convert_plan_gives lent plan output).output)

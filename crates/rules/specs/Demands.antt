@@ -1,16 +1,13 @@
 -- Document 01, "How strong a promise is": demands 2 and 3, over the definitions that the calls' contracts cite. Their proofs are
 -- in proofs/Demands.antt. Document 02, l): "demand 3 speaks of plans written from then on": the calls' `Lent` has no switch-off words.
-use Rattle.std.specs.Prelude.{◌≡◌, true, List, ◌++◌, ℕ, ◌≤◌, ◌<◌, length, take, drop}
+use Rattle.std.specs.Prelude.{◌≡◌, true, List, ◌++◌, ℕ, ◌≤◌, ◌<◌, length, take, drop, Err, Ok}
 use Rattle.tables.specs.declared.Refusal.{Refusal}
 use Rattle.tables.specs.declared.Refusal.TheVariants.{Grammar}
-use Rattle.tables.specs.declared.Check.TheVariants.{Sound, Refused as Unsound}
-use Rattle.tables.specs.declared.Written.{Written}
-use Rattle.tables.specs.declared.Written.TheVariants.{Count, Refused as Unwritten}
 use Rattle.tables.specs.declared.Verdict.{Verdict}
 use Rattle.tables.specs.declared.Judged.{Judged}
 use Rattle.tables.specs.declared.Verdict.TheVariants.{True, False, Refused}
 use Rattle.tables.specs.Operands.{Lent}
-use Rattle.tables.specs.Refusals.{number, place, first_of}
+use Rattle.tables.specs.Refusals.{number, place, first_of, Written}
 use Rattle.tables.specs.Tables.{record_check}
 use Rattle.typing.specs.Typing.{typed}
 use Rattle.values.specs.Truth.{outcome}
@@ -45,8 +42,8 @@ rules_answer lent content switches t = told (rules_walk lent content switches t)
 
 -- an answer that is none of the refusals 1 to 9
 abbrev pub Writes : Written → Type 0
-Writes (Count n) = Unit {0}
-Writes (Unwritten refusal) = 9 < number refusal
+Writes (Ok n) = Unit {0}
+Writes (Err refusal) = 9 < number refusal
 
 abbrev pub Judges : Verdict → Type 0
 Judges True = Unit {0}
@@ -55,8 +52,8 @@ Judges (Refused refusal) = 9 < number refusal
 
 -- expand, plan and judge give this refusal
 pub record Refuses (lent : Lent) (tokens : List ℕ) (refusal : Refusal) : Type 0 where
-  pub expand : (output : List ℕ) → expand_gives lent tokens output ≡ record { answer = Unwritten refusal; output = output }
-  pub plan : (output : List ℕ) → plan_gives lent tokens output ≡ record { answer = Unwritten refusal; output = output }
+  pub expand : (output : List ℕ) → expand_gives lent tokens output ≡ record { answer = Err refusal; output = output }
+  pub plan : (output : List ℕ) → plan_gives lent tokens output ≡ record { answer = Err refusal; output = output }
   pub judge : (content : List ℕ) (switches : ℕ) → judge_gives lent tokens content switches ≡ record { verdict = Refused refusal; count = 0 }
 
 -- Refusals 7 and 8 by what is derived, of every sequence of tokens, however deep: 7 where "the grammar derives no such sequence", at the
@@ -64,13 +61,13 @@ pub record Refuses (lent : Lent) (tokens : List ℕ) (refusal : Refusal) : Type 
 pub record SevenAndEight (lent : Lent) (tokens : List ℕ) : Type 0 where
   pub derived : (t : Tree) → Derives tokens t → grammar_line tokens ≡ depth_check tokens
   pub seven_first : ((t : Tree) → ¬ Derives tokens t) → (at : ℕ) → Place tokens at →
-      ((eight : Refusal) → depth_check tokens ≡ Unsound eight → at ≤ place eight) → grammar_line tokens ≡ Unsound (Grammar at)
+      ((eight : Refusal) → depth_check tokens ≡ Err eight → at ≤ place eight) → grammar_line tokens ≡ Err (Grammar at)
   pub eight_first : ((t : Tree) → ¬ Derives tokens t) → (at : ℕ) → Place tokens at →
-      (eight : Refusal) → depth_check tokens ≡ Unsound eight → place eight < at → grammar_line tokens ≡ Unsound eight
+      (eight : Refusal) → depth_check tokens ≡ Err eight → place eight < at → grammar_line tokens ≡ Err eight
   -- 7, where it is given, is so placed
-  pub placed : (at : ℕ) → grammar_line tokens ≡ Unsound (Grammar at) → ((t : Tree) → ¬ Derives tokens t) × Place tokens at
+  pub placed : (at : ℕ) → grammar_line tokens ≡ Err (Grammar at) → ((t : Tree) → ¬ Derives tokens t) × Place tokens at
   -- and where 1 to 6 do not refuse, every call gives the one or the other
-  pub given : first_of (token_lines lent tokens) ≡ Sound → (refusal : Refusal) → grammar_line tokens ≡ Unsound refusal → Refuses lent tokens refusal
+  pub given : first_of (token_lines lent tokens) ≡ Ok tt → (refusal : Refusal) → grammar_line tokens ≡ Err refusal → Refuses lent tokens refusal
 
 abbrev pub SevenAndEightGiven : Type 0
 SevenAndEightGiven = (lent : Lent) (tokens : List ℕ) → SevenAndEight lent tokens
@@ -90,10 +87,10 @@ pub record Demand2 (lent : Lent) (tokens : List ℕ) : Type 0 where
   pub plan_only : (output : List ℕ) → Writes (plan_gives lent tokens output).answer → (t : Tree) × Accepted lent tokens t
   pub judge_only : (content : List ℕ) (switches : ℕ) → Judges (judge_gives lent tokens content switches).verdict → (t : Tree) × Accepted lent tokens t
   pub underived : ((t : Tree) → ¬ Derives tokens t) → (at : ℕ) → Place tokens at → Refuses lent tokens (Grammar at)
-  pub ill_typed : (t : Tree) → Derives tokens t → (refusal : Refusal) → typing_from lent 0 t ≡ Unsound refusal → Refuses lent tokens refusal
+  pub ill_typed : (t : Tree) → Derives tokens t → (refusal : Refusal) → typing_from lent 0 t ≡ Err refusal → Refuses lent tokens refusal
 
 abbrev pub DemandTwo : Type 0
-DemandTwo = (lent : Lent) (tokens : List ℕ) → first_of (token_lines lent tokens) ≡ Sound → depth_check tokens ≡ Sound → Demand2 lent tokens
+DemandTwo = (lent : Lent) (tokens : List ℕ) → first_of (token_lines lent tokens) ≡ Ok tt → depth_check tokens ≡ Ok tt → Demand2 lent tokens
 
 -- Demand 3, of a condition for which a plan is written, with the numbers that plan counted.
 pub record Demand3 (lent : Lent) (tokens plan : List ℕ) (n : ℕ) : Type 0 where
@@ -121,5 +118,5 @@ pub record Demand3 (lent : Lent) (tokens plan : List ℕ) (n : ℕ) : Type 0 whe
 
 -- "A plan is written where plan succeeds .. run gets exactly the numbers that plan counted"
 abbrev pub DemandThree : Type 0
-DemandThree = (lent : Lent) (tokens output : List ℕ) (n : ℕ) → (plan_gives lent tokens output).answer ≡ Count n →
+DemandThree = (lent : Lent) (tokens output : List ℕ) (n : ℕ) → (plan_gives lent tokens output).answer ≡ Ok n →
     Demand3 lent tokens (take n (plan_gives lent tokens output).output) n

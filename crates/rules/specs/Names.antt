@@ -1,6 +1,5 @@
 -- Document 02, h): what a condition-name means. It is judged as the relations that it stands for would be.
-use Rattle.std.specs.Prelude.{◌≡◌, ℕ, zero, suc, ◌+◌, ◌-◌, ◌<◌, List}
-use Rattle.tables.specs.declared.Check.TheVariants.{Sound}
+use Rattle.std.specs.Prelude.{◌≡◌, ℕ, zero, suc, ◌+◌, ◌-◌, ◌<◌, List, Ok}
 use Rattle.tables.specs.Rows.{name_count}
 use Rattle.tables.specs.Operands.{Lent}
 use Rattle.tables.specs.Names.{name_item, name_pairs, name_low, name_high}
@@ -33,4 +32,4 @@ pub record Means (lent : Lent) (v : ℕ) : Type 0 where
 
 -- of every name, in tables that none of 1 to 4 and 18 refuses
 abbrev pub NamesMean : Type 0
-NamesMean = (lent : Lent) → first_of (lent_lines lent) ≡ Sound → (v : ℕ) → v < name_count lent.names → Means lent v
+NamesMean = (lent : Lent) → first_of (lent_lines lent) ≡ Ok tt → (v : ℕ) → v < name_count lent.names → Means lent v

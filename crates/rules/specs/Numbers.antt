@@ -1,12 +1,10 @@
 -- Document 01, "What to write where": "Where an answer is an enum, a definition provides this paper's number and values for each case,
 -- and the promises use that definition." Expand, plan, judge and run promise their answers in these numbers too.
-use Rattle.std.specs.Prelude.{◌≡◌, List, [], ◌∷◌, ℕ}
+use Rattle.std.specs.Prelude.{◌≡◌, List, [], ◌∷◌, ℕ, Err, Ok}
 use Rattle.tables.specs.declared.Refusal.{Refusal}
-use Rattle.tables.specs.declared.Written.{Written}
-use Rattle.tables.specs.declared.Written.TheVariants.{Count, Refused as Unwritten}
 use Rattle.tables.specs.declared.Verdict.{Verdict}
 use Rattle.tables.specs.declared.Verdict.TheVariants.{True, False, Refused as Unjudged}
-use Rattle.tables.specs.Refusals.{number, values}
+use Rattle.tables.specs.Refusals.{number, values, Written}
 
 -- "A refusal gives a number and a place", and (02, c, g) 13 and 17 a byte
 abbrev pub of_refusal : Refusal → List ℕ
@@ -14,8 +12,8 @@ of_refusal refusal = number refusal ∷ values refusal
 
 -- "Success: expand and plan give the count of numbers written". 0, which is no refusal's number, stands before what success gives.
 abbrev pub of_written : Written → List ℕ
-of_written (Count n) = 0 ∷ n ∷ []
-of_written (Unwritten refusal) = of_refusal refusal
+of_written (Ok n) = 0 ∷ n ∷ []
+of_written (Err refusal) = of_refusal refusal
 
 -- "judge and run give true or false"
 abbrev pub of_verdict : Verdict → List ℕ

@@ -6,7 +6,7 @@ ghost use Rattle.show.specs.Shown.{Shows};
 
 use conditions::calls::run;
 use forms::calls::{expand, plan};
-use tables::{Judged, Refusal, Written};
+use tables::{Judged, Refusal};
 
 // What plan, run, expand and plan again gave.
 #[derive(Clone, Copy)]
@@ -15,8 +15,8 @@ pub enum Shown {
     Calls {
         count: usize,
         judged: Judged,
-        expanded: Written,
-        again: Written,
+        expanded: Result<usize, Refusal>,
+        again: Result<usize, Refusal>,
     },
 }
 
@@ -36,8 +36,8 @@ pub fn show<'a>(
 {
     let planned = plan(items, literals, bytes, names, tokens, rows);
     match planned {
-        Written::Refused(refusal) => Shown::Refused(refusal),
-        Written::Count(count) => {
+        Err(refusal) => Shown::Refused(refusal),
+        Ok(count) => {
             let judged = run(
                 items,
                 literals,
@@ -49,13 +49,13 @@ pub fn show<'a>(
             );
             let expanded = expand(items, literals, bytes, names, tokens, form);
             match expanded {
-                Written::Refused(refusal) => Shown::Calls {
+                Err(refusal) => Shown::Calls {
                     count,
                     judged,
                     expanded,
-                    again: Written::Refused(refusal),
+                    again: Err(refusal),
                 },
-                Written::Count(length) => Shown::Calls {
+                Ok(length) => Shown::Calls {
                     count,
                     judged,
                     expanded,

@@ -14,7 +14,6 @@ use Rattle.content.specs.WrongByte.{valid_content}
 use Rattle.content.specs.declared.Row.{Row}
 use Rattle.tables.specs.declared.Refusal.{Refusal}
 use Rattle.tables.specs.declared.Refusal.TheVariants.{LiteralRow}
-use Rattle.tables.specs.declared.Check.TheVariants.{Sound}
 use Rattle.tables.specs.Tokens.{is_literal}
 use Rattle.tables.proofs.Bytes.{row_facts, numeric-kinds}
 use Rattle.tables.specs.Rows.{row_count, is_group, row_at, row_sound, group_sound, character_sound, is_numeric, digits_sound, part, lies_in}
@@ -27,6 +26,7 @@ use Rattle.spelling.specs.Keywords.{Piece, token, literal, fault}
 use Rattle.spelling.specs.Reading.{Found, none, tokens_from, rows_from, bytes_of, literals_before, tokens_of}
 use Rattle.spelling.specs.Printing.{printable, has_name, first_token, print_fault}
 use Rattle.spelling.proofs.Laying.{Clean, Fine, AllFine, AllFit, all_fit, of_literal_kind}
+use Rattle.std.specs.Prelude.{Ok}
 
 -- how many literals
 abbrev pub literals : List Piece → ℕ
@@ -150,8 +150,8 @@ small_size l e k =
         by (yes h) m = omega (arith, (row_facts r e).plain m.0 h)
         by (no h) m = omega (arith, (row_facts r e).apart (omega arith) m.1)
 
-next_sound : (test : ℕ → Bool) (refusal : ℕ → Refusal) (n k : ℕ) → test n ≡ true → first_failing test refusal (suc n) k ≡ Sound
-    → first_failing test refusal n (suc k) ≡ Sound
+next_sound : (test : ℕ → Bool) (refusal : ℕ → Refusal) (n k : ℕ) → test n ≡ true → first_failing test refusal (suc n) k ≡ Ok tt
+    → first_failing test refusal n (suc k) ≡ Ok tt
 unfolding first_failing
 next_sound test refusal n k e rest = rw e rest
 
@@ -162,7 +162,7 @@ pub rows_sound : (n : ℕ) (ps : List Piece) → Clean n ps → AllFit ps → (p
     LiteralRow
     n
     (literals ps)
-    ≡ Sound
+    ≡ Ok tt
 unfolding first_failing rows_from bytes_of
 rows_sound n [] c f pre preb e h = refl
 rows_sound n (token t ∷ ps) c f pre preb e h = rows_sound n ps c f pre preb e h
@@ -263,7 +263,7 @@ module _ {b : Book} (K : Kept b) (ps : List Piece) (c : Clean (literals_before b
   pub sound_table : length_sound rows ≡ true
   sound_table = rw whole_rows (table_sound 0 whole whole_clean)
 
-  pub sound_rows : first_failing (λ v. literal_sound content (row_at rows v)) LiteralRow 0 (row_count rows) ≡ Sound
+  pub sound_rows : first_failing (λ v. literal_sound content (row_at rows v)) LiteralRow 0 (row_count rows) ≡ Ok tt
   sound_rows =
       rw (whole_count, whole_rows, whole_bytes)
       (rows_sound 0 whole whole_clean (fit_append K.own ps K.own_fit (all_fit b.known ps f)) [] [] refl (omega arith))

@@ -6,7 +6,6 @@ use Prim.Native.Nat.{ℕ, zero, suc, ◌+◌, ◌≤◌}
 use native.Mathlib.Omega.{arith}
 use lib.ListN.{length, get_or, length-append}
 use lib.Seq.{get_or-append_seam}
-use Rattle.tables.specs.declared.Check.TheVariants.{Sound}
 use Rattle.tables.specs.declared.Refusal.TheVariants.{Token}
 use Rattle.tables.specs.Tokens.{token_there}
 use Rattle.tables.specs.Rows.{row_count, name_count}
@@ -24,10 +23,11 @@ use Rattle.spelling.proofs.Laying.{Clean, AllFine, clean}
 use Rattle.spelling.proofs.Accepted.{Kept, sound_table, sound_rows, sound_tokens}
 use Rattle.spelling.proofs.Describing.{items-length, conditions_length, book_kept}
 use Rattle.spelling.proofs.RoundTrip.{all_fine, no_fault, was_read}
+use Rattle.std.specs.Prelude.{Ok}
 
 -- where no token fails a test, none fails a weaker one
 passes : (test weak : ℕ → Bool) → ((t : ℕ) → test t ≡ true → weak t ≡ true) → (number at : ℕ) (pre ts : List ℕ)
-    → first_token test number at ts ≡ none → first_failing (λ i. weak (get_or (pre ++ ts) i 0)) Token (length pre) (length ts) ≡ Sound
+    → first_token test number at ts ≡ none → first_failing (λ i. weak (get_or (pre ++ ts) i 0)) Token (length pre) (length ts) ≡ Ok tt
 unfolding first_token first_failing
 passes test weak w number at pre [] e = refl
 passes test weak w number at pre (t ∷ ts) e = by (test t) refl e (passes test weak w number (suc at) (pre ++ t ∷ []) ts)
@@ -40,8 +40,8 @@ passes test weak w number at pre (t ∷ ts) e = by (test t) refl e (passes test 
 
     by : (b : Bool) → test t ≡ b → cond b (first_token test number (suc at) ts) (refusal number at) ≡ none
         → (first_token test number (suc at) ts ≡ none
-        → first_failing (λ i. weak (get_or ((pre ++ t ∷ []) ++ ts) i 0)) Token (length (pre ++ t ∷ [])) (length ts) ≡ Sound)
-        → first_failing (λ i. weak (get_or (pre ++ t ∷ ts) i 0)) Token (length pre) (suc (length ts)) ≡ Sound
+        → first_failing (λ i. weak (get_or ((pre ++ t ∷ []) ++ ts) i 0)) Token (length (pre ++ t ∷ [])) (length ts) ≡ Ok tt)
+        → first_failing (λ i. weak (get_or (pre ++ t ∷ ts) i 0)) Token (length pre) (suc (length ts)) ≡ Ok tt
     by true h e rec = rw (here, w t h) (rw (append_assoc pre (t ∷ []) ts, long) at (rec e))
     by false h e rec = let z : ◌≡◌ {A = ℕ} 0 1 = cc in absurd (omega arith)
 

@@ -1,11 +1,9 @@
 -- Document 02, e): tokens written back, "one space between words, relations as symbols".
-use Rattle.std.specs.Prelude.{Bool, true, false, cond, not, ◌&&◌, List, [], ◌∷◌, ◌++◌, map, ℕ, suc, length, get_or, eqb}
-use Rattle.tables.specs.declared.Check.{Check}
-use Rattle.tables.specs.declared.Check.TheVariants.{Sound, Refused}
+use Rattle.std.specs.Prelude.{Bool, true, false, cond, not, ◌&&◌, List, [], ◌∷◌, ◌++◌, map, ℕ, suc, length, get_or, eqb, Err, Ok}
 use Rattle.tables.specs.Tokens.{index_of, is_item, is_literal, is_on, is_name, token_there}
 use Rattle.tables.specs.Rows.{row_count, row_at, part}
 use Rattle.tables.specs.Operands.{lend}
-use Rattle.tables.specs.Refusals.{number, place}
+use Rattle.tables.specs.Refusals.{number, place, Check}
 use Rattle.tables.specs.Tables.{literal_table_check, literal_row_check, token_count_check}
 use Rattle.description.specs.Grammar.{bytes, same}
 use Rattle.description.specs.Limits.{Outcome, table, refusal as faulty, describe}
@@ -41,8 +39,8 @@ printed known rows content tokens = line (map (word_of known rows content) token
 
 -- what a line of document 01's table comes to
 abbrev pub found : Check → Found
-found Sound = none
-found (Refused r) = refusal (number r) (place r)
+found (Ok _) = none
+found (Err r) = refusal (number r) (place r)
 
 -- the first token that fails a test
 unfoldable pub first_token : (ℕ → Bool) → ℕ → ℕ → List ℕ → Found

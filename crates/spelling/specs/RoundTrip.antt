@@ -1,6 +1,5 @@
 -- Document 02, e) and h): what holds of every reading.
-use Rattle.std.specs.Prelude.{◌≡◌, List, ℕ, ◌≤◌, length}
-use Rattle.tables.specs.declared.Check.TheVariants.{Sound}
+use Rattle.std.specs.Prelude.{◌≡◌, List, ℕ, ◌≤◌, length, Ok}
 use Rattle.tables.specs.Rows.{row_count, name_count}
 use Rattle.tables.specs.Operands.{lend_names}
 use Rattle.tables.specs.Tables.{literal_table_check, literal_row_check, token_count_check, token_check}
@@ -25,10 +24,10 @@ RoundTrip =
 -- "Only words are judged here; their order stays with 7": with an item table and a name table of the description's rows, refusals 3 to 6
 -- are ruled out.
 pub record TakenOn (items tokens rows bytes names : List ℕ) : Type 0 where
-  pub table_sound : literal_table_check (lend_names items rows bytes names) ≡ Sound
-  pub rows_sound : literal_row_check (lend_names items rows bytes names) ≡ Sound
-  pub count_sound : token_count_check tokens ≡ Sound
-  pub tokens_sound : token_check (lend_names items rows bytes names) tokens ≡ Sound
+  pub table_sound : literal_table_check (lend_names items rows bytes names) ≡ Ok tt
+  pub rows_sound : literal_row_check (lend_names items rows bytes names) ≡ Ok tt
+  pub count_sound : token_count_check tokens ≡ Ok tt
+  pub tokens_sound : token_check (lend_names items rows bytes names) tokens ≡ Ok tt
 
 abbrev pub TakenBy : Type 0
 TakenBy =

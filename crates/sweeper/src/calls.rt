@@ -10,19 +10,22 @@ use plan_checks::check_plan;
 use preparer::lent::check_lent;
 use sweeps::Swept;
 use sweeps::parts::{WIDTH, part_records, sweep_part};
-use tables::{Check, Refusal};
+use tables::Refusal;
 
 // As many records as an answer of C can count numbers for.
 const MOST: usize = 1073741823;
 
 // 1 to 4, 18 and 11.
-fn check_rules(items: &[u32], literals: &[u32], bytes: &[u8], names: &[u32], plan: &[u32]) -> Check
+fn check_rules(
+    items: &[u32],
+    literals: &[u32],
+    bytes: &[u8],
+    names: &[u32],
+    plan: &[u32],
+) -> Result<(), Refusal>
     ensures { result ≡ first_of (rule_lines (lend_names items.now literals.now bytes.now names.now) plan.now) }
 {
-    let lent = check_lent(items, literals, bytes, names);
-    if let Check::Refused(refusal) = lent {
-        return Check::Refused(refusal);
-    }
+    check_lent(items, literals, bytes, names)?;
     check_plan(false, items, literals, names, plan)
 }
 
@@ -90,7 +93,7 @@ pub fn sweep<'a>(
     ensures { Leaves (sweep_gives (lend_names items.now literals.now bytes.now names.now) plan.now records.now size switches answers.old) result answers.new }
 {
     let rules = check_rules(items, literals, bytes, names, plan);
-    if let Check::Refused(refusal) = rules {
+    if let Err(refusal) = rules {
         return Swept::Refused(refusal);
     }
     if !is_even(size, records.len()) {
@@ -100,7 +103,7 @@ pub fn sweep<'a>(
         return Swept::Count(0);
     }
     let held = check_record(items, &records[..size]);
-    if let Check::Refused(refusal) = held {
+    if let Err(refusal) = held {
         return Swept::Refused(refusal);
     }
     let count = records.len() / size * WIDTH;

@@ -9,7 +9,6 @@ use lib.ListN.{length, take, drop}
 use lib.Seq.{sets, sets-eq, length-sets}
 use lib.Dec.{eqb, leb}
 use borrow.Author.Tests.{eqb-true, leb-true, le-leb}
-use Rattle.tables.specs.declared.Check.TheVariants.{Sound}
 use Rattle.tables.specs.declared.Judged.{Judged}
 use Rattle.tables.specs.Rows.{row_count}
 use Rattle.tables.specs.Operands.{Lent}

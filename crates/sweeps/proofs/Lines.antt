@@ -11,11 +11,9 @@ use lib.Dec.{eqb, leb}
 use borrow.Author.Tests.{le-leb, lt-leb, eq-eqb, ne_eqb}
 use Rattle.tables.specs.declared.Refusal.{Refusal}
 use Rattle.tables.specs.declared.Refusal.TheVariants.{Room}
-use Rattle.tables.specs.declared.Check.{Check}
-use Rattle.tables.specs.declared.Check.TheVariants.{Sound, Refused}
 use Rattle.tables.specs.declared.Judged.{Judged}
 use Rattle.tables.specs.Operands.{Lent, lend_names}
-use Rattle.tables.specs.Refusals.{first_of}
+use Rattle.tables.specs.Refusals.{first_of, Check}
 use Rattle.tables.specs.Tables.{record_check}
 use Rattle.tables.proofs.Lines.{lines_before, line_sound, line_refused, line_last}
 use Rattle.values.specs.Names.{lent_lines}
@@ -30,27 +28,28 @@ use Rattle.sweeps.specs.declared.Swept.TheVariants.{Count, Uneven, Refused as Un
 use Rattle.sweeps.specs.Sweep.{records_of, swept_numbers, evenly, rule_lines, size_check, sweep_by, sweep_gives, Leaves, Sweepable}
 use Rattle.sweeps.proofs.Laying.{four_each}
 use Rattle.sweeps.proofs.Going.{filled, as_long}
+use Rattle.std.specs.Prelude.{Err, Ok}
 
 -- 1 to 4 and 18, and then 11
-pub rules_refused : (lent : Lent) (plan : List ℕ) {refusal : Refusal} → first_of (lent_lines lent) ≡ Refused refusal
-    → first_of (rule_lines lent plan) ≡ Refused refusal
+pub rules_refused : (lent : Lent) (plan : List ℕ) {refusal : Refusal} → first_of (lent_lines lent) ≡ Err refusal
+    → first_of (rule_lines lent plan) ≡ Err refusal
 rules_refused lent plan e = lines_before (lent_lines lent) (plan_check lent plan ∷ []) ∙ line_refused _ e
 
-pub plan_tried : (items literals bytes names plan : List ℕ) → first_of (lent_lines (lend_names items literals bytes names)) ≡ Sound → {line : Check}
+pub plan_tried : (items literals bytes names plan : List ℕ) → first_of (lent_lines (lend_names items literals bytes names)) ≡ Ok tt → {line : Check}
     → line ≡ plan_check (lend_names items literals [] names) plan → line ≡ first_of (rule_lines (lend_names items literals bytes names) plan)
 plan_tried items literals bytes names plan t e =
     let lent = lend_names items literals bytes names in
     e ∙ sym (plan-lent false items literals bytes names plan) ∙ sym (lines_before (lent_lines lent) (plan_check lent plan ∷ []) ∙ line_sound _ t ∙ line_last _)
 
 -- both parts of the rules
-pub tables_sound : (lent : Lent) (plan : List ℕ) → first_of (rule_lines lent plan) ≡ Sound → first_of (lent_lines lent) ≡ Sound
+pub tables_sound : (lent : Lent) (plan : List ℕ) → first_of (rule_lines lent plan) ≡ Ok tt → first_of (lent_lines lent) ≡ Ok tt
 tables_sound lent plan e = by (first_of (lent_lines lent)) refl
   where
-    by : (line : Check) → first_of (lent_lines lent) ≡ line → line ≡ Sound
-    by Sound q = refl
-    by (Refused refusal) q = sym (rules_refused lent plan q) ∙ e
+    by : (line : Check) → first_of (lent_lines lent) ≡ line → line ≡ Ok tt
+    by (Ok _) q = refl
+    by (Err refusal) q = sym (rules_refused lent plan q) ∙ e
 
-pub plan_sound : (lent : Lent) (plan : List ℕ) → first_of (rule_lines lent plan) ≡ Sound → plan_check lent plan ≡ Sound
+pub plan_sound : (lent : Lent) (plan : List ℕ) → first_of (rule_lines lent plan) ≡ Ok tt → plan_check lent plan ≡ Ok tt
 plan_sound lent plan e =
     sym (lines_before (lent_lines lent) (plan_check lent plan ∷ []) ∙ line_sound _ (tables_sound lent plan e) ∙ line_last _) ∙ e
 
@@ -83,7 +82,7 @@ module _ (lent : Lent) (plan file : List ℕ) (size switches : ℕ) where
 
     pub run_record : Runnable lent plan (take size (drop from file))
     run_record =
-        let first : record_check lent (take size file) ≡ Sound = rw (ne_eqb (length file) 0 some) at S.holds in
+        let first : record_check lent (take size file) ≡ Ok tt = rw (ne_eqb (length file) 0 some) at S.holds in
         let e : length (take size file) ≡ size = length-take-le size file (omega (arith, within)) in
         record {
           tables = tables_sound lent plan S.rules;
@@ -99,25 +98,25 @@ module _ (lent : Lent) (plan file : List ℕ) (size switches : ℕ) where
     ran e = run-answers lent plan (take (from + size - from) (drop from file)) switches runnable e ∙ ap (λ (n : ℕ). run_gives lent plan (take n (drop from file)) switches) width
 
   module _ (output : List ℕ) where
-    pub unruly : {refusal : Refusal} → first_of (rule_lines lent plan) ≡ Refused refusal → Leaves (sweep_gives lent plan file size switches output) (Unswept refusal) output
+    pub unruly : {refusal : Refusal} → first_of (rule_lines lent plan) ≡ Err refusal → Leaves (sweep_gives lent plan file size switches output) (Unswept refusal) output
     unfolding sweep_gives
     unruly e = rw e (record { answered = refl; left = refl })
 
-    module _ (rules : first_of (rule_lines lent plan) ≡ Sound) where
+    module _ (rules : first_of (rule_lines lent plan) ≡ Ok tt) where
       pub uneven : evenly size (length file) ≡ false → Leaves (sweep_gives lent plan file size switches output) Uneven output
       unfolding sweep_gives
       uneven e = rw (rules, e) (record { answered = refl; left = refl })
 
       module _ (sizes : evenly size (length file) ≡ true) where
-        swept : {line : Check} → first_of (size_check lent size file ∷ room_check numbers output ∷ []) ≡ line → sweep_gives lent plan file size switches output ≡ sweep_by Sound true line numbers output
+        swept : {line : Check} → first_of (size_check lent size file ∷ room_check numbers output ∷ []) ≡ line → sweep_gives lent plan file size switches output ≡ sweep_by (Ok tt) true line numbers output
         unfolding sweep_gives
         swept e = rw (rules, sizes, e)
 
-        pub short : {refusal : Refusal} → (length file ≡ 0 → ⊥) → record_check lent (take size file) ≡ Refused refusal
+        pub short : {refusal : Refusal} → (length file ≡ 0 → ⊥) → record_check lent (take size file) ≡ Err refusal
             → Leaves (sweep_gives lent plan file size switches output) (Unswept refusal) output
         short some e = rw (swept (line_refused _ (held lent size file some e))) (record { answered = refl; left = refl })
 
-        module _ (holds : size_check lent size file ≡ Sound) where
+        module _ (holds : size_check lent size file ≡ Ok tt) where
           tried : first_of (size_check lent size file ∷ room_check numbers output ∷ []) ≡ room_check numbers output
           tried = line_sound _ holds ∙ line_last _
 
@@ -125,14 +124,14 @@ module _ (lent : Lent) (plan file : List ℕ) (size switches : ℕ) where
               → Leaves (sweep_gives lent plan file size switches output) (Unswept (Room (length file / size * 4))) output
           lacks_room l =
               let few = lt-leb (length numbers) (length output) (omega (arith, count)) in
-              let line : room_check numbers output ≡ Refused (Room (length file / size * 4)) = rw (few, count) in
+              let line : room_check numbers output ≡ Err (Room (length file / size * 4)) = rw (few, count) in
               rw (swept (tried ∙ line)) (record { answered = refl; left = refl })
 
           pub written : length file / size * 4 ≤ length output → {after : List ℕ} → after ≡ numbers ++ drop (length file / size * 4) output
               → Leaves (sweep_gives lent plan file size switches output) (Count (length file / size * 4)) after
           written l e =
               let enough = le-leb (length numbers) (length output) (omega (arith, count)) in
-              let line : room_check numbers output ≡ Sound = rw enough in
+              let line : room_check numbers output ≡ Ok tt = rw enough in
               rw (swept (tried ∙ line)) (record { answered = ap Count (sym count); left = e ∙ ap (λ (n : ℕ). numbers ++ drop n output) (sym count) })
 
         -- no record, no number
@@ -140,5 +139,5 @@ module _ (lent : Lent) (plan file : List ℕ) (size switches : ℕ) where
         empty e =
             let none : length file / size * 4 ≡ 0 = ap (λ (n : ℕ). n / size * 4) e ∙ ap (λ (n : ℕ). n * 4) (zero-div size) in
             let nothing : numbers ≡ [] = empty_list numbers (count ∙ none) in
-            let whole : size_check lent size file ≡ Sound = rw (eq-eqb (length file) 0 e) in
+            let whole : size_check lent size file ≡ Ok tt = rw (eq-eqb (length file) 0 e) in
             rw none at (written whole (omega (arith, none)) {after = output} (rw (nothing, none)))

@@ -1,18 +1,17 @@
 -- A plan run over a file: records of one size, laid one after another. For each record stands what run gives for it.
 use Rattle.std.specs.Prelude.{◌≡◌, Bool, true, false, cond, ◌&&◌, List, [], ◌∷◌, ◌++◌, ℕ, zero, suc, ◌*◌, ◌/◌, ◌%◌, ◌≤◌, length, take, drop, eqb, leb}
-use Rattle.tables.specs.declared.Check.{Check}
-use Rattle.tables.specs.declared.Check.TheVariants.{Sound, Refused}
 use Rattle.tables.specs.declared.Verdict.{Verdict}
 use Rattle.tables.specs.declared.Verdict.TheVariants.{True, False, Refused as Stopped}
 use Rattle.tables.specs.declared.Judged.{Judged}
 use Rattle.tables.specs.Operands.{Lent}
-use Rattle.tables.specs.Refusals.{number, place, byte_of, first_of}
+use Rattle.tables.specs.Refusals.{number, place, byte_of, first_of, Check}
 use Rattle.tables.specs.Tables.{record_check}
 use Rattle.values.specs.Names.{lent_lines}
 use Rattle.grammar.specs.Plan.{plan_check}
 use Rattle.rules.specs.Calls.{run_gives, room_check}
 use Rattle.sweeps.specs.declared.Swept.{Swept}
 use Rattle.sweeps.specs.declared.Swept.TheVariants.{Count, Uneven, Refused as Unswept}
+use Rattle.std.specs.Prelude.{Err, Ok}
 
 -- so many records of one size, from the start of a file
 unfoldable pub laid : ℕ → ℕ → List ℕ → List (List ℕ)
@@ -60,7 +59,7 @@ rule_lines lent plan = lent_lines lent ++ plan_check lent plan ∷ []
 
 -- 12: "the record ends before an item does", of records that all have one size; in an empty file there is none
 abbrev pub size_check : Lent → ℕ → List ℕ → Check
-size_check lent size file = cond (eqb (length file) 0) Sound (record_check lent (take size file))
+size_check lent size file = cond (eqb (length file) 0) (Ok tt) (record_check lent (take size file))
 
 -- what a sweep answers, and what it leaves in its output
 pub record Sweep : Type 0 where
@@ -69,10 +68,10 @@ pub record Sweep : Type 0 where
 
 -- 1 to 4, 18, 11; then 21; then 12 and 10. A refusal changes nothing.
 abbrev pub sweep_by : Check → Bool → Check → List ℕ → List ℕ → Sweep
-sweep_by (Refused refusal) even others numbers output = record { answer = Unswept refusal; output = output }
-sweep_by Sound false others numbers output = record { answer = Uneven; output = output }
-sweep_by Sound true (Refused refusal) numbers output = record { answer = Unswept refusal; output = output }
-sweep_by Sound true Sound numbers output = record { answer = Count (length numbers); output = numbers ++ drop (length numbers) output }
+sweep_by (Err refusal) even others numbers output = record { answer = Unswept refusal; output = output }
+sweep_by (Ok _) false others numbers output = record { answer = Uneven; output = output }
+sweep_by (Ok _) true (Err refusal) numbers output = record { answer = Unswept refusal; output = output }
+sweep_by (Ok _) true (Ok _) numbers output = record { answer = Count (length numbers); output = numbers ++ drop (length numbers) output }
 
 -- the whole answer and the output
 unfoldable pub sweep_gives : Lent → List ℕ → List ℕ → ℕ → ℕ → List ℕ → Sweep
@@ -87,7 +86,7 @@ pub record Leaves (sweep : Sweep) (answer : Swept) (output : List ℕ) : Type 0 
 
 -- What the private function that goes over the records needs: nothing refuses, for any record of that size.
 pub record Sweepable (lent : Lent) (plan file : List ℕ) (size room : ℕ) : Type 0 where
-  pub rules : first_of (rule_lines lent plan) ≡ Sound
+  pub rules : first_of (rule_lines lent plan) ≡ Ok tt
   pub sizes : evenly size (length file) ≡ true
-  pub holds : size_check lent size file ≡ Sound
+  pub holds : size_check lent size file ≡ Ok tt
   pub fits : length file / size * 4 ≤ room

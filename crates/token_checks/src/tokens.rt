@@ -5,17 +5,17 @@ ghost use Rattle.tables.specs.Tables.{token_count_check, token_check};
 
 use content::Row;
 use operands::tokens::token_there;
+use tables::Refusal;
 use tables::rows::NAME_WIDTH;
-use tables::{Check, Refusal};
 
 // 5: a condition has 1 to 256 tokens.
-pub fn check_token_count(tokens: &[u32]) -> Check
+pub fn check_token_count(tokens: &[u32]) -> Result<(), Refusal>
     ensures { result ≡ token_count_check tokens.now }
 {
     if (1 <= tokens.len()) & (tokens.len() <= 256) {
-        return Check::Sound;
+        return Ok(());
     }
-    Check::Refused(Refusal::TokenCount)
+    Err(Refusal::TokenCount)
 }
 
 // 6: the first token that there is not. `off`: the rules have the switch-off words.
@@ -25,18 +25,16 @@ pub fn check_tokens(
     literals: &[u32],
     names: &[u32],
     tokens: &[u32],
-) -> Check
+) -> Result<(), Refusal>
     ensures { result ≡ token_check (under off (lend_names items.now literals.now [] names.now)) tokens.now }
 {
     let item_rows = items.len() / Row::WIDTH;
     let literal_rows = literals.len() / Row::WIDTH;
     let name_rows = names.len() / NAME_WIDTH;
-    let mut i: usize = 0;
-    while i < tokens.len() {
-        if !token_there(off, tokens[i], item_rows, literal_rows, name_rows) {
-            return Check::Refused(Refusal::Token(i));
+    for (i, token) in tokens.iter().enumerate() {
+        if !token_there(off, *token, item_rows, literal_rows, name_rows) {
+            return Err(Refusal::Token(i));
         }
-        i += 1;
     }
-    Check::Sound
+    Ok(())
 }

@@ -8,7 +8,6 @@ use native.Mathlib.Decide.{ℕ_discrete}
 use lib.Dec.{eqb, leb, ltb}
 use borrow.Author.Tests.{leb-true, ltb-true, lt-ltb}
 use Rattle.content.specs.WrongByte.{valid_content}
-use Rattle.tables.specs.declared.Check.TheVariants.{Sound}
 use Rattle.tables.specs.declared.Refusal.TheVariants.{ItemRow, LiteralRow, Record, Name}
 use Rattle.content.specs.declared.Row.{Row}
 use Rattle.tables.specs.Rows.{row_count, name_count, row_at, row_sound, part, lies_in}
@@ -25,6 +24,7 @@ use Rattle.compare.specs.Order.{relation_holds}
 use Rattle.values.specs.Comparison.{Side, comparison}
 use Rattle.values.specs.Names.{every, item_side, literal_side, comparable, pair_sound, place_sound, name_sound, lent_lines}
 use Rattle.values.specs.Truth.{Fit}
+use Rattle.std.specs.Prelude.{Ok}
 
 -- a single value: to lie between it and itself is to equal it
 pub single_value : (item value : Side) → relation_holds 8 (comparison item value) && relation_holds 9 (comparison item value) ≡ relation_holds 7 (comparison item value)
@@ -45,7 +45,7 @@ every_at test (suc n) e k l = by (ℕ_discrete k n) (every_at test n (both (ever
     by (no q) rest = rest (omega arith)
 
 -- the side of a literal, and that of an item which the record holds, are fit to be read
-module _ (lent : Lent) (tables : first_of (table_lines lent) ≡ Sound) where
+module _ (lent : Lent) (tables : first_of (table_lines lent) ≡ Ok tt) where
   lines : AllSound (table_lines lent)
   lines = lines_sound (table_lines lent) tables
 
@@ -58,7 +58,7 @@ module _ (lent : Lent) (tables : first_of (table_lines lent) ≡ Sound) where
       let f = four (row_sound r) (eqb r.kind 2 || eqb r.kind 3 || eqb r.kind 5) (lies_in r lent.bytes) (valid_content r.kind r.digits (part r lent.bytes)) (literal_sound_lem l h) in
       record { sound = f.0; sized = part_length r lent.bytes (leb-true _ _ f.2) }
 
-  pub item_fit : (content : List ℕ) → record_check lent content ≡ Sound → (v : ℕ) → v < row_count lent.items → Fit (item_side lent content v)
+  pub item_fit : (content : List ℕ) → record_check lent content ≡ Ok tt → (v : ℕ) → v < row_count lent.items → Fit (item_side lent content v)
   item_fit content holds v h =
       record {
         sound = every_sound _ ItemRow _ lines.1.0 v h;
@@ -80,8 +80,8 @@ pair_facts lent item low high e =
     record { low_there = ltb-true _ _ g.0; high_there = ltb-true _ _ g.1; low_fits = f.1; high_fits = last.1 }
 
 -- what a sound row says
-module _ (lent : Lent) (tables : first_of (lent_lines lent) ≡ Sound) (v : ℕ) (inside : v < name_count lent.names) where
-  pub name_lines : (unless (names_length_sound lent.names) (Name 0) ≡ Sound) × (name_sound lent v ≡ true)
+module _ (lent : Lent) (tables : first_of (lent_lines lent) ≡ Ok tt) (v : ℕ) (inside : v < name_count lent.names) where
+  pub name_lines : (unless (names_length_sound lent.names) (Name 0) ≡ Ok tt) × (name_sound lent v ≡ true)
   name_lines =
       let l = lines_sound _ (lines_sound (lent_lines lent) tables).1.1.1.1.0 in
       (l.0, every_sound (name_sound lent) Name (name_count lent.names) l.1.0 v inside)

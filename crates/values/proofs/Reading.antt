@@ -10,7 +10,6 @@ use mathlib.Core.Logic.{⊎_elim}
 use lib.Dec.{eqb, leb}
 use lib.ListN.{length, length-drop}
 use borrow.Author.Tests.{leb-true, ltb-true, eqb-true, ne_eqb}
-use Rattle.tables.specs.declared.Check.TheVariants.{Sound}
 use Rattle.tables.specs.declared.Refusal.TheVariants.{ItemRow, LiteralRow, Record}
 use Rattle.content.specs.declared.Row.{Row}
 use Rattle.typing.specs.declared.Test.TheVariants.{Alone, Relation, Class, Sign}
@@ -30,13 +29,14 @@ use Rattle.compare.specs.Compared.{scaled_order}
 use Rattle.values.specs.Comparison.{Side, side, side_of, numeric, value_of, gives_digits, characters, comparison}
 use Rattle.values.specs.Names.{name_check, lent_lines}
 use Rattle.values.specs.Truth.{Readable, Named, Fit, Near, Sided, Numeral}
+use Rattle.std.specs.Prelude.{Ok}
 
 -- where 18 is ruled out after 1 to 4, those are
-pub tables_sound : (lent : Lent) → first_of (lent_lines lent) ≡ Sound → first_of (table_lines lent) ≡ Sound
+pub tables_sound : (lent : Lent) → first_of (lent_lines lent) ≡ Ok tt → first_of (table_lines lent) ≡ Ok tt
 tables_sound lent e = (lines_sound (first_of (table_lines lent) ∷ name_check lent ∷ []) (sym (lines_before (table_lines lent) (name_check lent ∷ [])) ∙ e)).0
 
 -- where no line on the tables applies and the record holds its items, a sound operand is fit to be read
-module _ (lent : Lent) (content : List ℕ) (x : ℕ) (tables : first_of (table_lines lent) ≡ Sound) (holds : record_check lent content ≡ Sound) (there : operand_sound lent x ≡ true) where
+module _ (lent : Lent) (content : List ℕ) (x : ℕ) (tables : first_of (table_lines lent) ≡ Ok tt) (holds : record_check lent content ≡ Ok tt) (there : operand_sound lent x ≡ true) where
   row_lies : (row_sound (row_of lent x) ≡ true) × (lies_within lent content x ≡ true)
   row_lies = by (ℕ_discrete (x / 65536) 0)
     where

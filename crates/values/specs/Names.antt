@@ -1,11 +1,10 @@
 -- Document 02, h): condition-names. When a row of their table is sound (refusal 18), and when a name holds.
 use Rattle.std.specs.Prelude.{Bool, true, false, not, cond, ◌&&◌, ◌||◌, List, [], ◌∷◌, ◌++◌, ℕ, zero, suc, eqb, leb, ltb}
-use Rattle.tables.specs.declared.Check.{Check}
 use Rattle.tables.specs.declared.Refusal.TheVariants.{Name}
 use Rattle.content.specs.declared.Row.{Row}
 use Rattle.tables.specs.Rows.{row_count, name_count, row_at, is_numeric, part}
 use Rattle.tables.specs.Operands.{Lent}
-use Rattle.tables.specs.Refusals.{unless, first_failing, first_of}
+use Rattle.tables.specs.Refusals.{unless, first_failing, first_of, Check}
 use Rattle.tables.specs.Tables.{table_lines}
 use Rattle.tables.specs.Names.{name_item, name_pairs, name_low, name_high, names_length_sound}
 use Rattle.typing.specs.Typing.{side_fits}

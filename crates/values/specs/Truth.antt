@@ -1,12 +1,11 @@
 -- Document 01, "Truth on a record": what one simple condition comes to.
-use Rattle.std.specs.Prelude.{◌≡◌, Bool, true, false, not, cond, List, ℕ, ◌≤◌, ◌<◌, length, eqb, pos}
+use Rattle.std.specs.Prelude.{◌≡◌, Bool, true, false, not, cond, List, ℕ, ◌≤◌, ◌<◌, length, eqb, pos, Ok}
 use Rattle.tables.specs.declared.Outcome.{Outcome}
 use Rattle.tables.specs.declared.Outcome.TheVariants.{True, False, Stopped}
 use Rattle.tables.specs.declared.Stop.{Stop}
 use Rattle.tables.specs.declared.Stop.TheVariants.{Digits, Letters}
 use Rattle.typing.specs.declared.Test.{Test}
 use Rattle.typing.specs.declared.Test.TheVariants.{Alone, Relation, Class, Sign, Unknown}
-use Rattle.tables.specs.declared.Check.TheVariants.{Sound}
 use Rattle.content.specs.declared.Row.{Row}
 use Rattle.tables.specs.Rows.{row_sound, is_numeric, name_count}
 use Rattle.content.specs.WrongByte.{Wrong, Nowhere, At}
@@ -81,15 +80,15 @@ module _ (lent : Lent) (content : List ℕ) (switches : ℕ) where
 -- What the code needs to know of a simple condition before it reads the record: refusals 1 to 4, 18 and 12 are ruled out, and the
 -- condition has a sound shape and is well typed.
 pub record Readable (lent : Lent) (content : List ℕ) (subject relation object : ℕ) : Type 0 where
-  pub tables : first_of (lent_lines lent) ≡ Sound
-  pub holds : record_check lent content ≡ Sound
+  pub tables : first_of (lent_lines lent) ≡ Ok tt
+  pub holds : record_check lent content ≡ Ok tt
   pub shape : shape_sound lent (test_of relation) subject object ≡ true
   pub well : typed lent subject relation object ≡ true
 
 -- the same of a condition-name of the table
 pub record Named (lent : Lent) (content : List ℕ) (v : ℕ) : Type 0 where
-  pub tables : first_of (lent_lines lent) ≡ Sound
-  pub holds : record_check lent content ≡ Sound
+  pub tables : first_of (lent_lines lent) ≡ Ok tt
+  pub holds : record_check lent content ≡ Ok tt
   pub there : v < name_count lent.names
 
 -- a side whose row is sound, with as many bytes as its row says

@@ -3,7 +3,7 @@ ghost use Rattle.std.specs.Prelude.{◌≡◌};
 ghost use Rattle.vectors.specs.Answers.{refused_as, written_as, judged_as, same_answer};
 
 use refusal_numbers::{byte_of, number_of, place_of};
-use tables::{Judged, Refusal, Verdict, Written};
+use tables::{Judged, Refusal, Verdict};
 
 // A refusal's number, place and byte, or 0, the value and 0; how many simple conditions were judged.
 #[derive(Clone, Copy)]
@@ -25,17 +25,17 @@ fn of_refusal(refusal: Refusal, judged: usize) -> Answer
     }
 }
 
-pub(crate) fn of_written(given: Written) -> Answer
+pub(crate) fn of_written(given: Result<usize, Refusal>) -> Answer
     ensures { result ≡ written_as given }
 {
     match given {
-        Written::Count(n) => Answer {
+        Ok(n) => Answer {
             number: 0,
             value: n,
             byte: 0,
             judged: 0,
         },
-        Written::Refused(refusal) => of_refusal(refusal, 0),
+        Err(refusal) => of_refusal(refusal, 0),
     }
 }
 

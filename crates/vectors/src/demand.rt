@@ -9,7 +9,6 @@ use crate::answer::{of_judged, same};
 use crate::lent;
 use crate::parts::{TOKENS, part};
 use fronts::front;
-use tables::Written;
 
 // Room for every expanded form (634 tokens) and every plan.
 const ENOUGH: usize = 640;
@@ -36,8 +35,8 @@ fn has_plan(words: &[u32], bytes: &[u8], tokens: &[u32], rows: &[u32]) -> bool
     let mut again = [0u32; ENOUGH];
     let planned = lent::plan(words, bytes, tokens, &mut again);
     match planned {
-        Written::Count(n) => same_numbers(front(&again, n), rows),
-        Written::Refused(_) => false,
+        Ok(n) => same_numbers(front(&again, n), rows),
+        Err(_) => false,
     }
 }
 
@@ -47,13 +46,13 @@ fn expanded_has_plan(words: &[u32], bytes: &[u8], rows: &[u32]) -> bool
     let mut form = [0u32; ENOUGH];
     let expanded = lent::expand(words, bytes, &mut form);
     match expanded {
-        Written::Count(n) => {
+        Ok(n) => {
             if n > 256 {
                 return true;
             }
             has_plan(words, bytes, front(&form, n), rows)
         }
-        Written::Refused(_) => false,
+        Err(_) => false,
     }
 }
 
@@ -74,7 +73,7 @@ pub(crate) fn holds<'a>(words: &[u32], bytes: &'a [u8], record: &'a [u8]) -> boo
     let mut rows = [0u32; ENOUGH];
     let planned = lent::plan(words, bytes, part(words, TOKENS), &mut rows);
     match planned {
-        Written::Count(n) => of_plan(words, bytes, record, front(&rows, n)),
-        Written::Refused(_) => true,
+        Ok(n) => of_plan(words, bytes, record, front(&rows, n)),
+        Err(_) => true,
     }
 }

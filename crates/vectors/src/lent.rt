@@ -4,9 +4,9 @@ ghost use Rattle.rules.specs.Calls.{expand_gives, plan_gives, judge_gives, run_g
 ghost use Rattle.vectors.specs.Parts.{lent_in, tokens_in, switches_in};
 
 use crate::parts::{ITEMS, LITERALS, NAMES, TOKENS, part, switches};
-use tables::{Judged, Written};
+use tables::{Judged, Refusal};
 
-pub(crate) fn expand(words: &[u32], bytes: &[u8], output: &mut [u32]) -> Written
+pub(crate) fn expand(words: &[u32], bytes: &[u8], output: &mut [u32]) -> Result<usize, Refusal>
     ensures { Leaves (expand_gives (lent_in words.now bytes.now) (tokens_in words.now) output.old) result output.new }
 {
     let items = part(words, ITEMS);
@@ -16,7 +16,12 @@ pub(crate) fn expand(words: &[u32], bytes: &[u8], output: &mut [u32]) -> Written
     forms::calls::expand(items, literals, bytes, names, tokens, output)
 }
 
-pub(crate) fn plan(words: &[u32], bytes: &[u8], tokens: &[u32], output: &mut [u32]) -> Written
+pub(crate) fn plan(
+    words: &[u32],
+    bytes: &[u8],
+    tokens: &[u32],
+    output: &mut [u32],
+) -> Result<usize, Refusal>
     ensures { Leaves (plan_gives (lent_in words.now bytes.now) tokens.now output.old) result output.new }
 {
     let items = part(words, ITEMS);

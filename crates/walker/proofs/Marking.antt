@@ -13,9 +13,6 @@ use borrow.Author.Tests.{ne_eqb}
 use Rattle.tables.specs.declared.Outcome.{Outcome}
 use Rattle.tables.specs.declared.Outcome.TheVariants.{True, False, Stopped}
 use Rattle.tables.specs.declared.Refusal.{Refusal}
-use Rattle.tables.specs.declared.Check.{Check}
-use Rattle.tables.specs.declared.Check.TheVariants.{Sound, Refused}
-use Rattle.tables.specs.declared.Written.TheVariants.{Count, Refused as Unwritten}
 use Rattle.tables.specs.Operands.{Lent}
 use Rattle.tables.specs.Names.{name_item}
 use Rattle.tables.specs.Tokens.{is_item, is_name, index_of}
@@ -36,6 +33,8 @@ use Rattle.rules.specs.Footprint.{items_among, rows_asked, footprint}
 use Rattle.runner.specs.Runs.{Runnable}
 use Rattle.runner.proofs.Running.{certain}
 use Rattle.walker.specs.Marks.{marked, marked_row, lent_names, AllBelow, Markable, rows_at, next}
+use Rattle.tables.specs.Refusals.{Check}
+use Rattle.std.specs.Prelude.{Err, Ok}
 
 pub marked_none : (marks : List ℕ) → marked marks [] ≡ marks
 unfolding marked
@@ -85,15 +84,15 @@ module _ (numbers output : List ℕ) {needed : ℕ} (n : needed ≡ length numbe
   is_room : line ≡ room_check numbers output
   is_room = r ∙ ap (λ k. room_by k (length output)) n
 
-  pub given_refused : {refusal : Refusal} → line ≡ Refused refusal → Leaves (writes (room_check numbers output) numbers output) (Unwritten refusal) output
+  pub given_refused : {refusal : Refusal} → line ≡ Err refusal → Leaves (writes (room_check numbers output) numbers output) (Err refusal) output
   given_refused e = rw (sym is_room ∙ e) (record { answered = refl; left = refl })
 
-  pub given-fits : line ≡ Sound → length numbers ≤ length output
+  pub given-fits : line ≡ Ok tt → length numbers ≤ length output
   given-fits e = room_fact (length numbers) (length output) (sym is_room ∙ e)
 
-  pub given : line ≡ Sound → {last : List ℕ} → last ≡ numbers ++ drop (length numbers) output →
-      Leaves (writes (room_check numbers output) numbers output) (Count needed) last
-  given e l = rw (sym is_room ∙ e) (record { answered = ap Count n; left = l })
+  pub given : line ≡ Ok tt → {last : List ℕ} → last ≡ numbers ++ drop (length numbers) output →
+      Leaves (writes (room_check numbers output) numbers output) (Ok needed) last
+  given e l = rw (sym is_room ∙ e) (record { answered = ap Ok n; left = l })
 
 -- the items among operands, one after the other
 module _ (marks : List ℕ) (x : ℕ) where

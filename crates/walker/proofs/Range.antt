@@ -8,7 +8,6 @@ use Prim.Native.Nat.{ℕ, ◌/◌, ◌<◌, ◌≤◌}
 use native.Mathlib.Omega.{arith}
 use lib.Dec.{eqb}
 use borrow.Author.Tests.{eqb-true, ltb-true}
-use Rattle.tables.specs.declared.Check.TheVariants.{Sound}
 use Rattle.tables.specs.Operands.{Lent, operand_sound, alone_sound}
 use Rattle.tables.specs.Refusals.{first_of}
 use Rattle.tables.specs.Rows.{row_count, name_count}
@@ -25,8 +24,9 @@ use Rattle.values.proofs.Names.{item_there as name-there}
 use Rattle.rules.specs.Footprint.{items_among, rows_asked}
 use Rattle.walker.specs.Marks.{AllBelow, Markable}
 use Rattle.walker.proofs.Marking.{by_names}
+use Rattle.std.specs.Prelude.{Ok}
 
-module _ (lent : Lent) (tables : first_of (lent_lines lent) ≡ Sound) where
+module _ (lent : Lent) (tables : first_of (lent_lines lent) ≡ Ok tt) where
   -- a condition-name alone
   alone_there : (a : ℕ) → alone_sound lent a ≡ true → is_name a ≡ true → index_of a < name_count lent.names
   alone_there a s n = let k : a / 65536 ≡ 5 = eqb-true (a / 65536) 5 n in ltb-true _ _ (rw k at s)

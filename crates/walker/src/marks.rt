@@ -10,9 +10,9 @@ ghost use Rattle.walker.specs.Marks.{marked, marked_row, lent_names, AllBelow, M
 use items::lines::check_room;
 use literal_sides::literals::number_at;
 use operands::tokens::is_item;
+use tables::Refusal;
 use tables::rows::NAME_WIDTH;
 use tables::tokens::{NAME, SPAN};
-use tables::{Check, Written};
 use typing::Test;
 use typing::sides::test_of;
 
@@ -104,15 +104,12 @@ fn write_marked(marks: &[u32], rows: usize, list: &mut [u32])
 }
 
 // The same, where the list has room: their count, or 10.
-pub fn give_marked(marks: &[u32], rows: usize, list: &mut [u32]) -> Written
+pub fn give_marked(marks: &[u32], rows: usize, list: &mut [u32]) -> Result<usize, Refusal>
     requires { (rows ≤ length marks.now) × (rows ≤ 64) }
     ensures { Leaves (writes (room_check (listed (marked_row marks.now) rows) list.old) (listed (marked_row marks.now) rows) list.old) result list.new }
 {
     let needed = count_marked(marks, rows);
-    let room = check_room(needed, list.len());
-    if let Check::Refused(refusal) = room {
-        return Written::Refused(refusal);
-    }
+    check_room(needed, list.len())?;
     write_marked(marks, rows, list);
-    Written::Count(needed)
+    Ok(needed)
 }

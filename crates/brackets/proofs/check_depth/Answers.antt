@@ -9,13 +9,13 @@ use lib.Dec.{eqb}
 use lib.ListN.{length, get_or, drop, drop_of_length-le}
 use lib.Seq.{drop-cons}
 use borrow.Author.Tests.{eqb-false}
-use Rattle.tables.specs.declared.Check.{Check}
-use Rattle.tables.specs.declared.Check.TheVariants.{Sound, Refused}
 use Rattle.tables.specs.declared.Refusal.TheVariants.{Depth}
 use Rattle.tables.proofs.Tests.{both}
 use Rattle.grammar.specs.Depth.{depth_from, depth_check}
 use Rattle.brackets.proofs.check_depth.Invariants.{Reached}
 use Rattle.brackets.proofs.check_depth.Goals as goal
+use Rattle.tables.specs.Refusals.{Check}
+use Rattle.std.specs.Prelude.{Err, Ok}
 
 -- with the tests as variables, so that their cases are told apart here
 go_on : (F : ℕ → Check) (refused : Check) (opens full : Bool) (m n : ℕ) → opens && full ≡ false →
@@ -41,14 +41,14 @@ module _ {tokens : List ℕ} {opened at : ℕ} (r : Reached tokens opened at) wh
         same =
             r.same
             ∙ rw (drop-cons tokens at 0 h, add-one at)
-            (go_on (λ n. depth_from (suc at) n (drop (suc at) tokens)) (Refused (Depth at)) (eqb (get_or tokens at 0) 262144) (eqb opened 16) _ _ e);
+            (go_on (λ n. depth_from (suc at) n (drop (suc at) tokens)) (Err (Depth at)) (eqb (get_or tokens at 0) 262144) (eqb opened 16) _ _ e);
       })
 
-  full : at < length tokens → eqb (get_or tokens at 0) 262144 && eqb opened 16 ≡ true → Refused (Depth at) ≡ depth_check tokens
+  full : at < length tokens → eqb (get_or tokens at 0) 262144 && eqb opened 16 ≡ true → Err (Depth at) ≡ depth_check tokens
   unfolding depth_from
   full h e = let p = both (eqb (get_or tokens at 0) 262144) (eqb opened 16) e in sym (r.same ∙ rw (drop-cons tokens at 0 h, p.0, p.1))
 
-  ended : length tokens ≤ at → Sound ≡ depth_check tokens
+  ended : length tokens ≤ at → Ok tt ≡ depth_check tokens
   unfolding depth_from
   ended h = sym (r.same ∙ rw (drop_of_length-le tokens h))
 

@@ -6,10 +6,9 @@ use mathlib.Core.Path.{◌≡◌, refl, sym, ◌∙◌}
 use mathlib.Core.Bool.{false, not}
 use mathlib.Core.List.{List, [], ◌∷◌}
 use Rattle.std.proofs.lemmas.Grind.{common_steps}
-use Rattle.tables.specs.declared.Check.{Check}
 use Rattle.tables.specs.declared.Refusal.TheVariants.{Name}
 use Rattle.tables.specs.Operands.{lend}
-use Rattle.tables.specs.Refusals.{unless, first_of}
+use Rattle.tables.specs.Refusals.{unless, first_of, Check}
 use Rattle.tables.specs.Names.{names_length_sound}
 use Rattle.tables.proofs.Lines.{test_passed, test_failed, passed_more, failed_at, passed_all, line_sound, line_refused, line_last}
 use Rattle.values.specs.Names.{name_sound}
@@ -25,9 +24,8 @@ returns-then-not-names c = grind (arith, common_steps, test_failed, line_refused
 
 pub name_sound-requires : goal.name_sound-requires
 name_sound-requires c =
-    let start = c in
-    let a = start.args in
-    (record { fits = literal_fit (lend a.items.now a.literals.now a.bytes.now) start.requires }, omega arith)
+    let a = c.args in
+    (record { fits = literal_fit (lend a.items.now a.literals.now a.bytes.now) c.requires }, omega arith)
 
 pub returns-then-not-name_sound : goal.returns-then-not-name_sound
 returns-then-not-name_sound c =

@@ -3,13 +3,13 @@ use mathlib.Core.Path.{◌≡◌}
 use mathlib.Core.List.{List}
 use Prim.Native.Nat.{ℕ}
 use lib.ListN.{length}
-use Rattle.tables.specs.declared.Check.TheVariants.{Sound}
 use Rattle.tables.specs.Operands.{lend_names}
 use Rattle.tables.specs.Refusals.{first_failing, first_of}
 use Rattle.values.specs.Names.{name_check}
 use Rattle.name_tables.proofs.check_names.Goals as goal
+use Rattle.std.specs.Prelude.{Ok}
 
-none : (items literals bytes names : List ℕ) → length names ≡ 0 → Sound ≡ name_check (lend_names items literals bytes names)
+none : (items literals bytes names : List ℕ) → length names ≡ 0 → Ok tt ≡ name_check (lend_names items literals bytes names)
 unfolding first_failing first_of
 none items literals bytes names e = rw e
 

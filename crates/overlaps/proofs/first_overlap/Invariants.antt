@@ -1,5 +1,4 @@
 -- What `is_clear` ensures, and the laws of a loop that seeks the first place that fails a test.
-use Prim.Native.Nat.{◌-◌}
 use Rattle.tables.specs.declared.Refusal.TheVariants.{Overlap}
 use Rattle.tables.proofs.Lines.{Passed}
 use Rattle.items.specs.Items.{clear_at}
@@ -7,6 +6,3 @@ use Rattle.overlaps.proofs.first_overlap.Given as goal
 
 abbrev pub invariant-loop-v : goal.invariant-loop-v
 invariant-loop-v l = Passed (clear_at l.items) Overlap l.rows l.v
-
-abbrev pub decreases-loop-v : goal.decreases-loop-v
-decreases-loop-v l = l.rows - l.v

@@ -4,9 +4,8 @@ use Prim.Native.Nat.{ℕ, ◌-◌}
 use mathlib.Core.Path.{◌≡◌, refl, sym, ◌∙◌}
 use mathlib.Core.Bool.{false, not}
 use mathlib.Core.List.{List, [], ◌∷◌}
-use Rattle.tables.specs.declared.Check.{Check}
 use Rattle.tables.specs.declared.Refusal.TheVariants.{PlanRow as PlanFault}
-use Rattle.tables.specs.Refusals.{unless, first_of}
+use Rattle.tables.specs.Refusals.{unless, first_of, Check}
 use Rattle.tables.proofs.Lines.{test_passed, test_failed, passed_more, failed_at, passed_all, line_sound, line_refused, line_last}
 use Rattle.grammar.specs.Plan.{plan_row, plan_length_sound}
 use Rattle.plan_checks.proofs.check_plan.Goals as goal

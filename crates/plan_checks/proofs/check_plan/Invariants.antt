@@ -1,5 +1,4 @@
 -- What `plan_row` and `row_sound` ensure, and the laws of a loop that seeks the first place that fails a test.
-use Prim.Native.Nat.{◌-◌}
 use mathlib.Core.List.{[]}
 use Rattle.tables.specs.declared.Refusal.TheVariants.{PlanRow as PlanFault}
 use Rattle.tables.specs.Operands.{lend_names, under}
@@ -9,6 +8,3 @@ use Rattle.plan_checks.proofs.check_plan.Given as goal
 
 abbrev pub invariant-loop-k : goal.invariant-loop-k
 invariant-loop-k l = Passed (λ v. plan_row_sound (under l.off (lend_names l.items l.literals [] l.names)) l.rows v (plan_row l.plan v)) PlanFault l.rows l.k
-
-abbrev pub decreases-loop-k : goal.decreases-loop-k
-decreases-loop-k l = l.rows - l.k

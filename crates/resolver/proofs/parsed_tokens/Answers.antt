@@ -7,5 +7,5 @@ use Rattle.resolver.proofs.parsed_tokens.Goals as goal
 pub overflow_add-result : goal.overflow_add-result
 overflow_add-result c = grind (arith, common_steps, eight_inside)
 
-pub returns-in-Refused : goal.returns-in-Refused
-returns-in-Refused c = grind (arith, common_steps, eight_inside)
+pub returns-in-Err : goal.returns-in-Err
+returns-in-Err c = grind (arith, common_steps, eight_inside)

@@ -1,43 +1,35 @@
 -- The lines 7 to 9: what was parsed tells 7 and 8 of all tokens, and its rows are typed in order. `e` is what was known where 7 and 8
 -- were weighed.
 use native.Mathlib.Omega.{arith}
+use Rattle.std.proofs.Common.{◌≡◌, Err}
 use Rattle.std.proofs.lemmas.Grind.{common_steps}
 use Rattle.resolver.proofs.Resolving.{grammar_refused, shaped_rows, typing_refused, resolved}
 use Rattle.resolver.proofs.resolve.Goals as goal
 
-pub returns-in-Refused : goal.returns-in-Refused
-returns-in-Refused c =
-    let e = c in
-    let t = e in
-    grammar_refused _ _ _ _ _ t.check_depth-depth.ensures t.parsed_tokens-end.ensures.0 e.parse-parsed.ensures
-    t.requires.0 t.parsed_tokens-end.ensures.1 e.earlier_of-refused.ensures c.in-Refused.is
+pub returns-in_err-earlier_of : goal.returns-in_err-earlier_of
+returns-in_err-earlier_of c =
+    let e : c.from_residual.result ≡ Err c.in_err-earlier_of.field-0.0 = grind arith in
+    rw e (grammar_refused _ _ _ _ _ c.check_depth-depth.ensures c.parsed_tokens-end.ensures.0 c.parse-parsed.ensures
+    c.requires.0 c.parsed_tokens-end.ensures.1 c.earlier_of.ensures c.in_err-earlier_of.was)
 
-pub check_typing-typing-requires : goal.check_typing-typing-requires
-check_typing-typing-requires c =
+pub check_typing-requires : goal.check_typing-requires
+check_typing-requires c =
     let found = c.in-Accepted.is in
-    let e = c in
-    let t = e in
-    shaped_rows _ _ _ _ _ _ t.check_depth-depth.ensures t.parsed_tokens-end.ensures.0 (rw found at e.parse-parsed.ensures)
-    (rw found at e.earlier_of-refused.ensures) c.in_default.is
-    t.requires.1
+    shaped_rows _ _ _ _ _ _ c.check_depth-depth.ensures c.parsed_tokens-end.ensures.0 (rw found at c.parse-parsed.ensures)
+    (rw found at c.earlier_of.ensures) c.in_ok-earlier_of.was
+    c.requires.1
 
-pub returns-in-Sound : goal.returns-in-Sound
-returns-in-Sound c =
-    let p = c in
-    let found = p.in-Accepted.is in
-    let e = p in
-    let t = e in
-    resolved _ _ _ _ _ _ t.check_depth-depth.ensures t.parsed_tokens-end.ensures.0 (rw found at e.parse-parsed.ensures)
-    (rw found at e.earlier_of-refused.ensures) p.in_default.is t.requires.1
-    c.check_typing-typing.ensures c.in-Sound.is
+pub returns-in_ok-check_typing-in-Accepted : goal.returns-in_ok-check_typing-in-Accepted
+returns-in_ok-check_typing-in-Accepted c =
+    let found = c.in-Accepted.is in
+    resolved _ _ _ _ _ _ c.check_depth-depth.ensures c.parsed_tokens-end.ensures.0 (rw found at c.parse-parsed.ensures)
+    (rw found at c.earlier_of.ensures) c.in_ok-earlier_of.was c.requires.1
+    c.check_typing.ensures c.in_ok-check_typing-in-Accepted.was
 
-pub returns-in-Refused-typing : goal.returns-in-Refused-typing
-returns-in-Refused-typing c =
-    let p = c in
-    let found = p.in-Accepted.is in
-    let e = p in
-    let t = e in
-    let start = t in
-    typing_refused _ _ _ _ _ _ t.check_depth-depth.ensures t.parsed_tokens-end.ensures.0 (rw found at e.parse-parsed.ensures)
-    (rw found at e.earlier_of-refused.ensures) p.in_default.is start.requires.1 start.requires.0
-    c.check_typing-typing.ensures c.in-Refused-typing.is
+pub returns-in_err-check_typing-in-Accepted : goal.returns-in_err-check_typing-in-Accepted
+returns-in_err-check_typing-in-Accepted c =
+    let e : c.from_residual-in_err-check_typing-in-Accepted.result ≡ Err c.in_err-check_typing-in-Accepted.field-0.0 = grind arith in
+    rw e (let found = c.in-Accepted.is in
+    typing_refused _ _ _ _ _ _ c.check_depth-depth.ensures c.parsed_tokens-end.ensures.0 (rw found at c.parse-parsed.ensures)
+    (rw found at c.earlier_of.ensures) c.in_ok-earlier_of.was c.requires.1 c.requires.0
+    c.check_typing.ensures c.in_err-check_typing-in-Accepted.was)

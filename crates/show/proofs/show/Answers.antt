@@ -5,31 +5,29 @@ use Rattle.show.proofs.Showing.{plan_inside, expand_inside, shown}
 use Rattle.show.proofs.show.Goals as goal
 
 pub slice_bounds-run-end : goal.slice_bounds-run-end
-slice_bounds-run-end c = plan_inside _ _ _ (rw c.in-Count.is at c.plan-planned.ensures.leaves)
+slice_bounds-run-end c = plan_inside _ _ _ (rw c.in-Ok.is at c.plan-planned.ensures.leaves)
 
-pub slice_bounds-run-end-in-Count : goal.slice_bounds-run-end-in-Count
-slice_bounds-run-end-in-Count c = sym (length-take-le _ _ (plan_inside _ _ _ (rw c.in-Count.is at c.plan-planned.ensures.leaves)))
+pub slice_bounds-run-end-in-Ok : goal.slice_bounds-run-end-in-Ok
+slice_bounds-run-end-in-Ok c = sym (length-take-le _ _ (plan_inside _ _ _ (rw c.in-Ok.is at c.plan-planned.ensures.leaves)))
 
 pub slice_bounds-plan-end : goal.slice_bounds-plan-end
-slice_bounds-plan-end c = expand_inside _ _ _ (rw c.in-Count-expanded.is at c.expand-expanded.ensures.leaves)
+slice_bounds-plan-end c = expand_inside _ _ _ (rw c.in-Ok-expanded.is at c.expand-expanded.ensures.leaves)
 
-pub slice_bounds-plan-end-in-Count-expanded : goal.slice_bounds-plan-end-in-Count-expanded
-slice_bounds-plan-end-in-Count-expanded c = sym (length-take-le _ _ (expand_inside _ _ _ (rw c.in-Count-expanded.is at c.expand-expanded.ensures.leaves)))
+pub slice_bounds-plan-end-in-Ok-expanded : goal.slice_bounds-plan-end-in-Ok-expanded
+slice_bounds-plan-end-in-Ok-expanded c = sym (length-take-le _ _ (expand_inside _ _ _ (rw c.in-Ok-expanded.is at c.expand-expanded.ensures.leaves)))
 
-pub returns-in-Refused-expanded : goal.returns-in-Refused-expanded
-returns-in-Refused-expanded c =
-    let r = c in
+pub returns-in-Err-expanded : goal.returns-in-Err-expanded
+returns-in-Err-expanded c =
     shown _ _ _ _ _ _ _
-    (rw r.in-Count.is at r.plan-planned.ensures.leaves)
-    r.run-judged.ensures.value
-    (rw c.in-Refused-expanded.is at c.expand-expanded.ensures.leaves)
+    (rw c.in-Ok.is at c.plan-planned.ensures.leaves)
+    c.run-judged.ensures.value
+    (rw c.in-Err-expanded.is at c.expand-expanded.ensures.leaves)
     (refl, refl)
 
-pub returns-in-Count-expanded : goal.returns-in-Count-expanded
-returns-in-Count-expanded c =
-    let r = c in
+pub returns-in-Ok-expanded : goal.returns-in-Ok-expanded
+returns-in-Ok-expanded c =
     shown _ _ _ _ _ _ _
-    (rw r.in-Count.is at r.plan-planned.ensures.leaves)
-    r.run-judged.ensures.value
-    (rw c.in-Count-expanded.is at c.expand-expanded.ensures.leaves)
+    (rw c.in-Ok.is at c.plan-planned.ensures.leaves)
+    c.run-judged.ensures.value
+    (rw c.in-Ok-expanded.is at c.expand-expanded.ensures.leaves)
     c.plan.ensures.leaves

@@ -1,5 +1,4 @@
 -- What `row_sound` and `row_at` ensure, and the laws of a loop that seeks the first place that fails a test.
-use Prim.Native.Nat.{◌-◌}
 use Rattle.tables.specs.Rows.{row_at, row_sound}
 use Rattle.tables.specs.declared.Refusal.TheVariants.{ItemRow}
 use Rattle.tables.proofs.Lines.{Passed}
@@ -7,6 +6,3 @@ use Rattle.checks.proofs.lent.check_item_rows.Given as goal
 
 abbrev pub invariant-loop-v : goal.invariant-loop-v
 invariant-loop-v l = Passed (λ k. row_sound (row_at l.items k)) ItemRow l.rows l.v
-
-abbrev pub decreases-loop-v : goal.decreases-loop-v
-decreases-loop-v l = l.rows - l.v

@@ -1,5 +1,4 @@
 -- What `literal_sound` and `row_at` ensure, and the laws of a loop that seeks the first place that fails a test.
-use Prim.Native.Nat.{◌-◌}
 use Rattle.tables.specs.Rows.{row_at}
 use Rattle.tables.specs.Tables.{literal_sound}
 use Rattle.tables.specs.declared.Refusal.TheVariants.{LiteralRow}
@@ -8,6 +7,3 @@ use Rattle.checks.proofs.lent.check_literal_rows.Given as goal
 
 abbrev pub invariant-loop-v : goal.invariant-loop-v
 invariant-loop-v l = Passed (λ k. literal_sound l.bytes (row_at l.literals k)) LiteralRow l.rows l.v
-
-abbrev pub decreases-loop-v : goal.decreases-loop-v
-decreases-loop-v l = l.rows - l.v

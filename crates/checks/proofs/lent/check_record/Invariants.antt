@@ -1,5 +1,4 @@
 -- What `ends_within` and `row_at` ensure, and the laws of a loop that seeks the first place that fails a test.
-use Prim.Native.Nat.{◌-◌}
 use Rattle.tables.specs.Rows.{row_at, lies_in}
 use Rattle.tables.specs.declared.Refusal.TheVariants.{Record}
 use Rattle.tables.proofs.Lines.{Passed}
@@ -7,6 +6,3 @@ use Rattle.checks.proofs.lent.check_record.Given as goal
 
 abbrev pub invariant-loop-v : goal.invariant-loop-v
 invariant-loop-v l = Passed (λ k. lies_in (row_at l.items k) l.«record») Record l.rows l.v
-
-abbrev pub decreases-loop-v : goal.decreases-loop-v
-decreases-loop-v l = l.rows - l.v

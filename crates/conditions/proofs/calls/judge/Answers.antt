@@ -12,32 +12,30 @@ use Rattle.conditions.proofs.calls.judge.Goals as goal
 told_in_numbers : {r j : Judged} → r ≡ j → record { value : r ≡ j; verdict_value : of_verdict r.verdict ≡ of_verdict j.verdict }
 told_in_numbers e = let p = judged_in_numbers e in record { value = p.0; verdict_value = p.1 }
 
-pub returns-in-Refused-held : goal.returns-in-Refused-held
-returns-in-Refused-held c =
-    let p = c in
-    told_in_numbers (c.unjudged-in-Refused-held.ensures ∙ judge_record_refuses p.prepare-prepared.ensures p.in-Rows.is _ _
-    (sym c.check_record-held.ensures ∙ c.in-Refused-held.is))
+pub returns-in-Err-held : goal.returns-in-Err-held
+returns-in-Err-held c =
+    told_in_numbers (c.unjudged-in-Err-held.ensures ∙ judge_record_refuses c.prepare-prepared.ensures c.in-Ok.is _ _
+    (sym c.check_record-held.ensures ∙ c.in-Err-held.is))
 
 pub overflow_mul-end : goal.overflow_mul-end
-overflow_mul-end c = omega (arith, few_prepared c.prepare-prepared.ensures c.in-Rows.is)
+overflow_mul-end c = omega (arith, few_prepared c.prepare-prepared.ensures c.in-Ok.is)
 
 pub slice_bounds-rows-end : goal.slice_bounds-rows-end
-slice_bounds-rows-end c = omega (arith, few_prepared c.prepare-prepared.ensures c.in-Rows.is)
+slice_bounds-rows-end c = omega (arith, few_prepared c.prepare-prepared.ensures c.in-Ok.is)
 
 pub slice_bounds-run_rows-end : goal.slice_bounds-run_rows-end
-slice_bounds-run_rows-end c = row_numbers_lem c.prepare-prepared.ensures c.in-Rows.is
+slice_bounds-run_rows-end c = row_numbers_lem c.prepare-prepared.ensures c.in-Ok.is
 
 pub run_rows-requires : goal.run_rows-requires
 run_rows-requires c =
-    rows_runnable c.prepare-prepared.ensures c.in-Rows.is _
+    rows_runnable c.prepare-prepared.ensures c.in-Ok.is _
     (sym c.check_record-held.ensures ∙ c.in_default.is)
 
-pub returns-in-Refused : goal.returns-in-Refused
-returns-in-Refused c = told_in_numbers (c.unjudged.ensures ∙ judge_refused c.prepare-prepared.ensures c.in-Refused.is _ _)
+pub returns-in-Err : goal.returns-in-Err
+returns-in-Err c = told_in_numbers (c.unjudged.ensures ∙ judge_refused c.prepare-prepared.ensures c.in-Err.is _ _)
 
 pub returns-in_default : goal.returns-in_default
 returns-in_default c =
-    let p = c in
-    told_in_numbers (judge_answers p.prepare-prepared.ensures p.in-Rows.is _ _
+    told_in_numbers (judge_answers c.prepare-prepared.ensures c.in-Ok.is _ _
     (sym c.check_record-held.ensures ∙ c.in_default.is)
     c.run_rows.ensures)

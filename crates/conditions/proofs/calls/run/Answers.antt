@@ -14,24 +14,22 @@ use Rattle.conditions.proofs.calls.run.Goals as goal
 told_in_numbers : {r j : Judged} → r ≡ j → record { value : r ≡ j; verdict_value : of_verdict r.verdict ≡ of_verdict j.verdict }
 told_in_numbers e = let p = judged_in_numbers e in record { value = p.0; verdict_value = p.1 }
 
-pub returns-in-Refused : goal.returns-in-Refused
-returns-in-Refused c = grind (arith, common_steps, tables_refuse, judged_in_numbers)
+pub returns-in-Err : goal.returns-in-Err
+returns-in-Err c = grind (arith, common_steps, tables_refuse, judged_in_numbers)
 
-pub returns-in-Refused-rows : goal.returns-in-Refused-rows
-returns-in-Refused-rows c = grind (arith, common_steps, judged_in_numbers, plan_refuses)
+pub returns-in-Err-rows : goal.returns-in-Err-rows
+returns-in-Err-rows c = grind (arith, common_steps, judged_in_numbers, plan_refuses)
 
-pub returns-in-Refused-held : goal.returns-in-Refused-held
-returns-in-Refused-held c =
-    let l = c in
-    told_in_numbers (c.unjudged-in-Refused-held.ensures
-    ∙ run_record_refuses _ _ _ _ _ _ (sym l.check_lent-lent.ensures ∙ c.in_default.is) _
+pub returns-in-Err-held : goal.returns-in-Err-held
+returns-in-Err-held c =
+    told_in_numbers (c.unjudged-in-Err-held.ensures
+    ∙ run_record_refuses _ _ _ _ _ _ (sym c.check_lent-lent.ensures ∙ c.in_default.is) _
     (sym c.check_plan-rows.ensures ∙ c.in_default-rows.is)
-    (sym c.check_record-held.ensures ∙ c.in-Refused-held.is))
+    (sym c.check_record-held.ensures ∙ c.in-Err-held.is))
 
 pub run_rows-requires : goal.run_rows-requires
 run_rows-requires c =
-    let l = c in
-    plan_runnable _ _ _ _ _ _ (sym l.check_lent-lent.ensures ∙ c.in_default.is)
+    plan_runnable _ _ _ _ _ _ (sym c.check_lent-lent.ensures ∙ c.in_default.is)
     (sym c.check_plan-rows.ensures ∙ c.in_default-rows.is)
     (sym c.check_record-held.ensures ∙ c.in_default-held.is)
 

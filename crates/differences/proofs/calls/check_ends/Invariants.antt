@@ -1,5 +1,4 @@
 -- What `ends_within` and `row_at` ensure, and the laws of a loop that seeks the first place that fails a test.
-use Prim.Native.Nat.{◌-◌}
 use Rattle.tables.specs.declared.Refusal.TheVariants.{Record}
 use Rattle.tables.specs.Rows.{lies_in}
 use Rattle.tables.proofs.Lines.{Passed}
@@ -8,6 +7,3 @@ use Rattle.differences.proofs.calls.check_ends.Given as goal
 
 abbrev pub invariant-loop-v : goal.invariant-loop-v
 invariant-loop-v l = Passed (lies_in_both l.items l.first l.second) Record l.rows l.v
-
-abbrev pub decreases-loop-v : goal.decreases-loop-v
-decreases-loop-v l = l.rows - l.v

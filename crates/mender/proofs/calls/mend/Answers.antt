@@ -5,17 +5,16 @@ use mathlib.Core.List.{◌++◌}
 use lib.ListN.{length, drop}
 use native.Mathlib.Omega.{arith}
 use Rattle.std.proofs.lemmas.Grind.{common_steps}
-use Rattle.tables.specs.declared.Written.TheVariants.{Count}
 use Rattle.items.specs.Lines.{room_check}
 use Rattle.mending.specs.Mend.{Mending, changes}
 use Rattle.mender.proofs.Answering.{stopped, crowded, done}
 use Rattle.mender.proofs.calls.mend.Goals as goal
 
-pub returns-in-Refused : goal.returns-in-Refused
-returns-in-Refused c = grind (arith, common_steps, stopped)
+pub returns-in_err-check_mend : goal.returns-in_err-check_mend
+returns-in_err-check_mend c = grind (arith, common_steps, stopped)
 
-pub returns-in-Refused-room : goal.returns-in-Refused-room
-returns-in-Refused-room c = grind (arith, common_steps, length, crowded)
+pub returns-in_err-check_room : goal.returns-in_err-check_room
+returns-in_err-check_room c = grind (arith, common_steps, length, crowded)
 
 pub returns : goal.returns
 returns c = grind (arith, common_steps, length, drop, done)

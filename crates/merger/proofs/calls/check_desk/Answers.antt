@@ -1,53 +1,51 @@
 -- Each line that passed, and the first that did not.
 use mathlib.Core.Path.{sym, ◌∙◌}
+use native.Mathlib.Omega.{arith}
+use Rattle.std.proofs.Common.{◌≡◌, Err}
 use Rattle.merger.proofs.Desk.{Passed, lent_refuses, overlap_refuses, lengths_refuse, plan_refuses, record_decides}
 use Rattle.merger.proofs.calls.check_desk.Goals as goal
 
-pub returns-in-Refused : goal.returns-in-Refused
-returns-in-Refused c =
-    let a = c.args in
+pub returns-in_err-check_lent : goal.returns-in_err-check_lent
+returns-in_err-check_lent c =
+    let e : c.from_residual.result ≡ Err c.in_err-check_lent.field-0.0 = grind arith in
+    rw e (let a = c.args in
     sym (lent_refuses a.items.now a.literals.now a.bytes.now a.names.now a.plan.now a.old.now a.first.now a.second.now
-    (sym c.check_lent-lent.ensures ∙ c.in-Refused.is))
+    (sym c.check_lent.ensures ∙ c.in_err-check_lent.was)))
 
-pub returns-in-Refused-overlap : goal.returns-in-Refused-overlap
-returns-in-Refused-overlap c =
-    let a = c.args in
-    let lent = sym c.check_lent-lent.ensures ∙ c.in_default.is in
+pub returns-in_err-check_overlap : goal.returns-in_err-check_overlap
+returns-in_err-check_overlap c =
+    let e : c.from_residual-in_err-check_overlap.result ≡ Err c.in_err-check_overlap.field-0.0 = grind arith in
+    rw e (let a = c.args in
+    let lent = sym c.check_lent.ensures ∙ c.in_ok-check_lent.was in
     sym (overlap_refuses a.items.now a.literals.now a.bytes.now a.names.now a.plan.now a.old.now a.first.now a.second.now lent
-    (sym c.check_overlap-overlap.ensures ∙ c.in-Refused-overlap.is))
+    (sym c.check_overlap.ensures ∙ c.in_err-check_overlap.was)))
 
-pub returns-in-Refused-lengths : goal.returns-in-Refused-lengths
-returns-in-Refused-lengths c =
-    let a = c.args in
-    let lent = sym c.check_lent-lent.ensures ∙ c.in_default.is in
-    let overlap = sym c.check_overlap-overlap.ensures ∙ c.in_default-overlap.is in
+pub returns-in_err-check_lengths : goal.returns-in_err-check_lengths
+returns-in_err-check_lengths c =
+    let e : c.from_residual-in_err-check_lengths.result ≡ Err c.in_err-check_lengths.field-0.0 = grind arith in
+    rw e (let a = c.args in
+    let lent = sym c.check_lent.ensures ∙ c.in_ok-check_lent.was in
+    let overlap = sym c.check_overlap.ensures ∙ c.in_ok-check_overlap.was in
     sym (lengths_refuse a.items.now a.literals.now a.bytes.now a.names.now a.plan.now a.old.now a.first.now a.second.now lent overlap
-    (sym c.check_lengths-lengths.ensures ∙ c.in-Refused-lengths.is))
+    (sym c.check_lengths.ensures ∙ c.in_err-check_lengths.was)))
 
-pub returns-in-Refused-rows : goal.returns-in-Refused-rows
-returns-in-Refused-rows c =
-    let passed : (Passed c.args.items.now c.args.literals.now c.args.bytes.now c.args.names.now c.args.plan.now
-    c.args.old.now c.args.first.now c.args.second.now) = (let lengths = c in
-    let overlap = lengths in
-    let lent = overlap in
-    record {
-      tables = sym lent.check_lent-lent.ensures ∙ lent.in_default.is;
-      apart = sym overlap.check_overlap-overlap.ensures ∙ overlap.in_default-overlap.is;
-      long = sym lengths.check_lengths-lengths.ensures ∙ lengths.in_default-lengths.is;
+pub returns-in_err-check_plan : goal.returns-in_err-check_plan
+returns-in_err-check_plan c =
+    let e : c.from_residual-in_err-check_plan.result ≡ Err c.in_err-check_plan.field-0.0 = grind arith in
+    rw e (let passed : (Passed c.args.items.now c.args.literals.now c.args.bytes.now c.args.names.now c.args.plan.now
+    c.args.old.now c.args.first.now c.args.second.now) = (record {
+      tables = sym c.check_lent.ensures ∙ c.in_ok-check_lent.was;
+      apart = sym c.check_overlap.ensures ∙ c.in_ok-check_overlap.was;
+      long = sym c.check_lengths.ensures ∙ c.in_ok-check_lengths.was;
     }) in
-    let planned = c in
-    sym (plan_refuses passed (sym planned.check_plan-rows.ensures ∙ c.in-Refused-rows.is))
+    sym (plan_refuses passed (sym c.check_plan.ensures ∙ c.in_err-check_plan.was)))
 
 pub returns : goal.returns
 returns c =
     let passed : (Passed c.args.items.now c.args.literals.now c.args.bytes.now c.args.names.now c.args.plan.now
-    c.args.old.now c.args.first.now c.args.second.now) = (let lengths = c in
-    let overlap = lengths in
-    let lent = overlap in
-    record {
-      tables = sym lent.check_lent-lent.ensures ∙ lent.in_default.is;
-      apart = sym overlap.check_overlap-overlap.ensures ∙ overlap.in_default-overlap.is;
-      long = sym lengths.check_lengths-lengths.ensures ∙ lengths.in_default-lengths.is;
+    c.args.old.now c.args.first.now c.args.second.now) = (record {
+      tables = sym c.check_lent.ensures ∙ c.in_ok-check_lent.was;
+      apart = sym c.check_overlap.ensures ∙ c.in_ok-check_overlap.was;
+      long = sym c.check_lengths.ensures ∙ c.in_ok-check_lengths.was;
     }) in
-    let planned = c in
-    record_decides passed (sym planned.check_plan-rows.ensures ∙ c.in_default-rows.is) c.check_record.ensures
+    record_decides passed (sym c.check_plan.ensures ∙ c.in_ok-check_plan.was) c.check_record.ensures

@@ -1,5 +1,4 @@
 -- What `plan_row` and `well_typed` ensure, and the laws of a loop that seeks the first place that fails a test.
-use Prim.Native.Nat.{◌-◌}
 use mathlib.Core.List.{[]}
 use Rattle.tables.specs.declared.Refusal.TheVariants.{Typing}
 use Rattle.tables.specs.Operands.{lend}
@@ -11,6 +10,3 @@ use Rattle.row_typing.proofs.rows.check_typing.Given as goal
 abbrev pub invariant-loop-k : goal.invariant-loop-k
 invariant-loop-k l =
     Passed (λ v. typed (lend l.items l.literals []) (plan_row l.rows v).subject (plan_row l.rows v).relation (plan_row l.rows v).object) Typing l.count l.k
-
-abbrev pub decreases-loop-k : goal.decreases-loop-k
-decreases-loop-k l = l.count - l.k

@@ -12,13 +12,13 @@ use Rattle.sweeps.proofs.Going.{filled, one_fits}
 use Rattle.sweeps.proofs.Lines.{held, unruly, uneven, empty, short, lacks_room, written}
 use Rattle.sweeper.proofs.calls.sweep.Goals as goal
 
-pub returns-in-Refused : goal.returns-in-Refused
-returns-in-Refused c =
+pub returns-in-Err : goal.returns-in-Err
+returns-in-Err c =
     let a = c.args in
     let lent = lend_names a.items.now a.literals.now a.bytes.now a.names.now in
     let plan = a.plan.now in
     let file = a.records.now in
-    unruly lent plan file a.size a.switches a.answers.now (sym c.check_rules-rules.ensures ∙ c.in-Refused.is)
+    unruly lent plan file a.size a.switches a.answers.now (sym c.check_rules-rules.ensures ∙ c.in-Err.is)
 
 pub returns-then-not-is_even : goal.returns-then-not-is_even
 returns-then-not-is_even c = grind (arith, common_steps, uneven)
@@ -29,15 +29,15 @@ returns-then-records-eq0 c = grind (arith, common_steps, empty)
 pub slice_bounds-check_record-end : goal.slice_bounds-check_record-end
 slice_bounds-check_record-end c = grind (arith, common_steps, length, length-take-le, one_fits)
 
-pub returns-in-Refused-held : goal.returns-in-Refused-held
-returns-in-Refused-held c =
+pub returns-in-Err-held : goal.returns-in-Err-held
+returns-in-Err-held c =
     let a = c.args in
     let lent = lend_names a.items.now a.literals.now a.bytes.now a.names.now in
     let plan = a.plan.now in
     let file = a.records.now in
     short lent plan file a.size a.switches a.answers.now (sym c.check_rules-rules.ensures ∙
     c.in_default.is) (sym c.is_even.ensures ∙ c.if-not-is_even.false) c.if-records-eq0.false (sym c.check_record-held.ensures ∙
-    c.in-Refused-held.is)
+    c.in-Err-held.is)
 
 pub nonzero_div-count : goal.nonzero_div-count
 nonzero_div-count c =

@@ -1,5 +1,4 @@
 -- What `token_there` ensures, and the laws of a loop that seeks the first place that fails a test.
-use Prim.Native.Nat.{◌-◌}
 use lib.ListN.{length, get_or}
 use Rattle.tables.specs.Tokens.{token_there}
 use Rattle.tables.specs.declared.Refusal.TheVariants.{Token}
@@ -8,6 +7,3 @@ use Rattle.token_checks.proofs.tokens.check_tokens.Given as goal
 
 abbrev pub invariant-loop-i : goal.invariant-loop-i
 invariant-loop-i l = Passed (λ k. token_there l.off l.item_rows l.literal_rows l.name_rows (get_or l.tokens k 0)) Token (length l.tokens) l.i
-
-abbrev pub decreases-loop-i : goal.decreases-loop-i
-decreases-loop-i l = length l.tokens - l.i
