@@ -29,10 +29,8 @@ fn block_in_alphabet(marks: &[u64; 16], word: u32, bytes: &[u8]) -> bool
     ensures { result ≡ all (in_alphabet word) (take 16 bytes.now) }
 {
     let mut fine = true;
-    let mut k: usize = 0;
-    while k < 16 {
-        fine = fine & in_alphabet(marks, word, bytes[k]);
-        k += 1;
+    for b in &bytes[..16] {
+        fine = fine & in_alphabet(marks, word, *b);
     }
     fine
 }
@@ -56,12 +54,11 @@ pub fn all_in_alphabet(word: u32, bytes: &[u8]) -> bool
     ensures { result ≡ all (in_alphabet word) bytes.now }
 {
     let marks = marks();
-    let mut i = alphabet_blocks(&marks, word, bytes);
-    while i < bytes.len() {
-        if !in_alphabet(&marks, word, bytes[i]) {
+    let first = alphabet_blocks(&marks, word, bytes);
+    for b in &bytes[first..] {
+        if !in_alphabet(&marks, word, *b) {
             return false;
         }
-        i += 1;
     }
     true
 }

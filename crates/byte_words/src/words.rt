@@ -51,16 +51,10 @@ pub fn field_word(bytes: &[u8], end: usize, size: usize) -> u64
     (word_before(bytes, end) ^ 0x3030303030303030) & mask(size)
 }
 
-fn wide(x: u8) -> u64
-    ensures { result ≡ x }
-{
-    x as u64
-}
-
 fn digit_of(b: u8) -> u64
     ensures { (result ≡ digit_of b) × (result < 256) }
 {
-    wide(b ^ 0x30)
+    u64::from(b ^ 0x30)
 }
 
 // The word of a field's first 4 bytes, flat as well.
@@ -77,10 +71,8 @@ fn longer_word(bytes: &[u8], from: usize, first: u64) -> u64
     ensures { result ≡ digit_word bytes.now }
 {
     let mut word = first;
-    let mut i = from;
-    while i < bytes.len() {
-        word = word * 256 + digit_of(bytes[i]);
-        i += 1;
+    for b in &bytes[from..] {
+        word = word * 256 + digit_of(*b);
     }
     word
 }

@@ -10,12 +10,10 @@ fn few_digits(marks: &[u64; 16], bytes: &[u8]) -> bool
     requires { agree marks.now ≡ true }
     ensures { result ≡ all is_digit bytes.now }
 {
-    let mut i: usize = 0;
-    while i < bytes.len() {
-        if !is_digit(marks, bytes[i]) {
+    for b in bytes {
+        if !is_digit(marks, *b) {
             return false;
         }
-        i += 1;
     }
     true
 }
@@ -26,10 +24,8 @@ fn many_digits(marks: &[u64; 16], bytes: &[u8]) -> bool
     ensures { result ≡ all is_digit bytes.now }
 {
     let mut fine = true;
-    let mut k: usize = 0;
-    while k < bytes.len() {
-        fine = fine & is_digit(marks, bytes[k]);
-        k += 1;
+    for b in bytes {
+        fine = fine & is_digit(marks, *b);
     }
     fine
 }

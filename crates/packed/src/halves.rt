@@ -34,10 +34,8 @@ fn all_two_digits(bytes: &[u8]) -> bool
     ensures { result ≡ all two_digits bytes.now }
 {
     let mut fine = true;
-    let mut k: usize = 0;
-    while k < bytes.len() {
-        fine = fine & two_digits(bytes[k]);
-        k += 1;
+    for b in bytes {
+        fine = fine & two_digits(*b);
     }
     fine
 }

@@ -27,11 +27,7 @@ pub fn fill(numbers: &mut [u8], number: u8)
     requires { length numbers.old ≡ 64 }
     ensures { (j : ℕ) → j < 64 → get_or numbers.new j 0 ≡ number }
 {
-    let mut j: usize = 0;
-    while j < BLOCK {
-        numbers[j] = number;
-        j += 1;
-    }
+    numbers.fill(number);
 }
 
 // The first n records start at row 0; there are no others.
@@ -39,10 +35,8 @@ pub fn start(at: &mut [u8], n: usize)
     requires { length at.old ≡ 64 }
     ensures { (j : ℕ) → j < 64 → get_or at.new j 0 ≡ start_place n j }
 {
-    let mut j: usize = 0;
-    while j < BLOCK {
+    for j in 0..BLOCK {
         at[j] = choose(j < n, 0, UNKNOWN);
-        j += 1;
     }
 }
 
@@ -52,11 +46,9 @@ pub fn least(at: &[u8]) -> u8
     ensures { Lowest at.now result 64 }
 {
     let mut low = UNKNOWN;
-    let mut j: usize = 0;
-    while j < BLOCK {
+    for j in 0..BLOCK {
         let place = at[j];
         low = if place < low { place } else { low };
-        j += 1;
     }
     low
 }
@@ -81,11 +73,9 @@ pub fn advance(at: &mut [u8], counts: &mut [u8], truths: &[u8], row: u8, holds: 
     ensures by_index { (j : ℕ) → j < 64 → get_or at.new j 0 ≡ next_place row holds fails (get_or at.old j 0) (get_or truths.now j 0) }
     ensures by_index_2 { (j : ℕ) → j < 64 → get_or counts.new j 0 ≡ next_count row (get_or at.old j 0) (get_or counts.old j 0) }
 {
-    let mut j: usize = 0;
-    while j < BLOCK {
+    for j in 0..BLOCK {
         let place = at[j];
         at[j] = next_place(place, row, truths[j], holds, fails);
         counts[j] = next_count(place, row, counts[j]);
-        j += 1;
     }
 }

@@ -1,30 +1,37 @@
--- Rests on the invariant that `all` of the bytes is `all` of those from i on.
-use mathlib.Core.Path.{sym, ◌∙◌}
-use Prim.Native.Nat.{◌-◌}
+-- Rests on the invariant that `all` of the bytes is `all` of those from the loop's place on.
+use mathlib.Core.Path.{◌≡◌, sym, ap, ◌∙◌}
+use mathlib.Core.Bool.{Bool}
+use mathlib.Core.List.{List}
+use Prim.Native.Nat.{ℕ, ◌+◌, ◌-◌, ◌<◌}
 use native.Mathlib.Omega.{arith}
+use lib.ListN.{length, get_or, take, drop}
+use Rattle.std.proofs.lemmas.List.{take_rest}
 use Rattle.content.specs.Content.{all}
 use Rattle.content.specs.Letters.{in_alphabet}
 use Rattle.content.proofs.Bytes.{all_then, all_end, all_past}
 use Rattle.alphabets.proofs.all_in_alphabet.Goals as goal
 
-pub loop-i-init : goal.loop-i-init
-loop-i-init c =
-    let (within, pass) = c.alphabet_blocks-i.ensures in
-    (within, all_past _ c.args.bytes.now c.alphabet_blocks-i.result pass)
+pub loop-b-init : goal.loop-b-init
+loop-b-init c = let (within, pass) = c.alphabet_blocks-first.ensures in all_past _ c.args.bytes.now c.alphabet_blocks-first.result pass
 
 pub returns-then-not-in_alphabet : goal.returns-then-not-in_alphabet
 returns-then-not-in_alphabet c =
-    let l = c.loop-i in
-    let bytes = c.args.bytes.now in
+    let l = c.loop-b in
+    let rest = take_rest c.args.bytes.now c.alphabet_blocks-first.result in
+    let within = c.loop-b-test.true in
     let fails = sym c.in_alphabet.ensures ∙ c.if-not-in_alphabet.true in
-    sym (l.invariant.1 ∙ all_then _ bytes l.i c.loop-i-test.true fails)
+    sym (l.invariant ∙ all_then _ (drop c.alphabet_blocks-first.result c.args.bytes.now) l.b-index (rw rest at within) (rw rest at fails))
 
-pub loop-i-preserved : goal.loop-i-preserved
-loop-i-preserved c =
-    let l = c.loop-i in
-    let bytes = c.args.bytes.now in
+pub loop-b-preserved : goal.loop-b-preserved
+loop-b-preserved c =
+    let l = c.loop-b in
+    let rest = take_rest c.args.bytes.now c.alphabet_blocks-first.result in
+    let within = c.loop-b-test.true in
     let holds = sym c.in_alphabet.ensures ∙ c.if-not-in_alphabet.false in
-    (omega arith, l.invariant.1 ∙ all_then _ bytes l.i c.loop-i-test.true holds)
+    l.invariant ∙ all_then _ (drop c.alphabet_blocks-first.result c.args.bytes.now) l.b-index (rw rest at within) (rw rest at holds)
 
 pub returns : goal.returns
-returns c = sym (c.loop-i.invariant.1 ∙ all_end _ c.args.bytes.now _ c.loop-i-test.false)
+returns c =
+    let rest = take_rest c.args.bytes.now c.alphabet_blocks-first.result in
+    let past = c.loop-b-test.false in
+    sym (c.loop-b.invariant ∙ all_end _ (drop c.alphabet_blocks-first.result c.args.bytes.now) _ (rw rest at past))

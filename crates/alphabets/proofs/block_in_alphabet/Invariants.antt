@@ -1,13 +1,9 @@
--- Rests on the invariant that `fine` is `all` of the first k bytes.
+-- Rests on the invariant that `fine` is `all` of the bytes that were passed.
 use mathlib.Core.Path.{◌≡◌}
-use Prim.Native.Nat.{◌-◌, ◌≤◌}
 use lib.ListN.{take}
 use Rattle.content.specs.Content.{all}
 use Rattle.content.specs.Letters.{in_alphabet}
 use Rattle.alphabets.proofs.block_in_alphabet.Given as goal
 
-abbrev pub invariant-loop-k : goal.invariant-loop-k
-invariant-loop-k l = (l.k ≤ 16) × (l.fine ≡ all (in_alphabet l.word) (take l.k l.bytes))
-
-abbrev pub decreases-loop-k : goal.decreases-loop-k
-decreases-loop-k l = 16 - l.k
+abbrev pub invariant-loop-b : goal.invariant-loop-b
+invariant-loop-b l = l.fine ≡ all (in_alphabet l.word) (take l.b-index (take 16 l.bytes))

@@ -12,10 +12,7 @@ use Rattle.places.proofs.least.Goals as goal
 pub loop-j-preserved : goal.loop-j-preserved
 loop-j-preserved c =
     let l = c.loop-j in
-    let S = l.invariant.1 in (
-      omega arith,
-      elim (cases_lt (get_or c.args.at.now l.j 0) l.low) [
-        | inl less ↦ subst (λ n. Lowest c.args.at.now n (l.j + 1)) (omega arith) (lower S less)
-        | inr least ↦ subst (λ n. Lowest c.args.at.now n (l.j + 1)) (omega arith) (no_lower S least)
-      ],
-    )
+    elim (cases_lt (get_or c.args.at.now l.j 0) l.low) [
+      | inl less ↦ subst (λ n. Lowest c.args.at.now n (l.j + 1)) (omega arith) (lower l.invariant less)
+      | inr least ↦ subst (λ n. Lowest c.args.at.now n (l.j + 1)) (omega arith) (no_lower l.invariant least)
+    ]

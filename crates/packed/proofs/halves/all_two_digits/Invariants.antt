@@ -1,13 +1,9 @@
--- `all_two_digits` meets its contract. The loop's invariant: `fine` says whether the first `k` bytes hold two digits each. Assumes nothing.
+-- `all_two_digits` meets its contract. The loop's invariant: `fine` says whether the bytes that were passed hold two digits each. Assumes nothing.
 use mathlib.Core.Path.{◌≡◌}
-use Prim.Native.Nat.{◌-◌, ◌≤◌}
-use lib.ListN.{length, take}
+use lib.ListN.{take}
 use Rattle.content.specs.Content.{all}
 use Rattle.content.specs.Packed.{two_digits}
 use Rattle.packed.proofs.halves.all_two_digits.Given as goal
 
-abbrev pub invariant-loop-k : goal.invariant-loop-k
-invariant-loop-k l = (l.k ≤ length l.bytes) × (l.fine ≡ all two_digits (take l.k l.bytes))
-
-abbrev pub decreases-loop-k : goal.decreases-loop-k
-decreases-loop-k l = length l.bytes - l.k
+abbrev pub invariant-loop-b : goal.invariant-loop-b
+invariant-loop-b l = l.fine ≡ all two_digits (take l.b-index l.bytes)
