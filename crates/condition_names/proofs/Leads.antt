@@ -14,8 +14,6 @@ use Rattle.description.specs.Machine.{bind, after}
 use Rattle.description.specs.Grammar.{bytes, ended, Literal, Value, single, range}
 use Rattle.description.specs.Reader.{is_some, given, unended, unspelt, spelling, read_literal, Naming, values, labelled, Reading, faulty}
 use Rattle.description.specs.Stages.{inked, blanks, reach, common, joined, is_period, literal_at, literal_reach, is_literal, is_ended, spelled, spelled_from, spelled_at, literal_in}
-use Rattle.description.specs.declared.Reached.{Reached}
-use Rattle.description.specs.declared.Reached.TheVariants as Reached
 use Rattle.description.specs.declared.Spelled.{Spelled}
 use Rattle.description.specs.declared.Spelled.TheVariants as Spelled
 use Rattle.description.proofs.Bytes.{apart, eqb_no, is_some_lem, given-some, bind-some, unended_is}
@@ -28,6 +26,7 @@ use Rattle.condition_names.specs.Values.{alone, ranging, high_read, high_at, thr
 use Rattle.condition_names.specs.declared.Found.{Found}
 use Rattle.condition_names.specs.declared.ValueRead.{ValueRead}
 use Rattle.condition_names.specs.declared.ValueRead.TheVariants as ValueRead
+use Rattle.std.specs.Prelude.{Err, Ok, Result}
 
 -- what a value leads to
 abbrev pub on_read : List ℕ → Naming → ℕ → List Value → ValueRead → Reading
@@ -41,10 +40,10 @@ module _ (text : List ℕ) (h : Naming) (n : ℕ) (vs : List Value) where
   after_high p k q (Spelled.Ended e) = refl
   after_high p k q (Spelled.Fault e) = refl
 
-  after-thru : (p k : ℕ) (x : Reached) →
+  after-thru : (p k : ℕ) (x : Result ℕ ℕ) →
       on_reached text (values h n vs (some (literal_in text p k))) (Rattle.description.specs.Reader.high h n vs (literal_in text p k)) x ≡ on_read text h n vs (thru_read text p k x)
-  after-thru p k (Reached.Word m) = high_leads text m h n vs (literal_in text p k) ∙ after_high p k (inked text m) (spelled_at text m)
-  after-thru p k (Reached.Fault m) = refl
+  after-thru p k (Ok m) = high_leads text m h n vs (literal_in text p k) ∙ after_high p k (inked text m) (spelled_at text m)
+  after-thru p k (Err m) = refl
 
   after_low : (p : ℕ) (x : Spelled) → on_value text h n vs p x ≡ on_read text h n vs (low_read text p x)
   after_low p (Spelled.Open k) = by (eqb (get_or text (inked text k) 0) 0x54) refl
@@ -66,12 +65,12 @@ module _ (text : List ℕ) (h : Naming) (n : ℕ) (vs : List Value) where
 inked_from : (text : List ℕ) (n : ℕ) → n ≤ inked text n
 inked_from text n = omega arith
 
-pub word-within : (word text : List ℕ) (n m : ℕ) → n ≤ length text → literal_at word text n ≡ Reached.Word m → (n ≤ m) × (m ≤ length text)
+pub word-within : (word text : List ℕ) (n m : ℕ) → n ≤ length text → literal_at word text n ≡ Ok m → (n ≤ m) × (m ≤ length text)
 word-within word text n m l e = by (eqb (inked text n) n) (eqb (common word (drop (inked text n) text)) (length word)) e
   where
     by : (a b : Bool) →
-        cond a (Reached.Fault n) (cond b (Reached.Word (inked text n + common word (drop (inked text n) text)))
-        (Reached.Fault (inked text n + common word (drop (inked text n) text)))) ≡ Reached.Word m →
+        cond a (Err n) (cond b (Ok (inked text n + common word (drop (inked text n) text)))
+        (Err (inked text n + common word (drop (inked text n) text)))) ≡ Ok m →
         (n ≤ m) × (m ≤ length text)
     by true b e = let z : ◌≡◌ {A = ℕ} 0 1 = cc in absurd (omega arith)
     by false true e =
@@ -178,11 +177,11 @@ high_goes text n p k m i a b (Spelled.Ended e) f =
     (stands_ranging text n m p k (inked text m) e i j.0, omega (arith, j.0.past, j.0.starts, i.past, i.starts), j.1)
 high_goes text n p k m i a b (Spelled.Fault e) f = tt
 
-thru_goes : (text : List ℕ) (n p k : ℕ) → Lies text n p k → (x : Reached) → literal_at (bytes "THRU") text k ≡ x → Goes text n (thru_read text p k x)
-thru_goes text n p k i (Reached.Word m) f =
+thru_goes : (text : List ℕ) (n p k : ℕ) → Lies text n p k → (x : Result ℕ ℕ) → literal_at (bytes "THRU") text k ≡ x → Goes text n (thru_read text p k x)
+thru_goes text n p k i (Ok m) f =
     let j = word-within (bytes "THRU") text k m i.ends f in
     high_goes text n p k m i j.0 j.1 (spelled_at text m) refl
-thru_goes text n p k i (Reached.Fault m) f = tt
+thru_goes text n p k i (Err m) f = tt
 
 pub value_goes : (text : List ℕ) (n : ℕ) → n ≤ length text → Goes text n (value_at text n)
 value_goes text n l = by (spelled_at text n) refl

@@ -2,13 +2,12 @@
 use Rattle.std.specs.Prelude.{◌≡◌, Bool, true, false, cond, List, [], ◌∷◌, ◌++◌, ℕ, ◌+◌, ◌-◌, ◌≤◌, ◌<◌, eqb, length, get_or, take, drop}
 use Rattle.description.specs.Grammar.{bytes, Literal, Value, single, range}
 use Rattle.description.specs.Stages.{inked, literal_at, spelled_at, literal_in, is_literal}
-use Rattle.description.specs.declared.Reached.{Reached}
-use Rattle.description.specs.declared.Reached.TheVariants as Reached
 use Rattle.description.specs.declared.Spelled.{Spelled}
 use Rattle.description.specs.declared.Spelled.TheVariants as Spelled
 use Rattle.condition_names.specs.declared.Found.{Found}
 use Rattle.condition_names.specs.declared.ValueRead.{ValueRead}
 use Rattle.condition_names.specs.declared.ValueRead.TheVariants as ValueRead
+use Rattle.std.specs.Prelude.{Err, Ok, Result}
 
 abbrev pub alone : ℕ → ℕ → Found
 alone p k = record { low = p; mid = k; high = p; end = k; range = false }
@@ -25,9 +24,9 @@ high_read p k q (Spelled.Fault e) = ValueRead.Fault e
 abbrev pub high_at : List ℕ → ℕ → ℕ → ℕ → ValueRead
 high_at text p k n = high_read p k (inked text n) (spelled_at text n)
 
-abbrev pub thru_read : List ℕ → ℕ → ℕ → Reached → ValueRead
-thru_read text p k (Reached.Word n) = high_at text p k n
-thru_read text p k (Reached.Fault n) = ValueRead.Fault n
+abbrev pub thru_read : List ℕ → ℕ → ℕ → Result ℕ ℕ → ValueRead
+thru_read text p k (Ok n) = high_at text p k n
+thru_read text p k (Err n) = ValueRead.Fault n
 
 abbrev pub thru_at : List ℕ → ℕ → ℕ → ValueRead
 thru_at text p k = thru_read text p k (literal_at (bytes "THRU") text k)

@@ -3,7 +3,7 @@ ghost use Rattle.std.specs.Prelude.{◌≡◌, ◌≤◌, length};
 ghost use Rattle.condition_names.specs.Values.{value_at, thru_at, high_at};
 
 use crate::{Found, ValueRead};
-use description::{Reached, Spelled};
+use description::Spelled;
 use literal_spans::spans::spelled_at;
 use text_bytes::blanks::next_ink;
 use text_bytes::bytes::byte_at;
@@ -45,8 +45,8 @@ fn thru_at(text: &[u8], low: usize, mid: usize) -> ValueRead
     ensures { result ≡ thru_at text.now low mid }
 {
     match literal(b"THRU", text, mid) {
-        Reached::Word(k) => high_at(text, low, mid, k),
-        Reached::Fault(k) => ValueRead::Fault(k),
+        Ok(k) => high_at(text, low, mid, k),
+        Err(k) => ValueRead::Fault(k),
     }
 }
 

@@ -26,7 +26,6 @@ use Rattle.entries.specs.Entries.{noted, cap_noted, cap_entry, item_of, called_o
 use Rattle.levels.specs.declared.Entered.{Entered}
 use Rattle.levels.specs.declared.Entered.TheVariants.{Depth, Not}
 use Rattle.description.specs.declared.Clauses.{Clauses}
-use Rattle.description.specs.declared.Clauses.TheVariants as Clauses
 use Rattle.description.specs.declared.Called.{Called}
 use Rattle.description.specs.declared.Called.TheVariants as Called
 use Rattle.entries.proofs.Bounds.{Wholes}
@@ -44,9 +43,9 @@ use Rattle.describer.proofs.Past.{found, beyond_item, beyond_step}
 use Rattle.noting.proofs.Flat.{kept, held_there, noted-same, noted_snoc}
 
 -- Without an item before it no entry is one of level 88.
-no_item : (l d p n : ℕ) (x : Clauses) → item_of l d p n x ≡ Name → ⊥
-no_item l d p n (Clauses.Ended c s t u k) e = let z : ◌≡◌ {A = ℕ} 0 1 = cc in omega arith
-no_item l d p n (Clauses.Fault k) e = let z : ◌≡◌ {A = ℕ} 0 1 = cc in omega arith
+no_item : (l d p n : ℕ) (x : Result Clauses ℕ) → item_of l d p n x ≡ Name → ⊥
+no_item l d p n (Ok x) e = let z : ◌≡◌ {A = ℕ} 0 1 = cc in omega arith
+no_item l d p n (Err k) e = let z : ◌≡◌ {A = ℕ} 0 1 = cc in omega arith
 
 no_called : (text : List ℕ) (l d p : ℕ) (x : Called) → called_of text l d p x ≡ Name → ⊥
 no_called text l d p (Called.Item k) e = no_item l d p (inked text (p + 2)) (clauses_at text k) e

@@ -16,8 +16,6 @@ use Rattle.description.specs.Reader.{is_some, given, or_else, prefix, unended, e
 use Rattle.description.specs.Reader.{begins_literal, Naming, State, label, value, values, high, alone, thru, labelled, next, begins, parts_of}
 use Rattle.description.specs.Reader.{Reading, faulty}
 use Rattle.description.specs.Stages.{inked, reach, joined, name_reach, is_period, literal_at, label_from, label_at, literal_reach, is_literal, is_ended, spelled, spelled_from, spelled_at, literal_in}
-use Rattle.description.specs.declared.Reached.{Reached}
-use Rattle.description.specs.declared.Reached.TheVariants as Reached
 use Rattle.description.specs.declared.Spelled.{Spelled}
 use Rattle.description.specs.declared.Spelled.TheVariants as Spelled
 use Rattle.description.proofs.Machine.{after_lives, after-some}
@@ -27,6 +25,7 @@ use Rattle.description.proofs.Literals as L
 use Rattle.description.proofs.Stages.{Middle, no_word, word-leads, word_reach, leads, reach_le}
 use Rattle.description.proofs.Phases.{reach-agree, on_reached, literal-leads, first, or_nothing}
 use Rattle.description.proofs.Ended.{Ends, reach-ended, byte_after, with_period}
+use Rattle.std.specs.Prelude.{Err, Ok}
 
 -- The name of the entry.
 module _ (text : List ℕ) (e : ℕ) (h : Naming) where
@@ -35,7 +34,7 @@ module _ (text : List ℕ) (e : ℕ) (h : Naming) where
   label_middle = record { unended = refl; asks = λ p. refl }
 
   label_decided : (p m : ℕ) (bs : List ℕ) (c : Bool) → is_name (take m bs) ≡ c →
-      leads text (next (label h) p (take m bs)) (label h) (p + m) ≡ on_reached text (label h) (value h p) (cond c (Reached.Word (p + m)) (Reached.Fault (p + m)))
+      leads text (next (label h) p (take m bs)) (label h) (p + m) ≡ on_reached text (label h) (value h p) (cond c (Ok (p + m)) (Err (p + m)))
   unfolding next
   label_decided p m bs true i = rw i
   label_decided p m bs false i = rw i
@@ -45,7 +44,7 @@ module _ (text : List ℕ) (e : ℕ) (h : Naming) where
   label_leads = by (eqb (inked text e) e) refl
     where
       by : (t : Bool) → eqb (inked text e) e ≡ t →
-          joined text e (label h) ≡ on_reached text (label h) (value h (inked text e)) (cond t (Reached.Fault e) (label_from text (inked text e)))
+          joined text e (label h) ≡ on_reached text (label h) (value h (inked text e)) (cond t (Err e) (label_from text (inked text e)))
       by true i = no_word text e (label h) label_middle (eqb-true (inked text e) e i)
       by false i =
           word-leads text e (label h) label_middle (eqb-false (inked text e) e i)

@@ -15,16 +15,12 @@ use Rattle.description.specs.Machine.{after, result}
 use Rattle.description.specs.Stages.{inked, common, met, literal_at, is_period, name_reach, name_from, name_at, called_at, picture_reach, shape_from}
 use Rattle.description.specs.Stages.{ended_picture, open_picture, pictured, picture_from, picture_at, sided, side_at, after_separate, after_side, after_sign}
 use Rattle.description.specs.Stages.{sign_at, after_packed, packed_at, usage_at, after_picture, after_pic, clauses_at, is_eight, leveled, level_at, reach}
-use Rattle.description.specs.declared.Reached.{Reached}
-use Rattle.description.specs.declared.Reached.TheVariants as Reached
 use Rattle.description.specs.declared.Called.{Called}
 use Rattle.description.specs.declared.Called.TheVariants as Called
 use Rattle.description.specs.declared.Pictured.{Pictured}
 use Rattle.description.specs.declared.Pictured.TheVariants as Pictured
 use Rattle.description.specs.declared.Sided.{Sided}
-use Rattle.description.specs.declared.Sided.TheVariants as Sided
 use Rattle.description.specs.declared.Clauses.{Clauses}
-use Rattle.description.specs.declared.Clauses.TheVariants as Clauses
 use Rattle.description.specs.declared.Leveled.{Leveled}
 use Rattle.description.specs.declared.Leveled.TheVariants as Leveled
 use Rattle.description.proofs.Bytes.{apart, and_both}
@@ -37,19 +33,20 @@ use Rattle.levels.proofs.Stack.{digits_of, digit_range}
 use Rattle.entries.specs.Entries.{item_of, item_at, called_of, named_at}
 use Rattle.entries.specs.declared.EntryRead.{EntryRead}
 use Rattle.entries.specs.declared.EntryRead.TheVariants.{Whole, Name, Fault}
+use Rattle.std.specs.Prelude.{Err, Ok, Result}
 
 -- A word that was looked for from n on ends within the text, and after n where it is one. A kind is not 0, and no scale is above its digits.
-abbrev pub Reaches : List ℕ → ℕ → Reached → Type 0
-Reaches text n (Reached.Word k) = (n < k) × (k ≤ length text)
-Reaches text n (Reached.Fault k) = k ≤ length text
+abbrev pub Reaches : List ℕ → ℕ → Result ℕ ℕ → Type 0
+Reaches text n (Ok k) = (n < k) × (k ≤ length text)
+Reaches text n (Err k) = k ≤ length text
 
-abbrev pub SidesAt : List ℕ → ℕ → Sided → Type 0
-SidesAt text n (Sided.Side c k) = (0 < c) × ((n < k) × (k ≤ length text))
-SidesAt text n (Sided.Fault k) = k ≤ length text
+abbrev pub SidesAt : List ℕ → ℕ → Result Sided ℕ → Type 0
+SidesAt text n (Ok s) = (0 < s.kind) × ((n < s.end) × (s.end ≤ length text))
+SidesAt text n (Err k) = k ≤ length text
 
-abbrev pub Ends : List ℕ → ℕ → Clauses → Type 0
-Ends text n (Clauses.Ended c s d t k) = ((0 < c) × (d ≤ t)) × ((n < k) × (k ≤ length text))
-Ends text n (Clauses.Fault k) = k ≤ length text
+abbrev pub Ends : List ℕ → ℕ → Result Clauses ℕ → Type 0
+Ends text n (Ok x) = ((0 < x.kind) × (x.scale ≤ x.digits)) × ((n < x.end) × (x.end ≤ length text))
+Ends text n (Err k) = k ≤ length text
 
 abbrev pub Draws : List ℕ → ℕ → Pictured → Type 0
 Draws text n (Pictured.Ended c s d t k) = ((0 < c) × (d ≤ t)) × ((n < k) × (k ≤ length text))
@@ -85,11 +82,11 @@ module _ (text : List ℕ) (n : ℕ) (l : n ≤ length text) where
       le = omega (arith, inked_le text n l, common_le word (drop (inked text n) text), length-drop (inked text n) text)
 
       at : (t : Bool) → ¬ (inked text n ≡ n) →
-          Reaches text n (cond t (Reached.Word (inked text n + common word (drop (inked text n) text))) (Reached.Fault (inked text n + common word (drop (inked text n) text))))
+          Reaches text n (cond t (Ok (inked text n + common word (drop (inked text n) text))) (Err (inked text n + common word (drop (inked text n) text))))
       at true h = (omega (arith, inked-after h), le)
       at false h = le
 
-      by : (t : Bool) → eqb (inked text n) n ≡ t → Reaches text n (cond t (Reached.Fault n) (met (length word) (inked text n) (common word (drop (inked text n) text))))
+      by : (t : Bool) → eqb (inked text n) n ≡ t → Reaches text n (cond t (Err n) (met (length word) (inked text n) (common word (drop (inked text n) text))))
       by true h = l
       by false h = at (eqb (common word (drop (inked text n) text)) (length word)) (eqb-false (inked text n) n h)
 
@@ -117,9 +114,9 @@ module _ (text : List ℕ) (n : ℕ) (l : n ≤ length text) where
   pub side_reaches : SidesAt text n (side_at text n)
   side_reaches = by (eqb (get_or text (inked text n) 0) 0x54) (literal_reaches (bytes "TRAILING")) (literal_reaches (bytes "LEADING"))
     where
-      at : (c : ℕ) → 0 < c → (x : Reached) → Reaches text n x → SidesAt text n (sided c x)
-      at c h (Reached.Word k) r = (h, r)
-      at c h (Reached.Fault k) r = r
+      at : (c : ℕ) → 0 < c → (x : Result ℕ ℕ) → Reaches text n x → SidesAt text n (sided c x)
+      at c h (Ok k) r = (h, r)
+      at c h (Err k) r = r
 
       by : (t : Bool) → Reaches text n (literal_at (bytes "TRAILING") text n) → Reaches text n (literal_at (bytes "LEADING") text n) →
           SidesAt text n (cond t (sided 6 (literal_at (bytes "TRAILING") text n)) (sided 5 (literal_at (bytes "LEADING") text n)))
@@ -166,29 +163,29 @@ module _ (text : List ℕ) (n : ℕ) (l : n ≤ length text) where
       by false h = at (eqb-false (inked text n) n h) (shape_from text (inked text n)) (is_period text (inked text n + picture_reach text (inked text n))) refl refl
 
 -- Clauses end after where they begin.
-further : (text : List ℕ) (n k : ℕ) (x : Clauses) → n < k → Ends text k x → Ends text n x
-further text n k (Clauses.Ended c s d t e) h r = (r.0, (omega (arith, r.1.0), r.1.1))
-further text n k (Clauses.Fault e) h r = r
+further : (text : List ℕ) (n k : ℕ) (x : Result Clauses ℕ) → n < k → Ends text k x → Ends text n x
+further text n k (Ok x) h r = (r.0, (omega (arith, r.1.0), r.1.1))
+further text n k (Err e) h r = r
 
 module _ (text : List ℕ) where
-  separate_ends : (c i j : ℕ) → 0 < c → (n : ℕ) (x : Reached) → Reaches text n x → Ends text n (after_separate c i j x)
-  separate_ends c i j h n (Reached.Word k) r = ((h, omega arith), r)
-  separate_ends c i j h n (Reached.Fault k) r = r
+  separate_ends : (c i j : ℕ) → 0 < c → (n : ℕ) (x : Result ℕ ℕ) → Reaches text n x → Ends text n (after_separate c i j x)
+  separate_ends c i j h n (Ok k) r = ((h, omega arith), r)
+  separate_ends c i j h n (Err k) r = r
 
-  side-ends : (i j n : ℕ) (x : Sided) → SidesAt text n x → Ends text n (after_side text i j x)
-  side-ends i j n (Sided.Side c k) r =
-      further text n k (after_separate c i j (literal_at (ended (bytes "SEPARATE")) text k)) r.1.0
-      (separate_ends c i j r.0 k (literal_at (ended (bytes "SEPARATE")) text k) (literal_reaches text k r.1.1 (ended (bytes "SEPARATE"))))
-  side-ends i j n (Sided.Fault k) r = r
+  side-ends : (i j n : ℕ) (x : Result Sided ℕ) → SidesAt text n x → Ends text n (after_side text i j x)
+  side-ends i j n (Ok s) r =
+      further text n s.end (after_separate s.kind i j (literal_at (ended (bytes "SEPARATE")) text s.end)) r.1.0
+      (separate_ends s.kind i j r.0 s.end (literal_at (ended (bytes "SEPARATE")) text s.end) (literal_reaches text s.end r.1.1 (ended (bytes "SEPARATE"))))
+  side-ends i j n (Err k) r = r
 
-  sign_word-ends : (i j n : ℕ) (x : Reached) → Reaches text n x → Ends text n (after_sign text i j x)
-  sign_word-ends i j n (Reached.Word k) r = further text n k (after_side text i j (side_at text k)) r.0 (side-ends i j k (side_at text k) (side_reaches text k r.1))
-  sign_word-ends i j n (Reached.Fault k) r = r
+  sign_word-ends : (i j n : ℕ) (x : Result ℕ ℕ) → Reaches text n x → Ends text n (after_sign text i j x)
+  sign_word-ends i j n (Ok k) r = further text n k (after_side text i j (side_at text k)) r.0 (side-ends i j k (side_at text k) (side_reaches text k r.1))
+  sign_word-ends i j n (Err k) r = r
 
-  packed_ends : (s : Bool) (i j n : ℕ) (x : Reached) → Reaches text n x → Ends text n (after_packed s i j x)
-  packed_ends true i j n (Reached.Word k) r = ((omega arith, omega arith), r)
-  packed_ends false i j n (Reached.Word k) r = ((omega arith, omega arith), r)
-  packed_ends s i j n (Reached.Fault k) r = r
+  packed_ends : (s : Bool) (i j n : ℕ) (x : Result ℕ ℕ) → Reaches text n x → Ends text n (after_packed s i j x)
+  packed_ends true i j n (Ok k) r = ((omega arith, omega arith), r)
+  packed_ends false i j n (Ok k) r = ((omega arith, omega arith), r)
+  packed_ends s i j n (Err k) r = r
 
   usage_ends : (s : Bool) (i j n : ℕ) → n ≤ length text → Ends text n (usage_at s i j text n)
   unfolding usage_at sign_at packed_at
@@ -203,17 +200,17 @@ module _ (text : List ℕ) where
   picture_ends n (Pictured.Number s i j k) r = further text n k (usage_at s i j text k) r.0 (usage_ends s i j k r.1)
   picture_ends n (Pictured.Fault k) r = r
 
-  pic_ends : (n : ℕ) (x : Reached) → Reaches text n x → Ends text n (after_pic text x)
-  pic_ends n (Reached.Word k) r = further text n k (after_picture text (picture_at text k)) r.0 (picture_ends k (picture_at text k) (picture_draws text k r.1))
-  pic_ends n (Reached.Fault k) r = r
+  pic_ends : (n : ℕ) (x : Result ℕ ℕ) → Reaches text n x → Ends text n (after_pic text x)
+  pic_ends n (Ok k) r = further text n k (after_picture text (picture_at text k)) r.0 (picture_ends k (picture_at text k) (picture_draws text k r.1))
+  pic_ends n (Err k) r = r
 
   pub clauses_end : (n : ℕ) → n ≤ length text → Ends text n (clauses_at text n)
   unfolding clauses_at
   clauses_end n l = pic_ends n (literal_at (bytes "PIC") text n) (literal_reaches text n l (bytes "PIC"))
 
-  item_whole : (l d p n k : ℕ) (x : Clauses) → p + 4 ≤ k → Ends text k x → Wholes text p (item_of l d p n x)
-  item_whole l d p n k (Clauses.Ended c s t u e) h r = (r.0.1, (omega (arith, r.1.0), r.1.1))
-  item_whole l d p n k (Clauses.Fault e) h r = r
+  item_whole : (l d p n k : ℕ) (x : Result Clauses ℕ) → p + 4 ≤ k → Ends text k x → Wholes text p (item_of l d p n x)
+  item_whole l d p n k (Ok x) h r = (r.0.1, (omega (arith, r.1.0), r.1.1))
+  item_whole l d p n k (Err e) h r = r
 
   called_whole : (l d p : ℕ) (x : Called) → Names text (p + 2) x → Wholes text p (called_of text l d p x)
   called_whole l d p (Called.Item k) r = item_whole l d p (inked text (p + 2)) k (clauses_at text k) (omega (arith, r.0)) (clauses_end k r.1)

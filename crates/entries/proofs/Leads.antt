@@ -13,7 +13,6 @@ use Rattle.description.specs.Stages.{inked, name_at, clauses_at, level_at, onwar
 use Rattle.description.specs.declared.Called.{Called}
 use Rattle.description.specs.declared.Called.TheVariants as Called
 use Rattle.description.specs.declared.Clauses.{Clauses}
-use Rattle.description.specs.declared.Clauses.TheVariants as Clauses
 use Rattle.description.specs.declared.Leveled.{Leveled}
 use Rattle.description.specs.declared.Leveled.TheVariants as Leveled
 use Rattle.description.proofs.Bytes.{eqb_no}
@@ -25,6 +24,7 @@ use Rattle.levels.specs.declared.Entered.TheVariants.{Depth, Not}
 use Rattle.levels.specs.Stack.{groups_of, entered_by, topped, topped_by}
 use Rattle.levels.proofs.Stack.{enter_is, AtMost, entered_le}
 use Rattle.entries.specs.Entries.{content_of, entry_of, noted, item_of, item_at, called_of, named_at, entered_at, leveled_at, entry_at}
+use Rattle.std.specs.Prelude.{Result, Ok, Err}
 use Rattle.entries.specs.declared.Noted.{Noted}
 use Rattle.entries.specs.declared.EntryRead.{EntryRead}
 use Rattle.entries.specs.declared.EntryRead.TheVariants.{Whole, Name, Fault}
@@ -40,9 +40,9 @@ on_entry stack g p text es Name = joined text (p + 2) (label (naming g p es))
 on_entry stack g p text es (Fault k) = faulty es k
 
 module _ (stack : List ℕ) (g : Groups) (text : List ℕ) (es : Parts) where
-  item_leads : (l d p n k : ℕ) (x : Clauses) → Ends text k x → on_clauses text (started (topped stack l d) l p es) n x ≡ on_entry stack g p text es (item_of l d p n x)
-  item_leads l d p n k (Clauses.Ended c s t u e) r = rw (eqb_no c 0 (λ h. omega (arith, r.0.0)))
-  item_leads l d p n k (Clauses.Fault e) r = refl
+  item_leads : (l d p n k : ℕ) (x : Result Clauses ℕ) → Ends text k x → on_clauses text (started (topped stack l d) l p es) n x ≡ on_entry stack g p text es (item_of l d p n x)
+  item_leads l d p n k (Ok x) r = rw (eqb_no x.kind 0 (λ h. omega (arith, r.0.0)))
+  item_leads l d p n k (Err e) r = refl
 
   called-leads : (l d p : ℕ) (x : Called) → Names text (p + 2) x →
       on_called text (started (topped stack l d) l p es) (inked text (p + 2)) x ≡ on_entry stack g p text es (called_of text l d p x)
@@ -96,9 +96,9 @@ module _ (stack text : List ℕ) (es : Parts) (depth waiting : ℕ) (named : Boo
   Deep Name = Unit {0}
   Deep (Fault k) = Unit {0}
 
-  clauses_deep : (l d p n : ℕ) → (d ≤ depth + 1) × (l ≤ 99) → (x : Clauses) → Deep (item_of l d p n x)
-  clauses_deep l d p n h (Clauses.Ended c s t u k) = h
-  clauses_deep l d p n h (Clauses.Fault k) = tt
+  clauses_deep : (l d p n : ℕ) → (d ≤ depth + 1) × (l ≤ 99) → (x : Result Clauses ℕ) → Deep (item_of l d p n x)
+  clauses_deep l d p n h (Ok x) = h
+  clauses_deep l d p n h (Err k) = tt
 
   called_deep : (l d p : ℕ) → (d ≤ depth + 1) × (l ≤ 99) → (x : Called) → Deep (called_of text l d p x)
   called_deep l d p h (Called.Item k) = clauses_deep l d p (inked text (p + 2)) h (clauses_at text k)

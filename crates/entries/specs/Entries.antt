@@ -1,12 +1,11 @@
 -- Entries as the code reads them: exact, and with counts that stop at 65,536.
-use Rattle.std.specs.Prelude.{Bool, cond, List, ℕ, ◌+◌, min, eqb}
+use Rattle.std.specs.Prelude.{Bool, cond, List, ℕ, ◌+◌, min, eqb, Result, Ok, Err}
 use Rattle.description.specs.Grammar.{bytes, ended, Entry, entry, Content, group, item}
-use Rattle.description.specs.Stages.{inked, literal_at, sided, after_separate, after_picture, picture_at, clauses_at, name_at, level_at}
+use Rattle.description.specs.Stages.{inked, literal_at, sided, clauses, after_separate, after_picture, picture_at, clauses_at, name_at, level_at}
 use Rattle.description.specs.declared.Sided.{Sided}
 use Rattle.description.specs.declared.Called.{Called}
 use Rattle.description.specs.declared.Called.TheVariants as Called
 use Rattle.description.specs.declared.Clauses.{Clauses}
-use Rattle.description.specs.declared.Clauses.TheVariants as Clauses
 use Rattle.description.specs.declared.Leveled.{Leveled}
 use Rattle.description.specs.declared.Leveled.TheVariants as Leveled
 use Rattle.levels.specs.declared.Entered.{Entered}
@@ -20,25 +19,28 @@ use Rattle.content.specs.Kinds.{kind_group}
 abbrev pub cap : ℕ → ℕ
 cap n = min n 65536
 
-abbrev pub sided_by : List ℕ → ℕ → List ℕ → ℕ → Sided
+abbrev pub sided_by : List ℕ → ℕ → List ℕ → ℕ → Result Sided ℕ
 sided_by word kind text n = sided kind (literal_at word text n)
 
-abbrev pub separate_at : ℕ → ℕ → ℕ → List ℕ → ℕ → Clauses
+abbrev pub separate_at : ℕ → ℕ → ℕ → List ℕ → ℕ → Result Clauses ℕ
 separate_at kind i j text n = after_separate kind i j (literal_at (ended (bytes "SEPARATE")) text n)
 
-abbrev pub picture_clause : List ℕ → ℕ → Clauses
+abbrev pub picture_clause : List ℕ → ℕ → Result Clauses ℕ
 picture_clause text n = after_picture text (picture_at text n)
 
-abbrev pub cap_clauses : Clauses → Clauses
-cap_clauses (Clauses.Ended kind size scale digits k) = Clauses.Ended kind (cap size) (cap scale) (cap digits) k
-cap_clauses (Clauses.Fault k) = Clauses.Fault k
+abbrev pub cap_ended : Clauses → Clauses
+cap_ended x = clauses x.kind (cap x.size) (cap x.scale) (cap x.digits) x.end
+
+abbrev pub cap_clauses : Result Clauses ℕ → Result Clauses ℕ
+cap_clauses (Ok x) = Ok (cap_ended x)
+cap_clauses (Err k) = Err k
 
 abbrev pub noted : ℕ → ℕ → ℕ → ℕ → ℕ → ℕ → ℕ → Noted
 noted l p n k s c t = record { level = l; place = p; named = n; kind = k; size = s; scale = c; digits = t }
 
-abbrev pub item_of : ℕ → ℕ → ℕ → ℕ → Clauses → EntryRead
-item_of l d p n (Clauses.Ended kind size scale digits k) = Whole (noted l p n kind size scale digits) d k
-item_of l d p n (Clauses.Fault k) = Fault k
+abbrev pub item_of : ℕ → ℕ → ℕ → ℕ → Result Clauses ℕ → EntryRead
+item_of l d p n (Ok x) = Whole (noted l p n x.kind x.size x.scale x.digits) d x.end
+item_of l d p n (Err k) = Fault k
 
 -- an item whose name ends at k
 abbrev pub item_at : List ℕ → ℕ → ℕ → ℕ → ℕ → ℕ → EntryRead

@@ -5,7 +5,7 @@ ghost use Rattle.entries.specs.Entries.{entry_at, named_at, item_at, cap_entry};
 use crate::clauses::clauses_at;
 use crate::{EntryRead, Noted};
 use content::Row;
-use description::{Called, Clauses, Leveled};
+use description::{Called, Leveled};
 use levels::Entered;
 use levels::level::level_at;
 use levels::open::enter;
@@ -25,19 +25,19 @@ fn item_at(text: &[u8], level: u32, depth: usize, place: u32, named: u32, k: usi
     ensures { result ≡ cap_entry (item_at text.now level depth place named k) }
 {
     match clauses_at(text, k) {
-        Clauses::Ended(kind, size, scale, digits, end) => {
+        Ok(x) => {
             let noted = Noted {
                 level,
                 place,
                 named,
-                kind,
-                size,
-                scale,
-                digits,
+                kind: x.kind,
+                size: x.size,
+                scale: x.scale,
+                digits: x.digits,
             };
-            EntryRead::Whole(noted, depth, end)
+            EntryRead::Whole(noted, depth, x.end)
         }
-        Clauses::Fault(e) => EntryRead::Fault(e),
+        Err(e) => EntryRead::Fault(e),
     }
 }
 

@@ -13,8 +13,6 @@ use Rattle.description.specs.Grammar.{bytes, Value, pairs, literals}
 use Rattle.description.specs.Limits.{any_barred}
 use Rattle.description.specs.Reader.{is_name, begins_name, Naming, label, value, values}
 use Rattle.description.specs.Stages.{inked, joined, literal_at, name_reach, label_at}
-use Rattle.description.specs.declared.Reached.{Reached}
-use Rattle.description.specs.declared.Reached.TheVariants as Reached
 use Rattle.description.proofs.Stages.{reach_le}
 use Rattle.description.proofs.Phases.{on_reached}
 use Rattle.text_bytes.proofs.Laws.{inked_le}
@@ -32,6 +30,7 @@ use Rattle.name_entries.specs.declared.NameRead.{NameRead}
 use Rattle.name_entries.specs.declared.NameRead.TheVariants.{Whole, Fault}
 use Rattle.name_entries.proofs.Holding.{held_more}
 use Rattle.name_entries.proofs.Sparing.{Rest, rest_first, rest_more, spared_first}
+use Rattle.std.specs.Prelude.{Err, Ok}
 
 -- What has been read up to `at`, from n on.
 pub record Going (text : List ℕ) (n : ℕ) (item : Rules.Row) (start : Tally) (notes-before : List ℕ) (row notes : List ℕ) (t : Tally) (at : ℕ) : Type 0 where
@@ -135,12 +134,12 @@ pub begun : {text : List ℕ} {t : Tally} {row notes : List ℕ} → Ready text 
 begun r z = record { short = r.short; values = r.values; zeros = z; long = r.long; spans = r.spans; noted = r.noted }
 
 -- The name and VALUE before the values.
-to_value : (text : List ℕ) (n k : ℕ) → Reached.Word k ≡ label_at text n → (h : Naming) →
+to_value : (text : List ℕ) (n k : ℕ) → Ok k ≡ label_at text n → (h : Naming) →
     joined text n (label h) ≡ on_reached text (value h (inked text n)) (values h (inked text n) [] none) (literal_at (bytes "VALUE") text k)
 to_value text n k q h = label_leads text n h ∙ ap (on_reached text (label h) (value h (inked text n))) (sym q) ∙ value-leads text k h (inked text n)
 
 module _ (text : List ℕ) (n : ℕ) {item : Rules.Row} {start : Tally} {notes : List ℕ} where
-  pub label_fault : {e : ℕ} {row : List ℕ} → row ≡ replicate 18 0 → Reached.Fault e ≡ label_at text n → NamedBy text n item start notes (Fault e) row notes
+  pub label_fault : {e : ℕ} {row : List ℕ} → row ≡ replicate 18 0 → Err e ≡ label_at text n → NamedBy text n item start notes (Fault e) row notes
   label_fault z q =
       record {
         values = [];
@@ -149,8 +148,8 @@ module _ (text : List ℕ) (n : ℕ) {item : Rules.Row} {start : Tally} {notes :
         spared = spared_first z;
       }
 
-  module _ (k : ℕ) (q : Reached.Word k ≡ label_at text n) where
-    pub value-fault : {e : ℕ} {row : List ℕ} → row ≡ replicate 18 0 → Reached.Fault e ≡ literal_at (bytes "VALUE") text k → NamedBy text n item start notes (Fault e) row notes
+  module _ (k : ℕ) (q : Ok k ≡ label_at text n) where
+    pub value-fault : {e : ℕ} {row : List ℕ} → row ≡ replicate 18 0 → Err e ≡ literal_at (bytes "VALUE") text k → NamedBy text n item start notes (Fault e) row notes
     value-fault z s =
         record {
           values = [];
@@ -159,7 +158,7 @@ module _ (text : List ℕ) (n : ℕ) {item : Rules.Row} {start : Tally} {notes :
           spared = spared_first z;
         }
 
-    pub valued : {m : ℕ} (r : NameRead) {row-after notes-after : List ℕ} → n ≤ m → Reached.Word m ≡ literal_at (bytes "VALUE") text k →
+    pub valued : {m : ℕ} (r : NameRead) {row-after notes-after : List ℕ} → n ≤ m → Ok m ≡ literal_at (bytes "VALUE") text k →
         ValuesBy text m item start notes r row-after notes-after → NamedBy text n item start notes r row-after notes-after
     valued (Whole t e) l s v =
         let h = v.held in
@@ -177,11 +176,11 @@ module _ (text : List ℕ) (n : ℕ) {item : Rules.Row} {start : Tally} {notes :
           spared = v.spared;
         }
 
-pub label_within : (text : List ℕ) (n k : ℕ) → n ≤ length text → Reached.Word k ≡ label_at text n → (n ≤ k) × (k ≤ length text)
+pub label_within : (text : List ℕ) (n k : ℕ) → n ≤ length text → Ok k ≡ label_at text n → (n ≤ k) × (k ≤ length text)
 label_within text n k l q = by (eqb (inked text n) n) (is_name (take (name_reach text (inked text n)) (drop (inked text n) text))) (sym q)
   where
     by : (a b : Bool) →
-        cond a (Reached.Fault n) (cond b (Reached.Word (inked text n + name_reach text (inked text n))) (Reached.Fault (inked text n + name_reach text (inked text n)))) ≡ Reached.Word k →
+        cond a (Err n) (cond b (Ok (inked text n + name_reach text (inked text n))) (Err (inked text n + name_reach text (inked text n)))) ≡ Ok k →
         (n ≤ k) × (k ≤ length text)
     by true b e = let z : ◌≡◌ {A = ℕ} 0 1 = cc in absurd (omega arith)
     by false true e =

@@ -7,7 +7,6 @@ use crate::NameRead;
 use condition_names::ValueRead;
 use condition_names::scan::value_at;
 use content::Row;
-use description::Reached;
 use value_notes::Tally;
 use value_notes::notes::clear;
 use value_notes::taking::take_value;
@@ -61,10 +60,10 @@ pub fn read_name(
 {
     clear(row);
     match label_at(text, n) {
-        Reached::Word(k) => match literal(b"VALUE", text, k) {
-            Reached::Word(m) => read_values(text, m, item, start, row, notes),
-            Reached::Fault(e) => NameRead::Fault(e),
+        Ok(k) => match literal(b"VALUE", text, k) {
+            Ok(m) => read_values(text, m, item, start, row, notes),
+            Err(e) => NameRead::Fault(e),
         },
-        Reached::Fault(e) => NameRead::Fault(e),
+        Err(e) => NameRead::Fault(e),
     }
 }

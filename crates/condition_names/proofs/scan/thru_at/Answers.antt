@@ -8,4 +8,4 @@ pub high_at-requires : goal.high_at-requires
 high_at-requires c =
     let p3 = c in
     let p6 = p3 in
-    (word-within (bytes "THRU") p6.args.text.now p6.args.mid _ p6.requires (sym p3.literal.ensures ∙ c.in-Word.is)).1
+    (word-within (bytes "THRU") p6.args.text.now p6.args.mid _ p6.requires (sym p3.literal.ensures ∙ c.in-Ok.is)).1
