@@ -35,18 +35,18 @@ on_read text h n vs (ValueRead.Ended f e) = joined text e (labelled h n (vs ++ v
 on_read text h n vs (ValueRead.Fault k) = faulty h.earlier k
 
 module _ (text : List ℕ) (h : Naming) (n : ℕ) (vs : List Value) where
-  after_high : (p k q : ℕ) (x : Spelled) → on_high text h n vs (literal_in text p k) q x ≡ on_read text h n vs (high_read p k q x)
-  after_high p k q (Spelled.Open e) = refl
-  after_high p k q (Spelled.Ended e) = refl
-  after_high p k q (Spelled.Fault e) = refl
+  after_high : (p k q : ℕ) (x : Result Spelled ℕ) → on_high text h n vs (literal_in text p k) q x ≡ on_read text h n vs (high_read p k q x)
+  after_high p k q (Ok (Spelled.Open e)) = refl
+  after_high p k q (Ok (Spelled.Ended e)) = refl
+  after_high p k q (Err e) = refl
 
   after-thru : (p k : ℕ) (x : Result ℕ ℕ) →
       on_reached text (values h n vs (some (literal_in text p k))) (Rattle.description.specs.Reader.high h n vs (literal_in text p k)) x ≡ on_read text h n vs (thru_read text p k x)
   after-thru p k (Ok m) = high_leads text m h n vs (literal_in text p k) ∙ after_high p k (inked text m) (spelled_at text m)
   after-thru p k (Err m) = refl
 
-  after_low : (p : ℕ) (x : Spelled) → on_value text h n vs p x ≡ on_read text h n vs (low_read text p x)
-  after_low p (Spelled.Open k) = by (eqb (get_or text (inked text k) 0) 0x54) refl
+  after_low : (p : ℕ) (x : Result Spelled ℕ) → on_value text h n vs p x ≡ on_read text h n vs (low_read text p x)
+  after_low p (Ok (Spelled.Open k)) = by (eqb (get_or text (inked text k) 0) 0x54) refl
     where
       by : (t : Bool) → eqb (get_or text (inked text k) 0) 0x54 ≡ t →
           joined text k (values h n vs (some (literal_in text p k))) ≡ on_read text h n vs (cond t (thru_at text p k) (ValueRead.Open (alone p k) k))
@@ -55,8 +55,8 @@ module _ (text : List ℕ) (h : Naming) (n : ℕ) (vs : List Value) where
       by false e =
           literal-leads_on text k h n vs (some (literal_in text p k)) (inr e)
           ∙ sym (literal-leads_on text k h n (vs ++ single (literal_in text p k) ∷ []) none (inl refl))
-  after_low p (Spelled.Ended k) = refl
-  after_low p (Spelled.Fault k) = refl
+  after_low p (Ok (Spelled.Ended k)) = refl
+  after_low p (Err k) = refl
 
   pub value-leads_on : (e : ℕ) → joined text e (values h n vs none) ≡ on_read text h n vs (value_at text e)
   value-leads_on e = literal-leads_on text e h n vs none (inl refl) ∙ after_low (inked text e) (spelled_at text e)
@@ -133,21 +133,21 @@ module _ (text : List ℕ) (n : ℕ) (l : n ≤ length text) where
       )
 
   -- what a literal that was read says
-  pub literal_open : (k : ℕ) → spelled_at text n ≡ Spelled.Open k → Lies text n (inked text n) k
+  pub literal_open : (k : ℕ) → spelled_at text n ≡ Ok (Spelled.Open k) → Lies text n (inked text n) k
   literal_open k e = by (eqb at n) refl (is_literal word) refl (is_period text (at + far)) (is_ended word) e
     where
-      by : (a : Bool) → eqb at n ≡ a → (b : Bool) → is_literal word ≡ b → (c d : Bool) → cond a (Spelled.Fault n) (spelled (at + far) b c d) ≡ Spelled.Open k → Lies text n (inked text n) k
+      by : (a : Bool) → eqb at n ≡ a → (b : Bool) → is_literal word ≡ b → (c d : Bool) → cond a (Err n) (spelled (at + far) b c d) ≡ Ok (Spelled.Open k) → Lies text n (inked text n) k
       by true i b j c d e = let z : ◌≡◌ {A = ℕ} 0 1 = cc in absurd (omega arith)
       by false i true j true d e = let z : ◌≡◌ {A = ℕ} 0 1 = cc in absurd (omega arith)
       by false i true j false d e = let z : at + far ≡ k = cc in rw z at (whole_lies (eqb-false at n i) j)
       by false i false j c true e = let z : ◌≡◌ {A = ℕ} 0 1 = cc in absurd (omega arith)
       by false i false j c false e = let z : ◌≡◌ {A = ℕ} 0 1 = cc in absurd (omega arith)
 
-  pub literal-ended : (k : ℕ) → spelled_at text n ≡ Spelled.Ended k → Lies text n (inked text n) k × (k + 1 ≤ length text)
+  pub literal-ended : (k : ℕ) → spelled_at text n ≡ Ok (Spelled.Ended k) → Lies text n (inked text n) k × (k + 1 ≤ length text)
   literal-ended k e = by (eqb at n) refl (is_literal word) refl (is_period text (at + far)) refl (is_ended word) refl e
     where
       by : (a : Bool) → eqb at n ≡ a → (b : Bool) → is_literal word ≡ b → (c : Bool) → is_period text (at + far) ≡ c → (d : Bool) → is_ended word ≡ d →
-          cond a (Spelled.Fault n) (spelled (at + far) b c d) ≡ Spelled.Ended k → Lies text n (inked text n) k × (k + 1 ≤ length text)
+          cond a (Err n) (spelled (at + far) b c d) ≡ Ok (Spelled.Ended k) → Lies text n (inked text n) k × (k + 1 ≤ length text)
       by true i b j c x d y e = let z : ◌≡◌ {A = ℕ} 0 1 = cc in absurd (omega arith)
       by false i true j true x d y e =
           let z : at + far ≡ k = cc in
@@ -168,14 +168,14 @@ Goes text n (ValueRead.Open f e) = Stands text f × (n < e) × (e ≤ length tex
 Goes text n (ValueRead.Ended f e) = Stands text f × (n < e) × (e ≤ length text)
 Goes text n (ValueRead.Fault k) = Unit {0}
 
-high_goes : (text : List ℕ) (n p k m : ℕ) → Lies text n p k → k ≤ m → m ≤ length text → (x : Spelled) → spelled_at text m ≡ x → Goes text n (high_read p k (inked text m) x)
-high_goes text n p k m i a b (Spelled.Open e) f =
+high_goes : (text : List ℕ) (n p k m : ℕ) → Lies text n p k → k ≤ m → m ≤ length text → (x : Result Spelled ℕ) → spelled_at text m ≡ x → Goes text n (high_read p k (inked text m) x)
+high_goes text n p k m i a b (Ok (Spelled.Open e)) f =
     let j = literal_open text m b e f in
     (stands_ranging text n m p k (inked text m) e i j, omega (arith, j.past, j.starts, i.past, i.starts), j.ends)
-high_goes text n p k m i a b (Spelled.Ended e) f =
+high_goes text n p k m i a b (Ok (Spelled.Ended e)) f =
     let j = literal-ended text m b e f in
     (stands_ranging text n m p k (inked text m) e i j.0, omega (arith, j.0.past, j.0.starts, i.past, i.starts), j.1)
-high_goes text n p k m i a b (Spelled.Fault e) f = tt
+high_goes text n p k m i a b (Err e) f = tt
 
 thru_goes : (text : List ℕ) (n p k : ℕ) → Lies text n p k → (x : Result ℕ ℕ) → literal_at (bytes "THRU") text k ≡ x → Goes text n (thru_read text p k x)
 thru_goes text n p k i (Ok m) f =
@@ -186,8 +186,8 @@ thru_goes text n p k i (Err m) f = tt
 pub value_goes : (text : List ℕ) (n : ℕ) → n ≤ length text → Goes text n (value_at text n)
 value_goes text n l = by (spelled_at text n) refl
   where
-    by : (x : Spelled) → spelled_at text n ≡ x → Goes text n (low_read text (inked text n) x)
-    by (Spelled.Open k) e = go (eqb (get_or text (inked text k) 0) 0x54)
+    by : (x : Result Spelled ℕ) → spelled_at text n ≡ x → Goes text n (low_read text (inked text n) x)
+    by (Ok (Spelled.Open k)) e = go (eqb (get_or text (inked text k) 0) 0x54)
       where
         i : Lies text n (inked text n) k
         i = literal_open text n l k e
@@ -195,12 +195,12 @@ value_goes text n l = by (spelled_at text n) refl
         go : (t : Bool) → Goes text n (cond t (thru_at text (inked text n) k) (ValueRead.Open (alone (inked text n) k) k))
         go true = thru_goes text n (inked text n) k i (literal_at (bytes "THRU") text k) refl
         go false = (stands_alone text n (inked text n) k i, omega (arith, i.past, i.starts), i.ends)
-    by (Spelled.Ended k) e = let i = literal-ended text n l k e in (stands_alone text n (inked text n) k i.0, omega (arith, i.0.past, i.0.starts), i.1)
-    by (Spelled.Fault k) e = tt
+    by (Ok (Spelled.Ended k)) e = let i = literal-ended text n l k e in (stands_alone text n (inked text n) k i.0, omega (arith, i.0.past, i.0.starts), i.1)
+    by (Err k) e = tt
 
 -- whether THRU follows
-pub taken : (text : List ℕ) (p k : ℕ) → get_or text (inked text k) 0 ≡ 0x54 → thru_at text p k ≡ low_read text p (Spelled.Open k)
+pub taken : (text : List ℕ) (p k : ℕ) → get_or text (inked text k) 0 ≡ 0x54 → thru_at text p k ≡ low_read text p (Ok (Spelled.Open k))
 taken text p k e = rw e
 
-pub left : (text : List ℕ) (p k : ℕ) → ¬ (get_or text (inked text k) 0 ≡ 0x54) → ValueRead.Open (alone p k) k ≡ low_read text p (Spelled.Open k)
+pub left : (text : List ℕ) (p k : ℕ) → ¬ (get_or text (inked text k) 0 ≡ 0x54) → ValueRead.Open (alone p k) k ≡ low_read text p (Ok (Spelled.Open k))
 left text p k e = rw (eqb_no (get_or text (inked text k) 0) 0x54 e)

@@ -16,10 +16,10 @@ abbrev pub ranging : ℕ → ℕ → ℕ → ℕ → Found
 ranging p k q e = record { low = p; mid = k; high = q; end = e; range = true }
 
 -- the high end from q on
-abbrev pub high_read : ℕ → ℕ → ℕ → Spelled → ValueRead
-high_read p k q (Spelled.Open e) = ValueRead.Open (ranging p k q e) e
-high_read p k q (Spelled.Ended e) = ValueRead.Ended (ranging p k q e) (e + 1)
-high_read p k q (Spelled.Fault e) = ValueRead.Fault e
+abbrev pub high_read : ℕ → ℕ → ℕ → Result Spelled ℕ → ValueRead
+high_read p k q (Ok (Spelled.Open e)) = ValueRead.Open (ranging p k q e) e
+high_read p k q (Ok (Spelled.Ended e)) = ValueRead.Ended (ranging p k q e) (e + 1)
+high_read p k q (Err e) = ValueRead.Fault e
 
 abbrev pub high_at : List ℕ → ℕ → ℕ → ℕ → ValueRead
 high_at text p k n = high_read p k (inked text n) (spelled_at text n)
@@ -32,10 +32,10 @@ abbrev pub thru_at : List ℕ → ℕ → ℕ → ValueRead
 thru_at text p k = thru_read text p k (literal_at (bytes "THRU") text k)
 
 -- the low end from p on
-abbrev pub low_read : List ℕ → ℕ → Spelled → ValueRead
-low_read text p (Spelled.Open k) = cond (eqb (get_or text (inked text k) 0) 0x54) (thru_at text p k) (ValueRead.Open (alone p k) k)
-low_read text p (Spelled.Ended k) = ValueRead.Ended (alone p k) (k + 1)
-low_read text p (Spelled.Fault k) = ValueRead.Fault k
+abbrev pub low_read : List ℕ → ℕ → Result Spelled ℕ → ValueRead
+low_read text p (Ok (Spelled.Open k)) = cond (eqb (get_or text (inked text k) 0) 0x54) (thru_at text p k) (ValueRead.Open (alone p k) k)
+low_read text p (Ok (Spelled.Ended k)) = ValueRead.Ended (alone p k) (k + 1)
+low_read text p (Err k) = ValueRead.Fault k
 
 abbrev pub value_at : List ℕ → ℕ → ValueRead
 value_at text n = low_read text (inked text n) (spelled_at text n)

@@ -16,7 +16,7 @@ fn high_at(text: &[u8], low: usize, mid: usize, n: usize) -> ValueRead
 {
     let high = next_ink(text, n);
     match spelled_at(text, n) {
-        Spelled::Open(end) => {
+        Ok(Spelled::Open(end)) => {
             let found = Found {
                 low,
                 mid,
@@ -26,7 +26,7 @@ fn high_at(text: &[u8], low: usize, mid: usize, n: usize) -> ValueRead
             };
             ValueRead::Open(found, end)
         }
-        Spelled::Ended(end) => {
+        Ok(Spelled::Ended(end)) => {
             let found = Found {
                 low,
                 mid,
@@ -36,7 +36,7 @@ fn high_at(text: &[u8], low: usize, mid: usize, n: usize) -> ValueRead
             };
             ValueRead::Ended(found, end + 1)
         }
-        Spelled::Fault(k) => ValueRead::Fault(k),
+        Err(k) => ValueRead::Fault(k),
     }
 }
 
@@ -57,7 +57,7 @@ pub fn value_at(text: &[u8], n: usize) -> ValueRead
 {
     let low = next_ink(text, n);
     match spelled_at(text, n) {
-        Spelled::Open(mid) => {
+        Ok(Spelled::Open(mid)) => {
             if byte_at(text, next_ink(text, mid)) == 0x54 {
                 return thru_at(text, low, mid);
             }
@@ -70,7 +70,7 @@ pub fn value_at(text: &[u8], n: usize) -> ValueRead
             };
             ValueRead::Open(found, mid)
         }
-        Spelled::Ended(mid) => {
+        Ok(Spelled::Ended(mid)) => {
             let found = Found {
                 low,
                 mid,
@@ -80,6 +80,6 @@ pub fn value_at(text: &[u8], n: usize) -> ValueRead
             };
             ValueRead::Ended(found, mid + 1)
         }
-        Spelled::Fault(k) => ValueRead::Fault(k),
+        Err(k) => ValueRead::Fault(k),
     }
 }

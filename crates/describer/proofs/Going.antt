@@ -41,16 +41,17 @@ use Rattle.storing.proofs.Stored.{stored_alike}
 use Rattle.describer.proofs.Labels.{none_kept, kept_item, kept_more, literals_more}
 use Rattle.describer.proofs.Past.{found, beyond_item, beyond_step}
 use Rattle.noting.proofs.Flat.{kept, held_there, noted-same, noted_snoc}
+use Rattle.std.specs.Prelude.{Result, Ok, Err}
 
 -- Without an item before it no entry is one of level 88.
 no_item : (l d p n : ℕ) (x : Result Clauses ℕ) → item_of l d p n x ≡ Name → ⊥
 no_item l d p n (Ok x) e = let z : ◌≡◌ {A = ℕ} 0 1 = cc in omega arith
 no_item l d p n (Err k) e = let z : ◌≡◌ {A = ℕ} 0 1 = cc in omega arith
 
-no_called : (text : List ℕ) (l d p : ℕ) (x : Called) → called_of text l d p x ≡ Name → ⊥
-no_called text l d p (Called.Item k) e = no_item l d p (inked text (p + 2)) (clauses_at text k) e
-no_called text l d p (Called.Group k) e = let z : ◌≡◌ {A = ℕ} 0 1 = cc in omega arith
-no_called text l d p (Called.Fault k) e = let z : ◌≡◌ {A = ℕ} 0 1 = cc in omega arith
+no_called : (text : List ℕ) (l d p : ℕ) (x : Result Called ℕ) → called_of text l d p x ≡ Name → ⊥
+no_called text l d p (Ok (Called.Item k)) e = no_item l d p (inked text (p + 2)) (clauses_at text k) e
+no_called text l d p (Ok (Called.Group k)) e = let z : ◌≡◌ {A = ℕ} 0 1 = cc in omega arith
+no_called text l d p (Err k) e = let z : ◌≡◌ {A = ℕ} 0 1 = cc in omega arith
 
 no_entered : (text : List ℕ) (l p : ℕ) (x : Entered) → entered_at text l p x ≡ Name → ⊥
 no_entered text l p (Depth d) e = no_called text l d p (name_at l text (p + 2)) e

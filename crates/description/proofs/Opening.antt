@@ -64,10 +64,10 @@ module _ (text : List ℕ) (h : Started) (n : ℕ) where
       by true false e = packed-leads text k h n true i j e ∙ after_packed_lem true i j (literal_at (ended (bytes "COMP-3")) text k)
       by false t e = packed-leads text k h n false i j refl ∙ after_packed_lem false i j (literal_at (ended (bytes "COMP-3")) text k)
 
-  after_picture_lem : (x : Pictured) → on_pictured text h n x ≡ on_clauses text h n (after_picture text x)
-  after_picture_lem (Pictured.Ended kind size scale digits k) = refl
-  after_picture_lem (Pictured.Number s i j k) = usage_leads s i j k
-  after_picture_lem (Pictured.Fault k) = refl
+  after_picture_lem : (x : Result Pictured ℕ) → on_pictured text h n x ≡ on_clauses text h n (after_picture text x)
+  after_picture_lem (Ok (Pictured.Ended x)) = refl
+  after_picture_lem (Ok (Pictured.Number s i j k)) = usage_leads s i j k
+  after_picture_lem (Err k) = refl
 
   after_pic_lem : (x : Result ℕ ℕ) → on_reached text (pic h n) (picture h n) x ≡ on_clauses text h n (after_pic text x)
   after_pic_lem (Ok k) = picture_leads text k h n ∙ after_picture_lem (picture_at text k)
@@ -95,10 +95,10 @@ abbrev pub started_at : List ℕ → Parts → ℕ → ℕ → Option (List ℕ)
 started_at text d p l none = faulty d p
 started_at text d p l (some ms) = joined text (p + 2) (name (started ms l p d))
 
-abbrev pub on_leveled : List ℕ → Groups → Parts → ℕ → Leveled → Reading
-on_leveled text g d p (Leveled.Level l) = started_at text d p l (enter g l)
-on_leveled text g d p Leveled.Name = joined text (p + 2) (label (naming g p d))
-on_leveled text g d p (Leveled.Fault k) = faulty d k
+abbrev pub on_leveled : List ℕ → Groups → Parts → ℕ → Result Leveled ℕ → Reading
+on_leveled text g d p (Ok (Leveled.Level l)) = started_at text d p l (enter g l)
+on_leveled text g d p (Ok Leveled.Name) = joined text (p + 2) (label (naming g p d))
+on_leveled text g d p (Err k) = faulty d k
 
 module _ (g : Groups) (d : Parts) where
   abbrev named : ℕ → ℕ → Bool

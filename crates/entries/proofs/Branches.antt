@@ -10,7 +10,6 @@ use Rattle.description.specs.Grammar.{bytes, ended}
 use Rattle.description.specs.Stages.{inked, literal_at, sided, side_at, after_separate, after_side, after_sign, sign_at, after_packed, packed_at, usage_at}
 use Rattle.description.specs.Stages.{picture_at, after_picture, after_pic, clauses_at, name_at, level_at}
 use Rattle.description.specs.declared.Called.{Called}
-use Rattle.description.specs.declared.Called.TheVariants as Called
 use Rattle.description.specs.declared.Pictured.{Pictured}
 use Rattle.description.specs.declared.Pictured.TheVariants as Pictured
 use Rattle.description.specs.declared.Sided.{Sided}
@@ -93,27 +92,27 @@ module _ (i j : ℕ) (text : List ℕ) where
       by true = sign_caps n
       by false = packed_caps s n
 
-pub number_is : (text : List ℕ) {s : Bool} {i j k : ℕ} {x : Pictured} {r : Result Clauses ℕ} (y : Pictured) → x ≡ cap_pictured y → x ≡ Pictured.Number s i j k → r ≡ cap_clauses
+pub number_is : (text : List ℕ) {s : Bool} {i j k : ℕ} {x : Result Pictured ℕ} {r : Result Clauses ℕ} (y : Result Pictured ℕ) → x ≡ cap_pictured y → x ≡ Ok (Pictured.Number s i j k) → r ≡ cap_clauses
     (usage_at s i j text k) → r ≡ cap_clauses (after_picture text y)
 number_is text {s} {i} {j} {k} {r = r} y e f g = g ∙ by y (sym f ∙ e)
   where
-    by : (y : Pictured) → Pictured.Number s i j k ≡ cap_pictured y → cap_clauses (usage_at s i j text k) ≡ cap_clauses (after_picture text y)
-    by (Pictured.Ended c' s' d' t' k') h = let z : ◌≡◌ {A = ℕ} 0 1 = cc in absurd (omega arith)
-    by (Pictured.Number s' a b k') h =
+    by : (y : Result Pictured ℕ) → Ok (Pictured.Number s i j k) ≡ cap_pictured y → cap_clauses (usage_at s i j text k) ≡ cap_clauses (after_picture text y)
+    by (Ok (Pictured.Ended y)) h = let z : ◌≡◌ {A = ℕ} 0 1 = cc in absurd (omega arith)
+    by (Ok (Pictured.Number s' a b k')) h =
         let o : s ≡ s' = cc in
         let p : i ≡ count a = cc in
         let q : j ≡ count b = cc in
         let u : k ≡ k' = cc in
         rw (o, p, q, u) (usage_caps a b text s' k')
-    by (Pictured.Fault k') h = let z : ◌≡◌ {A = ℕ} 0 1 = cc in absurd (omega arith)
+    by (Err k') h = let z : ◌≡◌ {A = ℕ} 0 1 = cc in absurd (omega arith)
 
-pub number_small : {s : Bool} {i j k : ℕ} {x : Pictured} (y : Pictured) → x ≡ cap_pictured y → x ≡ Pictured.Number s i j k → (i ≤ 131072) × (j ≤ 131072)
+pub number_small : {s : Bool} {i j k : ℕ} {x : Result Pictured ℕ} (y : Result Pictured ℕ) → x ≡ cap_pictured y → x ≡ Ok (Pictured.Number s i j k) → (i ≤ 131072) × (j ≤ 131072)
 number_small {s} {i} {j} {k} y e f = by y (sym f ∙ e)
   where
-    by : (y : Pictured) → Pictured.Number s i j k ≡ cap_pictured y → (i ≤ 131072) × (j ≤ 131072)
-    by (Pictured.Ended c' s' d' t' k') h = let z : ◌≡◌ {A = ℕ} 0 1 = cc in absurd (omega arith)
-    by (Pictured.Number s' a b k') h =
+    by : (y : Result Pictured ℕ) → Ok (Pictured.Number s i j k) ≡ cap_pictured y → (i ≤ 131072) × (j ≤ 131072)
+    by (Ok (Pictured.Ended y)) h = let z : ◌≡◌ {A = ℕ} 0 1 = cc in absurd (omega arith)
+    by (Ok (Pictured.Number s' a b k')) h =
         let p : i ≡ count a = cc in
         let q : j ≡ count b = cc in
         (omega arith, omega arith)
-    by (Pictured.Fault k') h = let z : ◌≡◌ {A = ℕ} 0 1 = cc in absurd (omega arith)
+    by (Err k') h = let z : ◌≡◌ {A = ℕ} 0 1 = cc in absurd (omega arith)

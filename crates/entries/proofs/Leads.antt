@@ -44,13 +44,13 @@ module _ (stack : List ℕ) (g : Groups) (text : List ℕ) (es : Parts) where
   item_leads l d p n k (Ok x) r = rw (eqb_no x.kind 0 (λ h. omega (arith, r.0.0)))
   item_leads l d p n k (Err e) r = refl
 
-  called-leads : (l d p : ℕ) (x : Called) → Names text (p + 2) x →
+  called-leads : (l d p : ℕ) (x : Result Called ℕ) → Names text (p + 2) x →
       on_called text (started (topped stack l d) l p es) (inked text (p + 2)) x ≡ on_entry stack g p text es (called_of text l d p x)
-  called-leads l d p (Called.Item k) r =
+  called-leads l d p (Ok (Called.Item k)) r =
       clauses_lead text (started (topped stack l d) l p es) (inked text (p + 2)) k
       ∙ item_leads l d p (inked text (p + 2)) k (clauses_at text k) (clauses_end text k r.1)
-  called-leads l d p (Called.Group k) r = refl
-  called-leads l d p (Called.Fault k) r = refl
+  called-leads l d p (Ok (Called.Group k)) r = refl
+  called-leads l d p (Err k) r = refl
 
   named-leads : (l d p : ℕ) → p + 2 ≤ length text → joined text (p + 2) (name (started (topped stack l d) l p es)) ≡ on_entry stack g p text es (named_at text l d p)
   named-leads l d p h =
@@ -65,11 +65,11 @@ module _ (stack text : List ℕ) (es : Parts) (depth waiting : ℕ) (named : Boo
   abbrev groups : Groups
   groups = groups_of stack depth waiting
 
-  leveled-leads : (p : ℕ) (x : Leveled) → level_at groups named text p ≡ x → on_leveled text groups es p x ≡ on_entry stack groups p text es (leveled_at stack depth waiting text p x)
-  leveled-leads p (Leveled.Level l) h =
+  leveled-leads : (p : ℕ) (x : Result Leveled ℕ) → level_at groups named text p ≡ x → on_leveled text groups es p x ≡ on_entry stack groups p text es (leveled_at stack depth waiting text p x)
+  leveled-leads p (Ok (Leveled.Level l)) h =
       rw (enter_is stack depth waiting l) (entered_leads stack groups text es l p (level_inside groups named text p l h) (entered_by stack depth waiting l))
-  leveled-leads p Leveled.Name h = refl
-  leveled-leads p (Leveled.Fault k) h = refl
+  leveled-leads p (Ok Leveled.Name) h = refl
+  leveled-leads p (Err k) h = refl
 
   -- An entry.
   pub entry-leads : (n : ℕ) → inked text n < length text →
@@ -82,10 +82,10 @@ module _ (stack text : List ℕ) (es : Parts) (depth waiting : ℕ) (named : Boo
   entered_whole l p h k (Depth d) = named_whole text l d p h
   entered_whole l p h k Not = omega arith
 
-  leveled_whole : (p : ℕ) → p < length text → (x : Leveled) → level_at groups named text p ≡ x → Wholes text p (leveled_at stack depth waiting text p x)
-  leveled_whole p k (Leveled.Level l) h = entered_whole l p (level_inside groups named text p l h) k (entered_by stack depth waiting l)
-  leveled_whole p k Leveled.Name h = name_inside groups named text p h
-  leveled_whole p k (Leveled.Fault e) h = leveled_le groups named text p e k h
+  leveled_whole : (p : ℕ) → p < length text → (x : Result Leveled ℕ) → level_at groups named text p ≡ x → Wholes text p (leveled_at stack depth waiting text p x)
+  leveled_whole p k (Ok (Leveled.Level l)) h = entered_whole l p (level_inside groups named text p l h) k (entered_by stack depth waiting l)
+  leveled_whole p k (Ok Leveled.Name) h = name_inside groups named text p h
+  leveled_whole p k (Err e) h = leveled_le groups named text p e k h
 
   pub entry_whole : (p : ℕ) → p < length text → Wholes text p (entry_at stack depth waiting named text p)
   entry_whole p k = leveled_whole p k (level_at groups named text p) refl
@@ -100,20 +100,20 @@ module _ (stack text : List ℕ) (es : Parts) (depth waiting : ℕ) (named : Boo
   clauses_deep l d p n h (Ok x) = h
   clauses_deep l d p n h (Err k) = tt
 
-  called_deep : (l d p : ℕ) → (d ≤ depth + 1) × (l ≤ 99) → (x : Called) → Deep (called_of text l d p x)
-  called_deep l d p h (Called.Item k) = clauses_deep l d p (inked text (p + 2)) h (clauses_at text k)
-  called_deep l d p h (Called.Group k) = h
-  called_deep l d p h (Called.Fault k) = tt
+  called_deep : (l d p : ℕ) → (d ≤ depth + 1) × (l ≤ 99) → (x : Result Called ℕ) → Deep (called_of text l d p x)
+  called_deep l d p h (Ok (Called.Item k)) = clauses_deep l d p (inked text (p + 2)) h (clauses_at text k)
+  called_deep l d p h (Ok (Called.Group k)) = h
+  called_deep l d p h (Err k) = tt
 
   entered_deep : (l p : ℕ) → l ≤ 99 → (x : Entered) → AtMost (depth + 1) x → Deep (entered_at text l p x)
   entered_deep l p g (Depth d) h = called_deep l d p (h, g) (name_at l text (p + 2))
   entered_deep l p g Not h = tt
 
-  leveled_deep : (p : ℕ) (x : Leveled) → level_at groups named text p ≡ x → Deep (leveled_at stack depth waiting text p x)
-  leveled_deep p (Leveled.Level l) h =
+  leveled_deep : (p : ℕ) (x : Result Leveled ℕ) → level_at groups named text p ≡ x → Deep (leveled_at stack depth waiting text p x)
+  leveled_deep p (Ok (Leveled.Level l)) h =
       entered_deep l p (level_small groups named text p l h) (entered_by stack depth waiting l) (entered_le stack depth waiting l)
-  leveled_deep p Leveled.Name h = tt
-  leveled_deep p (Leveled.Fault k) h = tt
+  leveled_deep p (Ok Leveled.Name) h = tt
+  leveled_deep p (Err k) h = tt
 
   pub entry_deep : (p : ℕ) → Deep (entry_at stack depth waiting named text p)
   entry_deep p = leveled_deep p (level_at groups named text p) refl

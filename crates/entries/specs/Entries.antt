@@ -46,10 +46,10 @@ item_of l d p n (Err k) = Fault k
 abbrev pub item_at : List ℕ → ℕ → ℕ → ℕ → ℕ → ℕ → EntryRead
 item_at text l d p n k = item_of l d p n (clauses_at text k)
 
-abbrev pub called_of : List ℕ → ℕ → ℕ → ℕ → Called → EntryRead
-called_of text l d p (Called.Item k) = item_at text l d p (inked text (p + 2)) k
-called_of text l d p (Called.Group k) = Whole (noted l p (inked text (p + 2)) 0 0 0 0) d k
-called_of text l d p (Called.Fault k) = Fault k
+abbrev pub called_of : List ℕ → ℕ → ℕ → ℕ → Result Called ℕ → EntryRead
+called_of text l d p (Ok (Called.Item k)) = item_at text l d p (inked text (p + 2)) k
+called_of text l d p (Ok (Called.Group k)) = Whole (noted l p (inked text (p + 2)) 0 0 0 0) d k
+called_of text l d p (Err k) = Fault k
 
 -- an entry of level l, in the innermost of d groups, at p
 abbrev pub named_at : List ℕ → ℕ → ℕ → ℕ → EntryRead
@@ -59,10 +59,10 @@ abbrev pub entered_at : List ℕ → ℕ → ℕ → Entered → EntryRead
 entered_at text l p (Depth d) = named_at text l d p
 entered_at text l p Not = Fault p
 
-abbrev pub leveled_at : List ℕ → ℕ → ℕ → List ℕ → ℕ → Leveled → EntryRead
-leveled_at stack depth waiting text p (Leveled.Level l) = entered_at text l p (entered_by stack depth waiting l)
-leveled_at stack depth waiting text p Leveled.Name = Name
-leveled_at stack depth waiting text p (Leveled.Fault k) = Fault k
+abbrev pub leveled_at : List ℕ → ℕ → ℕ → List ℕ → ℕ → Result Leveled ℕ → EntryRead
+leveled_at stack depth waiting text p (Ok (Leveled.Level l)) = entered_at text l p (entered_by stack depth waiting l)
+leveled_at stack depth waiting text p (Ok Leveled.Name) = Name
+leveled_at stack depth waiting text p (Err k) = Fault k
 
 -- the entry at p
 abbrev pub entry_at : List ℕ → ℕ → ℕ → Bool → List ℕ → ℕ → EntryRead

@@ -1,7 +1,7 @@
 // What follows an item's name. Counts of a picture stop at 131,072, and what an entry has at 65,536.
 ghost use Rattle.std.specs.Prelude.{◌≡◌, ◌≤◌, length};
 ghost use Rattle.description.specs.Grammar.{packed_kind};
-ghost use Rattle.description.specs.Stages.{clauses, side_at, after_side, sign_at, packed_at, usage_at, clauses_at};
+ghost use Rattle.description.specs.Stages.{side_at, after_side, sign_at, packed_at, usage_at, clauses_at};
 ghost use Rattle.entries.specs.Entries.{cap, cap_ended, cap_clauses, sided_by, separate_at, picture_clause};
 
 use content::Row;
@@ -38,16 +38,15 @@ fn stopped(n: u32) -> u32
     if 65536 < n { 65536 } else { n }
 }
 
-// The clauses of an item end at k.
-fn ended(kind: u32, size: u32, scale: u32, digits: u32, k: usize) -> Clauses
-    ensures { result ≡ cap_ended (clauses kind size scale digits k) }
+fn ended(x: Clauses) -> Clauses
+    ensures { result ≡ cap_ended x }
 {
     Clauses {
-        kind,
-        size: stopped(size),
-        scale: stopped(scale),
-        digits: stopped(digits),
-        end: k,
+        kind: x.kind,
+        size: stopped(x.size),
+        scale: stopped(x.scale),
+        digits: stopped(x.digits),
+        end: x.end,
     }
 }
 
@@ -55,8 +54,14 @@ fn separate(kind: u32, i: u32, j: u32, text: &[u8], n: usize) -> Result<Clauses,
     requires { (n ≤ length text.now) × ((i ≤ 131072) × (j ≤ 131072)) }
     ensures { result ≡ cap_clauses (separate_at kind i j text.now n) }
 {
-    let k = literal(b"SEPARATE.", text, n)?;
-    Ok(ended(kind, i + j + 1, j, i + j, k))
+    let end = literal(b"SEPARATE.", text, n)?;
+    Ok(ended(Clauses {
+        kind,
+        size: i + j + 1,
+        scale: j,
+        digits: i + j,
+        end,
+    }))
 }
 
 fn side_clause(i: u32, j: u32, text: &[u8], n: usize) -> Result<Clauses, usize>
@@ -90,8 +95,14 @@ fn packed_at(signed: bool, i: u32, j: u32, text: &[u8], n: usize) -> Result<Clau
     requires { (n ≤ length text.now) × ((i ≤ 131072) × (j ≤ 131072)) }
     ensures { result ≡ cap_clauses (packed_at signed i j text.now n) }
 {
-    let k = literal(b"COMP-3.", text, n)?;
-    Ok(ended(packed_kind(signed), (i + j) / 2 + 1, j, i + j, k))
+    let end = literal(b"COMP-3.", text, n)?;
+    Ok(ended(Clauses {
+        kind: packed_kind(signed),
+        size: (i + j) / 2 + 1,
+        scale: j,
+        digits: i + j,
+        end,
+    }))
 }
 
 // SIGN, after an S, or COMP-3.
@@ -111,10 +122,14 @@ fn picture_clause(text: &[u8], n: usize) -> Result<Clauses, usize>
     requires { (n ≤ length text.now) × (length text.now ≤ 4096) }
     ensures { result ≡ cap_clauses (picture_clause text.now n) }
 {
-    match picture_at(text, n) {
-        Pictured::Ended(kind, size, scale, digits, k) => Ok(ended(kind, size, scale, digits, k)),
-        Pictured::Number(signed, i, j, k) => usage_at(signed, i, j, text, k),
-        Pictured::Fault(k) => Err(k),
+    match picture_at(text, n)? {
+        Pictured::Ended(x) => Ok(ended(x)),
+        Pictured::Number {
+            signed,
+            whole,
+            fraction,
+            end,
+        } => usage_at(signed, whole, fraction, text, end),
     }
 }
 

@@ -49,8 +49,8 @@ fn named_at(text: &[u8], level: u32, depth: usize, p: usize) -> EntryRead
     let place = narrow(p);
     let named = narrow(next_ink(text, p + 2));
     match name_at(level, text, p + 2) {
-        Called::Item(k) => item_at(text, level, depth, place, named, k),
-        Called::Group(k) => {
+        Ok(Called::Item(k)) => item_at(text, level, depth, place, named, k),
+        Ok(Called::Group(k)) => {
             let noted = Noted {
                 level,
                 place,
@@ -62,7 +62,7 @@ fn named_at(text: &[u8], level: u32, depth: usize, p: usize) -> EntryRead
             };
             EntryRead::Whole(noted, depth, k)
         }
-        Called::Fault(k) => EntryRead::Fault(k),
+        Err(k) => EntryRead::Fault(k),
     }
 }
 
@@ -79,11 +79,11 @@ pub fn entry_at(
     ensures { result ≡ cap_entry (entry_at stack.now depth waiting named text.now p) }
 {
     match level_at(stack, depth, waiting, named, text, p) {
-        Leveled::Level(level) => match enter(stack, depth, waiting, level) {
+        Ok(Leveled::Level(level)) => match enter(stack, depth, waiting, level) {
             Entered::Depth(d) => named_at(text, level, d, p),
             Entered::Not => EntryRead::Fault(p),
         },
-        Leveled::Name => EntryRead::Name,
-        Leveled::Fault(k) => EntryRead::Fault(k),
+        Ok(Leveled::Name) => EntryRead::Name,
+        Err(k) => EntryRead::Fault(k),
     }
 }

@@ -205,7 +205,7 @@ pub no_byte : (text : List ℕ) (k : ℕ) → length text ≤ k → false ≡ is
 no_byte text k l = rw (get_or-eq_default text 0 l)
 
 -- A name after a blank.
-pub name_none : (l : ℕ) (text : List ℕ) (n p : ℕ) → p ≡ inked text n → p ≡ n → Called.Fault n ≡ name_at l text n
+pub name_none : (l : ℕ) (text : List ℕ) (n p : ℕ) → p ≡ inked text n → p ≡ n → Err n ≡ name_at l text n
 name_none l text n p e h = let i : inked text n ≡ n = sym e ∙ h in rw (i, eqb_same n)
 
 -- and of a level 88 entry
@@ -224,7 +224,7 @@ module _ (text : List ℕ) (n p m : ℕ) (e : p ≡ inked text n) (g : m ≡ rea
 
   module _ (f : ¬ (p ≡ n)) (t : Bool) where
     pub name_is : (l : ℕ) (s : Bool) → is_called (take ((p + m) - p) (drop p text)) ≡ t → is_period text (p + m) && leb l 48 ≡ s →
-        cond t (cond s (Called.Group (p + m + 1)) (Called.Item (p + m))) (Called.Fault (p + m)) ≡ name_at l text n
+        cond t (cond s (Ok (Called.Group (p + m + 1))) (Ok (Called.Item (p + m)))) (Err (p + m)) ≡ name_at l text n
     name_is l s h k = let i : is_called (take m (drop p text)) ≡ t = rw part_is at h in rw (← e, eqb_no p n f, ← reaches, i, k)
 
     pub label_is : is_name (take ((p + m) - p) (drop p text)) ≡ t → cond t (Ok (p + m)) (Err (p + m)) ≡ label_at text n

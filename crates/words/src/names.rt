@@ -108,23 +108,23 @@ pub fn period_at(text: &[u8], k: usize) -> bool
 }
 
 // The name or FILLER of an entry, after a blank at n.
-pub fn name_at(level: u32, text: &[u8], n: usize) -> Called
+pub fn name_at(level: u32, text: &[u8], n: usize) -> Result<Called, usize>
     requires { n ≤ length text.now }
     ensures { result ≡ name_at level text.now n }
 {
     let p = next_ink(text, n);
     if p == n {
-        return Called::Fault(n);
+        return Err(n);
     }
     let m = name_reach(&text[p..]);
     let k = p + m;
     if !is_called(&text[p..k]) {
-        return Called::Fault(k);
+        return Err(k);
     }
     if period_at(text, k) & (level <= 48) {
-        Called::Group(k + 1)
+        Ok(Called::Group(k + 1))
     } else {
-        Called::Item(k)
+        Ok(Called::Item(k))
     }
 }
 
