@@ -29,10 +29,10 @@ use Rattle.condition_names.specs.declared.ValueRead.TheVariants as ValueRead
 use Rattle.std.specs.Prelude.{Err, Ok, Result}
 
 -- what a value leads to
-abbrev pub on_read : List ℕ → Naming → ℕ → List Value → ValueRead → Reading
-on_read text h n vs (ValueRead.Open f e) = joined text e (values h n (vs ++ value_of text f ∷ []) none)
-on_read text h n vs (ValueRead.Ended f e) = joined text e (labelled h n (vs ++ value_of text f ∷ []))
-on_read text h n vs (ValueRead.Fault k) = faulty h.earlier k
+abbrev pub on_read : List ℕ → Naming → ℕ → List Value → Result ValueRead ℕ → Reading
+on_read text h n vs (Ok (ValueRead.Open f e)) = joined text e (values h n (vs ++ value_of text f ∷ []) none)
+on_read text h n vs (Ok (ValueRead.Ended f e)) = joined text e (labelled h n (vs ++ value_of text f ∷ []))
+on_read text h n vs (Err k) = faulty h.earlier k
 
 module _ (text : List ℕ) (h : Naming) (n : ℕ) (vs : List Value) where
   after_high : (p k q : ℕ) (x : Result Spelled ℕ) → on_high text h n vs (literal_in text p k) q x ≡ on_read text h n vs (high_read p k q x)
@@ -49,7 +49,7 @@ module _ (text : List ℕ) (h : Naming) (n : ℕ) (vs : List Value) where
   after_low p (Ok (Spelled.Open k)) = by (eqb (get_or text (inked text k) 0) 0x54) refl
     where
       by : (t : Bool) → eqb (get_or text (inked text k) 0) 0x54 ≡ t →
-          joined text k (values h n vs (some (literal_in text p k))) ≡ on_read text h n vs (cond t (thru_at text p k) (ValueRead.Open (alone p k) k))
+          joined text k (values h n vs (some (literal_in text p k))) ≡ on_read text h n vs (cond t (thru_at text p k) (Ok (ValueRead.Open (alone p k) k)))
       by true e =
           thru-leads text k h n vs (literal_in text p k) (eqb-true (get_or text (inked text k) 0) 0x54 e) ∙ after-thru p k (literal_at (bytes "THRU") text k)
       by false e =
@@ -163,10 +163,10 @@ stands_ranging : (text : List ℕ) (n m p k q e : ℕ) → Lies text n p k → L
 stands_ranging text n m p k q e i j = record { starts = i.starts; middle = i.ends; low = i.whole; goes = j.starts; ends = j.ends; high = j.whole }
 
 -- What a value that was read says: its ends stand there, and it goes on.
-abbrev pub Goes : List ℕ → ℕ → ValueRead → Type 0
-Goes text n (ValueRead.Open f e) = Stands text f × (n < e) × (e ≤ length text)
-Goes text n (ValueRead.Ended f e) = Stands text f × (n < e) × (e ≤ length text)
-Goes text n (ValueRead.Fault k) = Unit {0}
+abbrev pub Goes : List ℕ → ℕ → Result ValueRead ℕ → Type 0
+Goes text n (Ok (ValueRead.Open f e)) = Stands text f × (n < e) × (e ≤ length text)
+Goes text n (Ok (ValueRead.Ended f e)) = Stands text f × (n < e) × (e ≤ length text)
+Goes text n (Err k) = Unit {0}
 
 high_goes : (text : List ℕ) (n p k m : ℕ) → Lies text n p k → k ≤ m → m ≤ length text → (x : Result Spelled ℕ) → spelled_at text m ≡ x → Goes text n (high_read p k (inked text m) x)
 high_goes text n p k m i a b (Ok (Spelled.Open e)) f =
@@ -192,7 +192,7 @@ value_goes text n l = by (spelled_at text n) refl
         i : Lies text n (inked text n) k
         i = literal_open text n l k e
 
-        go : (t : Bool) → Goes text n (cond t (thru_at text (inked text n) k) (ValueRead.Open (alone (inked text n) k) k))
+        go : (t : Bool) → Goes text n (cond t (thru_at text (inked text n) k) (Ok (ValueRead.Open (alone (inked text n) k) k)))
         go true = thru_goes text n (inked text n) k i (literal_at (bytes "THRU") text k) refl
         go false = (stands_alone text n (inked text n) k i, omega (arith, i.past, i.starts), i.ends)
     by (Ok (Spelled.Ended k)) e = let i = literal-ended text n l k e in (stands_alone text n (inked text n) k i.0, omega (arith, i.0.past, i.0.starts), i.1)
@@ -202,5 +202,5 @@ value_goes text n l = by (spelled_at text n) refl
 pub taken : (text : List ℕ) (p k : ℕ) → get_or text (inked text k) 0 ≡ 0x54 → thru_at text p k ≡ low_read text p (Ok (Spelled.Open k))
 taken text p k e = rw e
 
-pub left : (text : List ℕ) (p k : ℕ) → ¬ (get_or text (inked text k) 0 ≡ 0x54) → ValueRead.Open (alone p k) k ≡ low_read text p (Ok (Spelled.Open k))
+pub left : (text : List ℕ) (p k : ℕ) → ¬ (get_or text (inked text k) 0 ≡ 0x54) → Ok (ValueRead.Open (alone p k) k) ≡ low_read text p (Ok (Spelled.Open k))
 left text p k e = rw (eqb_no (get_or text (inked text k) 0) 0x54 e)

@@ -16,28 +16,28 @@ abbrev pub ranging : ℕ → ℕ → ℕ → ℕ → Found
 ranging p k q e = record { low = p; mid = k; high = q; end = e; range = true }
 
 -- the high end from q on
-abbrev pub high_read : ℕ → ℕ → ℕ → Result Spelled ℕ → ValueRead
-high_read p k q (Ok (Spelled.Open e)) = ValueRead.Open (ranging p k q e) e
-high_read p k q (Ok (Spelled.Ended e)) = ValueRead.Ended (ranging p k q e) (e + 1)
-high_read p k q (Err e) = ValueRead.Fault e
+abbrev pub high_read : ℕ → ℕ → ℕ → Result Spelled ℕ → Result ValueRead ℕ
+high_read p k q (Ok (Spelled.Open e)) = Ok (ValueRead.Open (ranging p k q e) e)
+high_read p k q (Ok (Spelled.Ended e)) = Ok (ValueRead.Ended (ranging p k q e) (e + 1))
+high_read p k q (Err e) = Err e
 
-abbrev pub high_at : List ℕ → ℕ → ℕ → ℕ → ValueRead
+abbrev pub high_at : List ℕ → ℕ → ℕ → ℕ → Result ValueRead ℕ
 high_at text p k n = high_read p k (inked text n) (spelled_at text n)
 
-abbrev pub thru_read : List ℕ → ℕ → ℕ → Result ℕ ℕ → ValueRead
+abbrev pub thru_read : List ℕ → ℕ → ℕ → Result ℕ ℕ → Result ValueRead ℕ
 thru_read text p k (Ok n) = high_at text p k n
-thru_read text p k (Err n) = ValueRead.Fault n
+thru_read text p k (Err n) = Err n
 
-abbrev pub thru_at : List ℕ → ℕ → ℕ → ValueRead
+abbrev pub thru_at : List ℕ → ℕ → ℕ → Result ValueRead ℕ
 thru_at text p k = thru_read text p k (literal_at (bytes "THRU") text k)
 
 -- the low end from p on
-abbrev pub low_read : List ℕ → ℕ → Result Spelled ℕ → ValueRead
-low_read text p (Ok (Spelled.Open k)) = cond (eqb (get_or text (inked text k) 0) 0x54) (thru_at text p k) (ValueRead.Open (alone p k) k)
-low_read text p (Ok (Spelled.Ended k)) = ValueRead.Ended (alone p k) (k + 1)
-low_read text p (Err k) = ValueRead.Fault k
+abbrev pub low_read : List ℕ → ℕ → Result Spelled ℕ → Result ValueRead ℕ
+low_read text p (Ok (Spelled.Open k)) = cond (eqb (get_or text (inked text k) 0) 0x54) (thru_at text p k) (Ok (ValueRead.Open (alone p k) k))
+low_read text p (Ok (Spelled.Ended k)) = Ok (ValueRead.Ended (alone p k) (k + 1))
+low_read text p (Err k) = Err k
 
-abbrev pub value_at : List ℕ → ℕ → ValueRead
+abbrev pub value_at : List ℕ → ℕ → Result ValueRead ℕ
 value_at text n = low_read text (inked text n) (spelled_at text n)
 
 -- the value that stands there

@@ -10,13 +10,13 @@ use text_bytes::bytes::byte_at;
 use wanted_words::literals::literal;
 
 // The high end after THRU, whose low end stands from low to mid.
-fn high_at(text: &[u8], low: usize, mid: usize, n: usize) -> ValueRead
+fn high_at(text: &[u8], low: usize, mid: usize, n: usize) -> Result<ValueRead, usize>
     requires { n ≤ length text.now }
     ensures { result ≡ high_at text.now low mid n }
 {
     let high = next_ink(text, n);
-    match spelled_at(text, n) {
-        Ok(Spelled::Open(end)) => {
+    match spelled_at(text, n)? {
+        Spelled::Open(end) => {
             let found = Found {
                 low,
                 mid,
@@ -24,9 +24,9 @@ fn high_at(text: &[u8], low: usize, mid: usize, n: usize) -> ValueRead
                 end,
                 range: true,
             };
-            ValueRead::Open(found, end)
+            Ok(ValueRead::Open { found, end })
         }
-        Ok(Spelled::Ended(end)) => {
+        Spelled::Ended(end) => {
             let found = Found {
                 low,
                 mid,
@@ -34,30 +34,30 @@ fn high_at(text: &[u8], low: usize, mid: usize, n: usize) -> ValueRead
                 end,
                 range: true,
             };
-            ValueRead::Ended(found, end + 1)
+            Ok(ValueRead::Ended {
+                found,
+                end: end + 1,
+            })
         }
-        Err(k) => ValueRead::Fault(k),
     }
 }
 
-fn thru_at(text: &[u8], low: usize, mid: usize) -> ValueRead
+fn thru_at(text: &[u8], low: usize, mid: usize) -> Result<ValueRead, usize>
     requires { mid ≤ length text.now }
     ensures { result ≡ thru_at text.now low mid }
 {
-    match literal(b"THRU", text, mid) {
-        Ok(k) => high_at(text, low, mid, k),
-        Err(k) => ValueRead::Fault(k),
-    }
+    let k = literal(b"THRU", text, mid)?;
+    high_at(text, low, mid, k)
 }
 
 // The value after a blank at n. THRU begins with a T, and no literal does.
-pub fn value_at(text: &[u8], n: usize) -> ValueRead
+pub fn value_at(text: &[u8], n: usize) -> Result<ValueRead, usize>
     requires { n ≤ length text.now }
     ensures { result ≡ value_at text.now n }
 {
     let low = next_ink(text, n);
-    match spelled_at(text, n) {
-        Ok(Spelled::Open(mid)) => {
+    match spelled_at(text, n)? {
+        Spelled::Open(mid) => {
             if byte_at(text, next_ink(text, mid)) == 0x54 {
                 return thru_at(text, low, mid);
             }
@@ -68,9 +68,9 @@ pub fn value_at(text: &[u8], n: usize) -> ValueRead
                 end: mid,
                 range: false,
             };
-            ValueRead::Open(found, mid)
+            Ok(ValueRead::Open { found, end: mid })
         }
-        Ok(Spelled::Ended(mid)) => {
+        Spelled::Ended(mid) => {
             let found = Found {
                 low,
                 mid,
@@ -78,8 +78,10 @@ pub fn value_at(text: &[u8], n: usize) -> ValueRead
                 end: mid,
                 range: false,
             };
-            ValueRead::Ended(found, mid + 1)
+            Ok(ValueRead::Ended {
+                found,
+                end: mid + 1,
+            })
         }
-        Err(k) => ValueRead::Fault(k),
     }
 }

@@ -32,7 +32,7 @@ use Rattle.pictures.specs.Drawings.{cap_pictured}
 use Rattle.levels.proofs.Stack.{digits_of, digit_range}
 use Rattle.entries.specs.Entries.{item_of, item_at, called_of, named_at}
 use Rattle.entries.specs.declared.EntryRead.{EntryRead}
-use Rattle.entries.specs.declared.EntryRead.TheVariants.{Whole, Name, Fault}
+use Rattle.entries.specs.declared.EntryRead.TheVariants.{Whole, Name}
 use Rattle.std.specs.Prelude.{Err, Ok, Result}
 
 -- A word that was looked for from n on ends within the text, and after n where it is one. A kind is not 0, and no scale is above its digits.
@@ -58,10 +58,10 @@ Names text n (Ok (Called.Item k)) = (n + 1 < k) × (k ≤ length text)
 Names text n (Ok (Called.Group k)) = (n + 2 < k) × (k ≤ length text)
 Names text n (Err k) = k ≤ length text
 
-abbrev pub Wholes : List ℕ → ℕ → EntryRead → Type 0
-Wholes text p (Whole x d k) = (x.scale ≤ x.digits) × ((p + 5 ≤ k) × (k ≤ length text))
-Wholes text p Name = p + 2 ≤ length text
-Wholes text p (Fault k) = k ≤ length text
+abbrev pub Wholes : List ℕ → ℕ → Result EntryRead ℕ → Type 0
+Wholes text p (Ok (Whole x d k)) = (x.scale ≤ x.digits) × ((p + 5 ≤ k) × (k ≤ length text))
+Wholes text p (Ok Name) = p + 2 ≤ length text
+Wholes text p (Err k) = k ≤ length text
 
 -- the byte at a place in the text that is no 0
 inside : (text : List ℕ) (k c : ℕ) → 0 < c → get_or text k 0 ≡ c → k < length text

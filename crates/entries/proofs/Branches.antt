@@ -19,7 +19,7 @@ use Rattle.pictures.specs.Steps as Steps
 use Rattle.pictures.specs.Drawings.{cap_pictured}
 use Rattle.entries.specs.Entries.{cap, cap_clauses, item_of, cap_entry, noted}
 use Rattle.entries.specs.declared.EntryRead.{EntryRead}
-use Rattle.entries.specs.declared.EntryRead.TheVariants.{Whole, Fault}
+use Rattle.entries.specs.declared.EntryRead.TheVariants.{Whole}
 use Rattle.std.specs.Prelude.{Err, Ok, Result}
 
 -- a picture's count, as the code has it

@@ -27,17 +27,17 @@ use Rattle.entries.specs.Entries.{content_of, entry_of, noted, item_of, item_at,
 use Rattle.std.specs.Prelude.{Result, Ok, Err}
 use Rattle.entries.specs.declared.Noted.{Noted}
 use Rattle.entries.specs.declared.EntryRead.{EntryRead}
-use Rattle.entries.specs.declared.EntryRead.TheVariants.{Whole, Name, Fault}
+use Rattle.entries.specs.declared.EntryRead.TheVariants.{Whole, Name}
 use Rattle.entries.proofs.Bounds.{Ends, Names, Wholes, clauses_end, name_reaches, named_whole, level_inside, name_inside, level_small, leveled_le}
 
 -- The groups that are open after it.
 abbrev pub groups_after : List ℕ → Noted → ℕ → Groups
 groups_after stack x d = cond (eqb x.kind 0) (awaiting x.level (topped stack x.level d)) (inside (topped stack x.level d))
 
-abbrev pub on_entry : List ℕ → Groups → ℕ → List ℕ → Parts → EntryRead → Reading
-on_entry stack g p text es (Whole x d k) = joined text k (level (groups_after stack x d) (with_item es (entry_of x)))
-on_entry stack g p text es Name = joined text (p + 2) (label (naming g p es))
-on_entry stack g p text es (Fault k) = faulty es k
+abbrev pub on_entry : List ℕ → Groups → ℕ → List ℕ → Parts → Result EntryRead ℕ → Reading
+on_entry stack g p text es (Ok (Whole x d k)) = joined text k (level (groups_after stack x d) (with_item es (entry_of x)))
+on_entry stack g p text es (Ok Name) = joined text (p + 2) (label (naming g p es))
+on_entry stack g p text es (Err k) = faulty es k
 
 module _ (stack : List ℕ) (g : Groups) (text : List ℕ) (es : Parts) where
   item_leads : (l d p n k : ℕ) (x : Result Clauses ℕ) → Ends text k x → on_clauses text (started (topped stack l d) l p es) n x ≡ on_entry stack g p text es (item_of l d p n x)
@@ -91,10 +91,10 @@ module _ (stack text : List ℕ) (es : Parts) (depth waiting : ℕ) (named : Boo
   entry_whole p k = leveled_whole p k (level_at groups named text p) refl
 
   -- At most one group more is open at it, and its level has two digits.
-  abbrev pub Deep : EntryRead → Type 0
-  Deep (Whole x d k) = (d ≤ depth + 1) × (x.level ≤ 99)
-  Deep Name = Unit {0}
-  Deep (Fault k) = Unit {0}
+  abbrev pub Deep : Result EntryRead ℕ → Type 0
+  Deep (Ok (Whole x d k)) = (d ≤ depth + 1) × (x.level ≤ 99)
+  Deep (Ok Name) = Unit {0}
+  Deep (Err k) = Unit {0}
 
   clauses_deep : (l d p n : ℕ) → (d ≤ depth + 1) × (l ≤ 99) → (x : Result Clauses ℕ) → Deep (item_of l d p n x)
   clauses_deep l d p n h (Ok x) = h

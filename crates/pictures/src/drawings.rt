@@ -146,7 +146,11 @@ fn letters_end(c: u8, n: u32, k: usize, period: bool) -> Result<Pictured, usize>
         return Err(k);
     }
     Ok(Pictured::Ended(Clauses {
-        kind: if c == 0x58 { Row::ALPHANUMERIC } else { Row::ALPHABETIC },
+        kind: if c == 0x58 {
+            Row::ALPHANUMERIC
+        } else {
+            Row::ALPHABETIC
+        },
         size: n,
         scale: 0,
         digits: 0,
