@@ -14,8 +14,6 @@ use Rattle.description.specs.Machine.{bind, after}
 use Rattle.description.specs.Grammar.{bytes, ended, Literal, Value, single, range}
 use Rattle.description.specs.Reader.{is_some, given, unended, unspelt, spelling, read_literal, Naming, values, labelled, Reading, faulty}
 use Rattle.description.specs.Stages.{inked, blanks, reach, common, joined, is_period, literal_at, literal_reach, is_literal, is_ended, spelled, spelled_from, spelled_at, literal_in}
-use Rattle.description.specs.declared.Reached.{Reached}
-use Rattle.description.specs.declared.Reached.TheVariants as Reached
 use Rattle.description.specs.declared.Spelled.{Spelled}
 use Rattle.description.specs.declared.Spelled.TheVariants as Spelled
 use Rattle.description.proofs.Bytes.{apart, eqb_no, is_some_lem, given-some, bind-some, unended_is}
@@ -28,36 +26,37 @@ use Rattle.condition_names.specs.Values.{alone, ranging, high_read, high_at, thr
 use Rattle.condition_names.specs.declared.Found.{Found}
 use Rattle.condition_names.specs.declared.ValueRead.{ValueRead}
 use Rattle.condition_names.specs.declared.ValueRead.TheVariants as ValueRead
+use Rattle.std.specs.Prelude.{Err, Ok, Result}
 
 -- what a value leads to
-abbrev pub on_read : List ℕ → Naming → ℕ → List Value → ValueRead → Reading
-on_read text h n vs (ValueRead.Open f e) = joined text e (values h n (vs ++ value_of text f ∷ []) none)
-on_read text h n vs (ValueRead.Ended f e) = joined text e (labelled h n (vs ++ value_of text f ∷ []))
-on_read text h n vs (ValueRead.Fault k) = faulty h.earlier k
+abbrev pub on_read : List ℕ → Naming → ℕ → List Value → Result ValueRead ℕ → Reading
+on_read text h n vs (Ok (ValueRead.Open f e)) = joined text e (values h n (vs ++ value_of text f ∷ []) none)
+on_read text h n vs (Ok (ValueRead.Ended f e)) = joined text e (labelled h n (vs ++ value_of text f ∷ []))
+on_read text h n vs (Err k) = faulty h.earlier k
 
 module _ (text : List ℕ) (h : Naming) (n : ℕ) (vs : List Value) where
-  after_high : (p k q : ℕ) (x : Spelled) → on_high text h n vs (literal_in text p k) q x ≡ on_read text h n vs (high_read p k q x)
-  after_high p k q (Spelled.Open e) = refl
-  after_high p k q (Spelled.Ended e) = refl
-  after_high p k q (Spelled.Fault e) = refl
+  after_high : (p k q : ℕ) (x : Result Spelled ℕ) → on_high text h n vs (literal_in text p k) q x ≡ on_read text h n vs (high_read p k q x)
+  after_high p k q (Ok (Spelled.Open e)) = refl
+  after_high p k q (Ok (Spelled.Ended e)) = refl
+  after_high p k q (Err e) = refl
 
-  after-thru : (p k : ℕ) (x : Reached) →
+  after-thru : (p k : ℕ) (x : Result ℕ ℕ) →
       on_reached text (values h n vs (some (literal_in text p k))) (Rattle.description.specs.Reader.high h n vs (literal_in text p k)) x ≡ on_read text h n vs (thru_read text p k x)
-  after-thru p k (Reached.Word m) = high_leads text m h n vs (literal_in text p k) ∙ after_high p k (inked text m) (spelled_at text m)
-  after-thru p k (Reached.Fault m) = refl
+  after-thru p k (Ok m) = high_leads text m h n vs (literal_in text p k) ∙ after_high p k (inked text m) (spelled_at text m)
+  after-thru p k (Err m) = refl
 
-  after_low : (p : ℕ) (x : Spelled) → on_value text h n vs p x ≡ on_read text h n vs (low_read text p x)
-  after_low p (Spelled.Open k) = by (eqb (get_or text (inked text k) 0) 0x54) refl
+  after_low : (p : ℕ) (x : Result Spelled ℕ) → on_value text h n vs p x ≡ on_read text h n vs (low_read text p x)
+  after_low p (Ok (Spelled.Open k)) = by (eqb (get_or text (inked text k) 0) 0x54) refl
     where
       by : (t : Bool) → eqb (get_or text (inked text k) 0) 0x54 ≡ t →
-          joined text k (values h n vs (some (literal_in text p k))) ≡ on_read text h n vs (cond t (thru_at text p k) (ValueRead.Open (alone p k) k))
+          joined text k (values h n vs (some (literal_in text p k))) ≡ on_read text h n vs (cond t (thru_at text p k) (Ok (ValueRead.Open (alone p k) k)))
       by true e =
           thru-leads text k h n vs (literal_in text p k) (eqb-true (get_or text (inked text k) 0) 0x54 e) ∙ after-thru p k (literal_at (bytes "THRU") text k)
       by false e =
           literal-leads_on text k h n vs (some (literal_in text p k)) (inr e)
           ∙ sym (literal-leads_on text k h n (vs ++ single (literal_in text p k) ∷ []) none (inl refl))
-  after_low p (Spelled.Ended k) = refl
-  after_low p (Spelled.Fault k) = refl
+  after_low p (Ok (Spelled.Ended k)) = refl
+  after_low p (Err k) = refl
 
   pub value-leads_on : (e : ℕ) → joined text e (values h n vs none) ≡ on_read text h n vs (value_at text e)
   value-leads_on e = literal-leads_on text e h n vs none (inl refl) ∙ after_low (inked text e) (spelled_at text e)
@@ -66,12 +65,12 @@ module _ (text : List ℕ) (h : Naming) (n : ℕ) (vs : List Value) where
 inked_from : (text : List ℕ) (n : ℕ) → n ≤ inked text n
 inked_from text n = omega arith
 
-pub word-within : (word text : List ℕ) (n m : ℕ) → n ≤ length text → literal_at word text n ≡ Reached.Word m → (n ≤ m) × (m ≤ length text)
+pub word-within : (word text : List ℕ) (n m : ℕ) → n ≤ length text → literal_at word text n ≡ Ok m → (n ≤ m) × (m ≤ length text)
 word-within word text n m l e = by (eqb (inked text n) n) (eqb (common word (drop (inked text n) text)) (length word)) e
   where
     by : (a b : Bool) →
-        cond a (Reached.Fault n) (cond b (Reached.Word (inked text n + common word (drop (inked text n) text)))
-        (Reached.Fault (inked text n + common word (drop (inked text n) text)))) ≡ Reached.Word m →
+        cond a (Err n) (cond b (Ok (inked text n + common word (drop (inked text n) text)))
+        (Err (inked text n + common word (drop (inked text n) text)))) ≡ Ok m →
         (n ≤ m) × (m ≤ length text)
     by true b e = let z : ◌≡◌ {A = ℕ} 0 1 = cc in absurd (omega arith)
     by false true e =
@@ -134,21 +133,21 @@ module _ (text : List ℕ) (n : ℕ) (l : n ≤ length text) where
       )
 
   -- what a literal that was read says
-  pub literal_open : (k : ℕ) → spelled_at text n ≡ Spelled.Open k → Lies text n (inked text n) k
+  pub literal_open : (k : ℕ) → spelled_at text n ≡ Ok (Spelled.Open k) → Lies text n (inked text n) k
   literal_open k e = by (eqb at n) refl (is_literal word) refl (is_period text (at + far)) (is_ended word) e
     where
-      by : (a : Bool) → eqb at n ≡ a → (b : Bool) → is_literal word ≡ b → (c d : Bool) → cond a (Spelled.Fault n) (spelled (at + far) b c d) ≡ Spelled.Open k → Lies text n (inked text n) k
+      by : (a : Bool) → eqb at n ≡ a → (b : Bool) → is_literal word ≡ b → (c d : Bool) → cond a (Err n) (spelled (at + far) b c d) ≡ Ok (Spelled.Open k) → Lies text n (inked text n) k
       by true i b j c d e = let z : ◌≡◌ {A = ℕ} 0 1 = cc in absurd (omega arith)
       by false i true j true d e = let z : ◌≡◌ {A = ℕ} 0 1 = cc in absurd (omega arith)
       by false i true j false d e = let z : at + far ≡ k = cc in rw z at (whole_lies (eqb-false at n i) j)
       by false i false j c true e = let z : ◌≡◌ {A = ℕ} 0 1 = cc in absurd (omega arith)
       by false i false j c false e = let z : ◌≡◌ {A = ℕ} 0 1 = cc in absurd (omega arith)
 
-  pub literal-ended : (k : ℕ) → spelled_at text n ≡ Spelled.Ended k → Lies text n (inked text n) k × (k + 1 ≤ length text)
+  pub literal-ended : (k : ℕ) → spelled_at text n ≡ Ok (Spelled.Ended k) → Lies text n (inked text n) k × (k + 1 ≤ length text)
   literal-ended k e = by (eqb at n) refl (is_literal word) refl (is_period text (at + far)) refl (is_ended word) refl e
     where
       by : (a : Bool) → eqb at n ≡ a → (b : Bool) → is_literal word ≡ b → (c : Bool) → is_period text (at + far) ≡ c → (d : Bool) → is_ended word ≡ d →
-          cond a (Spelled.Fault n) (spelled (at + far) b c d) ≡ Spelled.Ended k → Lies text n (inked text n) k × (k + 1 ≤ length text)
+          cond a (Err n) (spelled (at + far) b c d) ≡ Ok (Spelled.Ended k) → Lies text n (inked text n) k × (k + 1 ≤ length text)
       by true i b j c x d y e = let z : ◌≡◌ {A = ℕ} 0 1 = cc in absurd (omega arith)
       by false i true j true x d y e =
           let z : at + far ≡ k = cc in
@@ -164,44 +163,44 @@ stands_ranging : (text : List ℕ) (n m p k q e : ℕ) → Lies text n p k → L
 stands_ranging text n m p k q e i j = record { starts = i.starts; middle = i.ends; low = i.whole; goes = j.starts; ends = j.ends; high = j.whole }
 
 -- What a value that was read says: its ends stand there, and it goes on.
-abbrev pub Goes : List ℕ → ℕ → ValueRead → Type 0
-Goes text n (ValueRead.Open f e) = Stands text f × (n < e) × (e ≤ length text)
-Goes text n (ValueRead.Ended f e) = Stands text f × (n < e) × (e ≤ length text)
-Goes text n (ValueRead.Fault k) = Unit {0}
+abbrev pub Goes : List ℕ → ℕ → Result ValueRead ℕ → Type 0
+Goes text n (Ok (ValueRead.Open f e)) = Stands text f × (n < e) × (e ≤ length text)
+Goes text n (Ok (ValueRead.Ended f e)) = Stands text f × (n < e) × (e ≤ length text)
+Goes text n (Err k) = Unit {0}
 
-high_goes : (text : List ℕ) (n p k m : ℕ) → Lies text n p k → k ≤ m → m ≤ length text → (x : Spelled) → spelled_at text m ≡ x → Goes text n (high_read p k (inked text m) x)
-high_goes text n p k m i a b (Spelled.Open e) f =
+high_goes : (text : List ℕ) (n p k m : ℕ) → Lies text n p k → k ≤ m → m ≤ length text → (x : Result Spelled ℕ) → spelled_at text m ≡ x → Goes text n (high_read p k (inked text m) x)
+high_goes text n p k m i a b (Ok (Spelled.Open e)) f =
     let j = literal_open text m b e f in
     (stands_ranging text n m p k (inked text m) e i j, omega (arith, j.past, j.starts, i.past, i.starts), j.ends)
-high_goes text n p k m i a b (Spelled.Ended e) f =
+high_goes text n p k m i a b (Ok (Spelled.Ended e)) f =
     let j = literal-ended text m b e f in
     (stands_ranging text n m p k (inked text m) e i j.0, omega (arith, j.0.past, j.0.starts, i.past, i.starts), j.1)
-high_goes text n p k m i a b (Spelled.Fault e) f = tt
+high_goes text n p k m i a b (Err e) f = tt
 
-thru_goes : (text : List ℕ) (n p k : ℕ) → Lies text n p k → (x : Reached) → literal_at (bytes "THRU") text k ≡ x → Goes text n (thru_read text p k x)
-thru_goes text n p k i (Reached.Word m) f =
+thru_goes : (text : List ℕ) (n p k : ℕ) → Lies text n p k → (x : Result ℕ ℕ) → literal_at (bytes "THRU") text k ≡ x → Goes text n (thru_read text p k x)
+thru_goes text n p k i (Ok m) f =
     let j = word-within (bytes "THRU") text k m i.ends f in
     high_goes text n p k m i j.0 j.1 (spelled_at text m) refl
-thru_goes text n p k i (Reached.Fault m) f = tt
+thru_goes text n p k i (Err m) f = tt
 
 pub value_goes : (text : List ℕ) (n : ℕ) → n ≤ length text → Goes text n (value_at text n)
 value_goes text n l = by (spelled_at text n) refl
   where
-    by : (x : Spelled) → spelled_at text n ≡ x → Goes text n (low_read text (inked text n) x)
-    by (Spelled.Open k) e = go (eqb (get_or text (inked text k) 0) 0x54)
+    by : (x : Result Spelled ℕ) → spelled_at text n ≡ x → Goes text n (low_read text (inked text n) x)
+    by (Ok (Spelled.Open k)) e = go (eqb (get_or text (inked text k) 0) 0x54)
       where
         i : Lies text n (inked text n) k
         i = literal_open text n l k e
 
-        go : (t : Bool) → Goes text n (cond t (thru_at text (inked text n) k) (ValueRead.Open (alone (inked text n) k) k))
+        go : (t : Bool) → Goes text n (cond t (thru_at text (inked text n) k) (Ok (ValueRead.Open (alone (inked text n) k) k)))
         go true = thru_goes text n (inked text n) k i (literal_at (bytes "THRU") text k) refl
         go false = (stands_alone text n (inked text n) k i, omega (arith, i.past, i.starts), i.ends)
-    by (Spelled.Ended k) e = let i = literal-ended text n l k e in (stands_alone text n (inked text n) k i.0, omega (arith, i.0.past, i.0.starts), i.1)
-    by (Spelled.Fault k) e = tt
+    by (Ok (Spelled.Ended k)) e = let i = literal-ended text n l k e in (stands_alone text n (inked text n) k i.0, omega (arith, i.0.past, i.0.starts), i.1)
+    by (Err k) e = tt
 
 -- whether THRU follows
-pub taken : (text : List ℕ) (p k : ℕ) → get_or text (inked text k) 0 ≡ 0x54 → thru_at text p k ≡ low_read text p (Spelled.Open k)
+pub taken : (text : List ℕ) (p k : ℕ) → get_or text (inked text k) 0 ≡ 0x54 → thru_at text p k ≡ low_read text p (Ok (Spelled.Open k))
 taken text p k e = rw e
 
-pub left : (text : List ℕ) (p k : ℕ) → ¬ (get_or text (inked text k) 0 ≡ 0x54) → ValueRead.Open (alone p k) k ≡ low_read text p (Spelled.Open k)
+pub left : (text : List ℕ) (p k : ℕ) → ¬ (get_or text (inked text k) 0 ≡ 0x54) → Ok (ValueRead.Open (alone p k) k) ≡ low_read text p (Ok (Spelled.Open k))
 left text p k e = rw (eqb_no (get_or text (inked text k) 0) 0x54 e)

@@ -2,13 +2,12 @@
 use Rattle.std.specs.Prelude.{◌≡◌, Bool, true, false, cond, List, [], ◌∷◌, ◌++◌, ℕ, ◌+◌, ◌-◌, ◌≤◌, ◌<◌, eqb, length, get_or, take, drop}
 use Rattle.description.specs.Grammar.{bytes, Literal, Value, single, range}
 use Rattle.description.specs.Stages.{inked, literal_at, spelled_at, literal_in, is_literal}
-use Rattle.description.specs.declared.Reached.{Reached}
-use Rattle.description.specs.declared.Reached.TheVariants as Reached
 use Rattle.description.specs.declared.Spelled.{Spelled}
 use Rattle.description.specs.declared.Spelled.TheVariants as Spelled
 use Rattle.condition_names.specs.declared.Found.{Found}
 use Rattle.condition_names.specs.declared.ValueRead.{ValueRead}
 use Rattle.condition_names.specs.declared.ValueRead.TheVariants as ValueRead
+use Rattle.std.specs.Prelude.{Err, Ok, Result}
 
 abbrev pub alone : ℕ → ℕ → Found
 alone p k = record { low = p; mid = k; high = p; end = k; range = false }
@@ -17,28 +16,28 @@ abbrev pub ranging : ℕ → ℕ → ℕ → ℕ → Found
 ranging p k q e = record { low = p; mid = k; high = q; end = e; range = true }
 
 -- the high end from q on
-abbrev pub high_read : ℕ → ℕ → ℕ → Spelled → ValueRead
-high_read p k q (Spelled.Open e) = ValueRead.Open (ranging p k q e) e
-high_read p k q (Spelled.Ended e) = ValueRead.Ended (ranging p k q e) (e + 1)
-high_read p k q (Spelled.Fault e) = ValueRead.Fault e
+abbrev pub high_read : ℕ → ℕ → ℕ → Result Spelled ℕ → Result ValueRead ℕ
+high_read p k q (Ok (Spelled.Open e)) = Ok (ValueRead.Open (ranging p k q e) e)
+high_read p k q (Ok (Spelled.Ended e)) = Ok (ValueRead.Ended (ranging p k q e) (e + 1))
+high_read p k q (Err e) = Err e
 
-abbrev pub high_at : List ℕ → ℕ → ℕ → ℕ → ValueRead
+abbrev pub high_at : List ℕ → ℕ → ℕ → ℕ → Result ValueRead ℕ
 high_at text p k n = high_read p k (inked text n) (spelled_at text n)
 
-abbrev pub thru_read : List ℕ → ℕ → ℕ → Reached → ValueRead
-thru_read text p k (Reached.Word n) = high_at text p k n
-thru_read text p k (Reached.Fault n) = ValueRead.Fault n
+abbrev pub thru_read : List ℕ → ℕ → ℕ → Result ℕ ℕ → Result ValueRead ℕ
+thru_read text p k (Ok n) = high_at text p k n
+thru_read text p k (Err n) = Err n
 
-abbrev pub thru_at : List ℕ → ℕ → ℕ → ValueRead
+abbrev pub thru_at : List ℕ → ℕ → ℕ → Result ValueRead ℕ
 thru_at text p k = thru_read text p k (literal_at (bytes "THRU") text k)
 
 -- the low end from p on
-abbrev pub low_read : List ℕ → ℕ → Spelled → ValueRead
-low_read text p (Spelled.Open k) = cond (eqb (get_or text (inked text k) 0) 0x54) (thru_at text p k) (ValueRead.Open (alone p k) k)
-low_read text p (Spelled.Ended k) = ValueRead.Ended (alone p k) (k + 1)
-low_read text p (Spelled.Fault k) = ValueRead.Fault k
+abbrev pub low_read : List ℕ → ℕ → Result Spelled ℕ → Result ValueRead ℕ
+low_read text p (Ok (Spelled.Open k)) = cond (eqb (get_or text (inked text k) 0) 0x54) (thru_at text p k) (Ok (ValueRead.Open (alone p k) k))
+low_read text p (Ok (Spelled.Ended k)) = Ok (ValueRead.Ended (alone p k) (k + 1))
+low_read text p (Err k) = Err k
 
-abbrev pub value_at : List ℕ → ℕ → ValueRead
+abbrev pub value_at : List ℕ → ℕ → Result ValueRead ℕ
 value_at text n = low_read text (inked text n) (spelled_at text n)
 
 -- the value that stands there

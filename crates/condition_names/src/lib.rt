@@ -5,7 +5,7 @@ pub mod scan; // a value in a text
 
 // A value as it stands in a text: where its low end starts and ends, and its high end, alike for a
 // single value.
-#[derive(Clone, Copy)]
+#[derive(Debug, Clone, Copy, PartialEq, Eq)]
 pub struct Found {
     pub low: usize,
     pub mid: usize,
@@ -14,11 +14,9 @@ pub struct Found {
     pub range: bool,
 }
 
-// A value, after which others follow or the entry's period stands, and where it ends; or the first
-// faulty byte.
-#[derive(Clone, Copy)]
+// A value, after which others follow or the entry's period stands, and where it ends.
+#[derive(Debug, Clone, Copy, PartialEq, Eq)]
 pub enum ValueRead {
-    Open(Found, usize),
-    Ended(Found, usize),
-    Fault(usize),
+    Open { found: Found, end: usize },
+    Ended { found: Found, end: usize },
 }

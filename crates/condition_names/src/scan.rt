@@ -3,19 +3,19 @@ ghost use Rattle.std.specs.Prelude.{◌≡◌, ◌≤◌, length};
 ghost use Rattle.condition_names.specs.Values.{value_at, thru_at, high_at};
 
 use crate::{Found, ValueRead};
-use description::{Reached, Spelled};
+use description::Spelled;
 use literal_spans::spans::spelled_at;
 use text_bytes::blanks::next_ink;
 use text_bytes::bytes::byte_at;
 use wanted_words::literals::literal;
 
 // The high end after THRU, whose low end stands from low to mid.
-fn high_at(text: &[u8], low: usize, mid: usize, n: usize) -> ValueRead
+fn high_at(text: &[u8], low: usize, mid: usize, n: usize) -> Result<ValueRead, usize>
     requires { n ≤ length text.now }
     ensures { result ≡ high_at text.now low mid n }
 {
     let high = next_ink(text, n);
-    match spelled_at(text, n) {
+    match spelled_at(text, n)? {
         Spelled::Open(end) => {
             let found = Found {
                 low,
@@ -24,7 +24,7 @@ fn high_at(text: &[u8], low: usize, mid: usize, n: usize) -> ValueRead
                 end,
                 range: true,
             };
-            ValueRead::Open(found, end)
+            Ok(ValueRead::Open { found, end })
         }
         Spelled::Ended(end) => {
             let found = Found {
@@ -34,29 +34,29 @@ fn high_at(text: &[u8], low: usize, mid: usize, n: usize) -> ValueRead
                 end,
                 range: true,
             };
-            ValueRead::Ended(found, end + 1)
+            Ok(ValueRead::Ended {
+                found,
+                end: end + 1,
+            })
         }
-        Spelled::Fault(k) => ValueRead::Fault(k),
     }
 }
 
-fn thru_at(text: &[u8], low: usize, mid: usize) -> ValueRead
+fn thru_at(text: &[u8], low: usize, mid: usize) -> Result<ValueRead, usize>
     requires { mid ≤ length text.now }
     ensures { result ≡ thru_at text.now low mid }
 {
-    match literal(b"THRU", text, mid) {
-        Reached::Word(k) => high_at(text, low, mid, k),
-        Reached::Fault(k) => ValueRead::Fault(k),
-    }
+    let k = literal(b"THRU", text, mid)?;
+    high_at(text, low, mid, k)
 }
 
 // The value after a blank at n. THRU begins with a T, and no literal does.
-pub fn value_at(text: &[u8], n: usize) -> ValueRead
+pub fn value_at(text: &[u8], n: usize) -> Result<ValueRead, usize>
     requires { n ≤ length text.now }
     ensures { result ≡ value_at text.now n }
 {
     let low = next_ink(text, n);
-    match spelled_at(text, n) {
+    match spelled_at(text, n)? {
         Spelled::Open(mid) => {
             if byte_at(text, next_ink(text, mid)) == 0x54 {
                 return thru_at(text, low, mid);
@@ -68,7 +68,7 @@ pub fn value_at(text: &[u8], n: usize) -> ValueRead
                 end: mid,
                 range: false,
             };
-            ValueRead::Open(found, mid)
+            Ok(ValueRead::Open { found, end: mid })
         }
         Spelled::Ended(mid) => {
             let found = Found {
@@ -78,8 +78,10 @@ pub fn value_at(text: &[u8], n: usize) -> ValueRead
                 end: mid,
                 range: false,
             };
-            ValueRead::Ended(found, mid + 1)
+            Ok(ValueRead::Ended {
+                found,
+                end: mid + 1,
+            })
         }
-        Spelled::Fault(k) => ValueRead::Fault(k),
     }
 }

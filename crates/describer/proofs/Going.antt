@@ -21,12 +21,11 @@ use Rattle.levels.proofs.Stack.{stored_top}
 use Rattle.text_bytes.proofs.Laws.{inked_le}
 use Rattle.entries.specs.declared.Noted.{Noted}
 use Rattle.entries.specs.declared.EntryRead.{EntryRead}
-use Rattle.entries.specs.declared.EntryRead.TheVariants.{Whole, Name, Fault}
+use Rattle.entries.specs.declared.EntryRead.TheVariants.{Whole, Name}
 use Rattle.entries.specs.Entries.{noted, cap_noted, cap_entry, item_of, called_of, entered_at, leveled_at, entry_at, entry_of}
 use Rattle.levels.specs.declared.Entered.{Entered}
 use Rattle.levels.specs.declared.Entered.TheVariants.{Depth, Not}
 use Rattle.description.specs.declared.Clauses.{Clauses}
-use Rattle.description.specs.declared.Clauses.TheVariants as Clauses
 use Rattle.description.specs.declared.Called.{Called}
 use Rattle.description.specs.declared.Called.TheVariants as Called
 use Rattle.entries.proofs.Bounds.{Wholes}
@@ -36,32 +35,32 @@ use Rattle.storing.specs.Naming.{names, Stores, Kept, NameReady, NameBy}
 use Rattle.storing.specs.Reads.{reading_of, ReadBy, Beyond}
 use Rattle.storing.specs.declared.Names.{Names}
 use Rattle.storing.specs.declared.NameStep.{NameStep}
-use Rattle.storing.specs.declared.NameStep.TheVariants.{Read, Fault as Faulty}
 use Rattle.storing.specs.declared.Found.{Found}
 use Rattle.storing.proofs.Stored.{stored_alike}
 use Rattle.describer.proofs.Labels.{none_kept, kept_item, kept_more, literals_more}
 use Rattle.describer.proofs.Past.{found, beyond_item, beyond_step}
 use Rattle.noting.proofs.Flat.{kept, held_there, noted-same, noted_snoc}
+use Rattle.std.specs.Prelude.{Result, Ok, Err}
 
 -- Without an item before it no entry is one of level 88.
-no_item : (l d p n : ℕ) (x : Clauses) → item_of l d p n x ≡ Name → ⊥
-no_item l d p n (Clauses.Ended c s t u k) e = let z : ◌≡◌ {A = ℕ} 0 1 = cc in omega arith
-no_item l d p n (Clauses.Fault k) e = let z : ◌≡◌ {A = ℕ} 0 1 = cc in omega arith
+no_item : (l d p n : ℕ) (x : Result Clauses ℕ) → item_of l d p n x ≡ Ok Name → ⊥
+no_item l d p n (Ok x) e = let z : ◌≡◌ {A = ℕ} 0 1 = cc in omega arith
+no_item l d p n (Err k) e = let z : ◌≡◌ {A = ℕ} 0 1 = cc in omega arith
 
-no_called : (text : List ℕ) (l d p : ℕ) (x : Called) → called_of text l d p x ≡ Name → ⊥
-no_called text l d p (Called.Item k) e = no_item l d p (inked text (p + 2)) (clauses_at text k) e
-no_called text l d p (Called.Group k) e = let z : ◌≡◌ {A = ℕ} 0 1 = cc in omega arith
-no_called text l d p (Called.Fault k) e = let z : ◌≡◌ {A = ℕ} 0 1 = cc in omega arith
+no_called : (text : List ℕ) (l d p : ℕ) (x : Result Called ℕ) → called_of text l d p x ≡ Ok Name → ⊥
+no_called text l d p (Ok (Called.Item k)) e = no_item l d p (inked text (p + 2)) (clauses_at text k) e
+no_called text l d p (Ok (Called.Group k)) e = let z : ◌≡◌ {A = ℕ} 0 1 = cc in omega arith
+no_called text l d p (Err k) e = let z : ◌≡◌ {A = ℕ} 0 1 = cc in omega arith
 
-no_entered : (text : List ℕ) (l p : ℕ) (x : Entered) → entered_at text l p x ≡ Name → ⊥
+no_entered : (text : List ℕ) (l p : ℕ) (x : Entered) → entered_at text l p x ≡ Ok Name → ⊥
 no_entered text l p (Depth d) e = no_called text l d p (name_at l text (p + 2)) e
 no_entered text l p Not e = let z : ◌≡◌ {A = ℕ} 0 1 = cc in omega arith
 
-no_name : (stack : List ℕ) (depth waiting : ℕ) (text : List ℕ) (p : ℕ) → entry_at stack depth waiting false text p ≡ Name → ⊥
+no_name : (stack : List ℕ) (depth waiting : ℕ) (text : List ℕ) (p : ℕ) → entry_at stack depth waiting false text p ≡ Ok Name → ⊥
 no_name stack depth waiting text p e =
     by (enters (groups_of stack depth waiting) (get_or text p 0 ∷ get_or text (p + 1) 0 ∷ [])) (begins_level (groups_of stack depth waiting) (get_or text p 0 ∷ []) || false) e
   where
-    by : (s t : Bool) → leveled_at stack depth waiting text p (leveled p s false t (10 * (get_or text p 0 - 0x30) + (get_or text (p + 1) 0 - 0x30))) ≡ Name → ⊥
+    by : (s t : Bool) → leveled_at stack depth waiting text p (leveled p s false t (10 * (get_or text p 0 - 0x30) + (get_or text (p + 1) 0 - 0x30))) ≡ Ok Name → ⊥
     by true t e =
         no_entered text (10 * (get_or text p 0 - 0x30) + (get_or text (p + 1) 0 - 0x30)) p
         (entered_by stack depth waiting (10 * (get_or text p 0 - 0x30) + (get_or text (p + 1) 0 - 0x30))) e
@@ -173,7 +172,7 @@ module _ (text flat stack rows places notes : List ℕ) (depth waiting count at 
         all = G.kept.all;
       })
 
-  module _ {p : ℕ} (e : p ≡ inked text at) (h : ¬ (p ≡ length text)) {r : EntryRead} (f : r ≡ cap_entry (entry_at stack depth waiting (ltb 0 count) text p)) where
+  module _ {p : ℕ} (e : p ≡ inked text at) (h : ¬ (p ≡ length text)) {r : Result EntryRead ℕ} (f : r ≡ cap_entry (entry_at stack depth waiting (ltb 0 count) text p)) where
     pub before_end : p < length text
     before_end = omega (arith, inked_le text at G.inside)
 
@@ -186,23 +185,23 @@ module _ (text flat stack rows places notes : List ℕ) (depth waiting count at 
         rw e (G.reading ∙ entry-leads stack text d depth waiting (ltb 0 count) has at l)
 
     -- An entry that is faulty.
-    pub faults : {k : ℕ} → r ≡ Fault k → {z : Found} → z ≡ found count false k s → Reads text flat rows places notes z
+    pub faults : {k : ℕ} → r ≡ Err k → {z : Found} → z ≡ found count false k s → Reads text flat rows places notes z
     faults {k} i q = faulty_as k (leads ∙ by (entry_at stack depth waiting (ltb 0 count) text p) (sym i ∙ f)) q G.kept.stores
       where
-        by : (z : EntryRead) → Fault k ≡ cap_entry z → on_entry stack g p text d z ≡ faulty d k
-        by (Whole y n m) i = let z : ◌≡◌ {A = ℕ} 0 1 = cc in absurd (omega arith)
-        by Name i = let z : ◌≡◌ {A = ℕ} 0 1 = cc in absurd (omega arith)
-        by (Fault m) i = let j : m ≡ k = cc in rw j
+        by : (z : Result EntryRead ℕ) → Err k ≡ cap_entry z → on_entry stack g p text d z ≡ faulty d k
+        by (Ok (Whole y n m)) i = let z : ◌≡◌ {A = ℕ} 0 1 = cc in absurd (omega arith)
+        by (Ok Name) i = let z : ◌≡◌ {A = ℕ} 0 1 = cc in absurd (omega arith)
+        by (Err m) i = let j : m ≡ k = cc in rw j
 
     -- Level 88.
-    module _ (i : r ≡ Name) where
-      is_name_lem : entry_at stack depth waiting (ltb 0 count) text p ≡ Name
+    module _ (i : r ≡ Ok Name) where
+      is_name_lem : entry_at stack depth waiting (ltb 0 count) text p ≡ Ok Name
       is_name_lem = by (entry_at stack depth waiting (ltb 0 count) text p) (sym i ∙ f)
         where
-          by : (z : EntryRead) → Name ≡ cap_entry z → z ≡ Name
-          by (Whole y n m) i = let z : ◌≡◌ {A = ℕ} 0 1 = cc in absurd (omega arith)
-          by Name i = refl
-          by (Fault m) i = let z : ◌≡◌ {A = ℕ} 0 1 = cc in absurd (omega arith)
+          by : (z : Result EntryRead ℕ) → Ok Name ≡ cap_entry z → z ≡ Ok Name
+          by (Ok (Whole y n m)) i = let z : ◌≡◌ {A = ℕ} 0 1 = cc in absurd (omega arith)
+          by (Ok Name) i = refl
+          by (Err m) i = let z : ◌≡◌ {A = ℕ} 0 1 = cc in absurd (omega arith)
 
       name_leads : read_text text ≡ joined text (p + 2) (label (naming g p d))
       name_leads = leads ∙ rw is_name_lem
@@ -210,7 +209,7 @@ module _ (text flat stack rows places notes : List ℕ) (depth waiting count at 
       some_item : 0 < count
       some_item = by (ltb 0 count) refl is_name_lem
         where
-          by : (t : Bool) → ltb 0 count ≡ t → entry_at stack depth waiting t text p ≡ Name → 0 < count
+          by : (t : Bool) → ltb 0 count ≡ t → entry_at stack depth waiting t text p ≡ Ok Name → 0 < count
           by true j q = ltb-true 0 count j
           by false j q = absurd (no_name stack depth waiting text p q)
 
@@ -246,14 +245,20 @@ module _ (text flat stack rows places notes : List ℕ) (depth waiting count at 
           }
 
       module _ {rows' places' notes' nrow' : List ℕ} where
-        pub name_fault : {k : ℕ} → NameBy text p flat count s rows places notes (Faulty k) rows' places' notes' nrow' → {z : Found} → z ≡ found count false k s →
+        pub name_fault : {k : ℕ} → NameBy text p flat count s rows places notes (Err k) rows' places' notes' nrow' → {z : Found} → z ≡ found count false k s →
             Reads text flat rows' places' notes' z
         name_fault {k} N q =
             let m = N.by.1 in
             rw (m.named, m.placed) (faulty_as k (name_leads ∙ N.by.0 (naming g p d)) q (stored_alike m.spared.counted G.kept.stores))
 
-        module _ {r' : Names} {k : ℕ} (w : (1152 ≤ length rows) × (64 ≤ length places))
-            (N : NameBy text p flat count s rows places notes (Read r' k) rows' places' notes' nrow') where
+        module _ {step : NameStep} (w : (1152 ≤ length rows) × (64 ≤ length places))
+            (N : NameBy text p flat count s rows places notes (Ok step) rows' places' notes' nrow') where
+          abbrev r' : Names
+          r' = step.names
+
+          abbrev k : ℕ
+          k = step.end
+
           abbrev c : Condition
           c = condition (length es - 1) p (inked text (p + 2)) N.values
 
@@ -308,18 +313,18 @@ module _ (text flat stack rows places notes : List ℕ) (depth waiting count at 
     -- An entry that is whole: the exact one.
     pub record Exact (x : Noted) (n k : ℕ) : Type 0 where
       pub y : Noted
-      pub is : entry_at stack depth waiting (ltb 0 count) text p ≡ Whole y n k
+      pub is : entry_at stack depth waiting (ltb 0 count) text p ≡ Ok (Whole y n k)
       pub capped : x ≡ cap_noted y
       pub scale : y.scale ≤ y.digits
       pub ends : (p + 5 ≤ k) × (k ≤ length text)
       pub near : (n ≤ depth + 1) × (y.level ≤ 99)
 
-    pub exactly : {x : Noted} {n k : ℕ} → r ≡ Whole x n k → Exact x n k
+    pub exactly : {x : Noted} {n k : ℕ} → r ≡ Ok (Whole x n k) → Exact x n k
     exactly {x} {n} {k} i = by (entry_at stack depth waiting (ltb 0 count) text p) refl (sym i ∙ f) (entry_whole stack text d depth waiting (ltb 0 count) has p before_end)
         (entry_deep stack text d depth waiting (ltb 0 count) has p)
       where
-        by : (z : EntryRead) → entry_at stack depth waiting (ltb 0 count) text p ≡ z → Whole x n k ≡ cap_entry z → Wholes text p z → Deep stack text d depth waiting (ltb 0 count) has z → Exact x n k
-        by (Whole y d' m) j i w o =
+        by : (z : Result EntryRead ℕ) → entry_at stack depth waiting (ltb 0 count) text p ≡ z → Ok (Whole x n k) ≡ cap_entry z → Wholes text p z → Deep stack text d depth waiting (ltb 0 count) has z → Exact x n k
+        by (Ok (Whole y d' m)) j i w o =
             let a : n ≡ d' = cc in
             let b : k ≡ m = cc in
             let c : x ≡ cap_noted y = cc in
@@ -331,10 +336,10 @@ module _ (text flat stack rows places notes : List ℕ) (depth waiting count at 
               ends = (omega (arith, w.1.0), omega (arith, w.1.1));
               near = (omega (arith, o.0), o.1);
             }
-        by Name j i w o = let z : ◌≡◌ {A = ℕ} 0 1 = cc in absurd (omega arith)
-        by (Fault m) j i w o = let z : ◌≡◌ {A = ℕ} 0 1 = cc in absurd (omega arith)
+        by (Ok Name) j i w o = let z : ◌≡◌ {A = ℕ} 0 1 = cc in absurd (omega arith)
+        by (Err m) j i w o = let z : ◌≡◌ {A = ℕ} 0 1 = cc in absurd (omega arith)
 
-    module _ {x : Noted} {n k : ℕ} (i : r ≡ Whole x n k) (room : 5747 ≤ length flat) where
+    module _ {x : Noted} {n k : ℕ} (i : r ≡ Ok (Whole x n k)) (room : 5747 ≤ length flat) where
       abbrev X : Exact x n k
       X = exactly i
 
@@ -449,7 +454,7 @@ module _ (text flat stack rows places notes : List ℕ) (depth waiting count at 
       pub further : (at < k) × (k ≤ length text)
       further = (omega (arith, X.ends.0, e), X.ends.1)
 
-pub step_as : {text : List ℕ} {p : ℕ} {flat : List ℕ} {count : ℕ} {s : Names} {rows places notes rows-after places-after notes-after row-after : List ℕ} {r z : NameStep} →
+pub step_as : {text : List ℕ} {p : ℕ} {flat : List ℕ} {count : ℕ} {s : Names} {rows places notes rows-after places-after notes-after row-after : List ℕ} {r z : Result NameStep ℕ} →
     NameBy text p flat count s rows places notes r rows-after places-after notes-after row-after → r ≡ z →
     NameBy text p flat count s rows places notes z rows-after places-after notes-after row-after
 step_as N q = rw (← q) N

@@ -9,7 +9,7 @@ use entries::EntryRead;
 use entries::entry::entry_at;
 use noting::store::{push, store, waiting_after};
 use storing::naming::name_step;
-use storing::{Found, NameStep, Names};
+use storing::{Found, Names};
 use text_bytes::blanks::next_ink;
 use text_bytes::bytes::is_blank;
 
@@ -67,29 +67,35 @@ pub fn read_entries(
             return found(count, (0 < count) & (waiting == 0), p, kept);
         }
         match entry_at(stack, depth, waiting, 0 < count, text, p) {
-            EntryRead::Fault(k) => {
+            Err(k) => {
                 return found(count, false, k, kept);
             }
-            EntryRead::Name => {
+            Ok(EntryRead::Name) => {
                 match name_step(text, p, entries, count, kept, names, places, notes, row) {
-                    NameStep::Read(next, end) => {
-                        if !parted_at(text, end) {
-                            return found(count, false, end, next);
+                    Ok(step) => {
+                        if !parted_at(text, step.end) {
+                            return found(count, false, step.end, step.names);
                         }
-                        kept = next;
-                        at = end;
+                        kept = step.names;
+                        at = step.end;
                     }
-                    NameStep::Fault(k) => {
-                        return found(count, false, k, kept);
+                    Err(e) => {
+                        return found(count, false, e, kept);
                     }
                 }
             }
-            EntryRead::Whole(x, d, end) => {
-                store(entries, count, x);
-                push(stack, d, x.level);
+            Ok(
+                EntryRead::Whole {
+                    noted,
+                    depth: d,
+                    end,
+                },
+            ) => {
+                store(entries, count, noted);
+                push(stack, d, noted.level);
                 count += 1;
                 depth = d;
-                waiting = waiting_after(x);
+                waiting = waiting_after(noted);
                 at = end;
                 if !parted_at(text, end) {
                     return found(count, false, end, kept);

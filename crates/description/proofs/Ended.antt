@@ -27,6 +27,7 @@ use Rattle.description.proofs.Takes.{no_picture}
 use Rattle.description.proofs.Fit.{drawn-some}
 use Rattle.description.proofs.Pictures as P
 use Rattle.description.proofs.Stages.{Middle, no_word, word-leads, word_reach, leads, reached}
+use Rattle.std.specs.Prelude.{Result, Ok, Err}
 
 pub unended_snoc : (u : List ℕ) (b : ℕ) → unended (u ++ b ∷ []) ≡ given (eqb b 0x2e) u
 unfolding unended
@@ -146,10 +147,10 @@ name_goes_on u = by (begins_name (ended u)) refl
         apart (all_append is_name_byte u (0x2e ∷ []) (all_append is_name_byte (ended u) k.0 k.1.made).0).1 refl
 
 -- what a name leads to
-abbrev pub on_called : List ℕ → Started → ℕ → Called → Reading
-on_called text h p (Called.Item k) = joined text k (pic h p)
-on_called text h p (Called.Group k) = joined text k (opened h p)
-on_called text h p (Called.Fault k) = faulty h.earlier k
+abbrev pub on_called : List ℕ → Started → ℕ → Result Called ℕ → Reading
+on_called text h p (Ok (Called.Item k)) = joined text k (pic h p)
+on_called text h p (Ok (Called.Group k)) = joined text k (opened h p)
+on_called text h p (Err k) = faulty h.earlier k
 
 module _ (text : List ℕ) (e : ℕ) (h : Started) where
   name_middle : Middle (name h)
@@ -158,7 +159,7 @@ module _ (text : List ℕ) (e : ℕ) (h : Started) where
 
   name_decided : (p m : ℕ) (bs : List ℕ) → unended (take m bs) ≡ none → (c d g : Bool) → is_called (take m bs) ≡ c → eqb (get_or (drop m bs) 0 0) 0x2e ≡ d → groupable h.level ≡ g →
       leads text (next (name h) p (take (cond (d && (c && g)) (suc m) m) bs)) (name h) (p + cond (d && (c && g)) (suc m) m) ≡ on_called text h p
-      (cond c (cond (d && g) (Called.Group (p + m + 1)) (Called.Item (p + m))) (Called.Fault (p + m)))
+      (cond c (cond (d && g) (Ok (Called.Group (p + m + 1))) (Ok (Called.Item (p + m)))) (Err (p + m)))
   unfolding next
   name_decided p m bs u true true true i j k =
       let z : p + suc m ≡ p + m + 1 = omega arith in
@@ -174,7 +175,7 @@ module _ (text : List ℕ) (e : ℕ) (h : Started) where
   name_leads = by (eqb (inked text e) e) refl
     where
       by : (t : Bool) → eqb (inked text e) e ≡ t →
-          joined text e (name h) ≡ on_called text h (inked text e) (cond t (Called.Fault e) (name_from h.level text (inked text e)))
+          joined text e (name h) ≡ on_called text h (inked text e) (cond t (Err e) (name_from h.level text (inked text e)))
       by true i = no_word text e (name h) name_middle (eqb-true (inked text e) e i)
       by false i =
           word-leads text e (name h) name_middle (eqb-false (inked text e) e i)
@@ -214,10 +215,10 @@ picture_goes_on u = by (draws (ended u)) refl
         apart (all_append P.is_mark u (0x2e ∷ []) (all_append P.is_mark (ended u) m.0 (P.picture_made m.2)).0).1 refl
 
 -- what a picture leads to
-abbrev pub on_pictured : List ℕ → Started → ℕ → Pictured → Reading
-on_pictured text h n (Pictured.Ended kind size scale digits k) = joined text k (finished h n (item kind size scale digits))
-on_pictured text h n (Pictured.Number s i j k) = joined text k (sign h n s i j)
-on_pictured text h n (Pictured.Fault k) = faulty h.earlier k
+abbrev pub on_pictured : List ℕ → Started → ℕ → Result Pictured ℕ → Reading
+on_pictured text h n (Ok (Pictured.Ended x)) = joined text x.end (finished h n (item x.kind x.size x.scale x.digits))
+on_pictured text h n (Ok (Pictured.Number s i j k)) = joined text k (sign h n s i j)
+on_pictured text h n (Err k) = faulty h.earlier k
 
 module _ (text : List ℕ) (e : ℕ) (h : Started) (n : ℕ) where
   picture_middle : Middle (picture h n)
@@ -248,7 +249,7 @@ module _ (text : List ℕ) (e : ℕ) (h : Started) (n : ℕ) where
   picture_leads = by (eqb (inked text e) e) refl
     where
       by : (t : Bool) → eqb (inked text e) e ≡ t →
-          joined text e (picture h n) ≡ on_pictured text h n (cond t (Pictured.Fault e) (picture_from text (inked text e)))
+          joined text e (picture h n) ≡ on_pictured text h n (cond t (Err e) (picture_from text (inked text e)))
       by true i = no_word text e (picture h n) picture_middle (eqb-true (inked text e) e i)
       by false i =
           word-leads text e (picture h n) picture_middle (eqb-false (inked text e) e i)

@@ -17,14 +17,10 @@ use Rattle.description.specs.Reader.{level, name, pic, picture, sign, side, sepa
 use Rattle.description.specs.Reader.{parts_of, table_of, Reading, read, faulty, reading}
 use Rattle.description.specs.Stages.{blanks, inked, reach, literal_at, side_at, picture_at, sign_at, packed_at, usage_at, clauses_at, after_pic}
 use Rattle.description.specs.Stages.{after_picture, after_sign, after_side, after_separate, after_packed, is_eight, leveled, level_at, onward, joined}
-use Rattle.description.specs.declared.Reached.{Reached}
-use Rattle.description.specs.declared.Reached.TheVariants as Reached
 use Rattle.description.specs.declared.Sided.{Sided}
-use Rattle.description.specs.declared.Sided.TheVariants as Sided
 use Rattle.description.specs.declared.Pictured.{Pictured}
 use Rattle.description.specs.declared.Pictured.TheVariants as Pictured
 use Rattle.description.specs.declared.Clauses.{Clauses}
-use Rattle.description.specs.declared.Clauses.TheVariants as Clauses
 use Rattle.description.specs.declared.Leveled.{Leveled}
 use Rattle.description.specs.declared.Leveled.TheVariants as Leveled
 use Rattle.description.proofs.Bytes.{apart, and_both, is_some_lem, bind-some}
@@ -33,30 +29,31 @@ use Rattle.description.proofs.Fit.{begins_level_lem}
 use Rattle.description.proofs.Stages.{from_word, onward-inked, inked-blanks, arrive, after-word}
 use Rattle.description.proofs.Phases.{on_reached, on_sided, pic_leads, sign_leads, packed-leads, side-leads, separate_leads}
 use Rattle.description.proofs.Ended.{on_pictured, picture_leads}
+use Rattle.std.specs.Prelude.{Err, Ok, Result}
 
 -- What follows an item's name.
-abbrev pub on_clauses : List ℕ → Started → ℕ → Clauses → Reading
-on_clauses text h n (Clauses.Ended kind size scale digits k) = joined text k (finished h n (item kind size scale digits))
-on_clauses text h n (Clauses.Fault k) = faulty h.earlier k
+abbrev pub on_clauses : List ℕ → Started → ℕ → Result Clauses ℕ → Reading
+on_clauses text h n (Ok x) = joined text x.end (finished h n (item x.kind x.size x.scale x.digits))
+on_clauses text h n (Err k) = faulty h.earlier k
 
 module _ (text : List ℕ) (h : Started) (n : ℕ) where
-  after_separate_lem : (c i j : ℕ) (x : Reached) →
+  after_separate_lem : (c i j : ℕ) (x : Result ℕ ℕ) →
       on_reached text (separate h n c i j) (finished h n (item c (i + j + 1) j (i + j))) x ≡ on_clauses text h n (after_separate c i j x)
-  after_separate_lem c i j (Reached.Word k) = refl
-  after_separate_lem c i j (Reached.Fault k) = refl
+  after_separate_lem c i j (Ok k) = refl
+  after_separate_lem c i j (Err k) = refl
 
-  after_side_lem : (i j : ℕ) (x : Sided) → on_sided text h n i j x ≡ on_clauses text h n (after_side text i j x)
-  after_side_lem i j (Sided.Side c k) = separate_leads text k h n c i j ∙ after_separate_lem c i j (literal_at (ended (bytes "SEPARATE")) text k)
-  after_side_lem i j (Sided.Fault k) = refl
+  after_side_lem : (i j : ℕ) (x : Result Sided ℕ) → on_sided text h n i j x ≡ on_clauses text h n (after_side text i j x)
+  after_side_lem i j (Ok s) = separate_leads text s.end h n s.kind i j ∙ after_separate_lem s.kind i j (literal_at (ended (bytes "SEPARATE")) text s.end)
+  after_side_lem i j (Err k) = refl
 
-  after_sign_lem : (i j : ℕ) (x : Reached) → on_reached text (sign h n true i j) (side h n i j) x ≡ on_clauses text h n (after_sign text i j x)
-  after_sign_lem i j (Reached.Word k) = side-leads text k h n i j ∙ after_side_lem i j (side_at text k)
-  after_sign_lem i j (Reached.Fault k) = refl
+  after_sign_lem : (i j : ℕ) (x : Result ℕ ℕ) → on_reached text (sign h n true i j) (side h n i j) x ≡ on_clauses text h n (after_sign text i j x)
+  after_sign_lem i j (Ok k) = side-leads text k h n i j ∙ after_side_lem i j (side_at text k)
+  after_sign_lem i j (Err k) = refl
 
-  after_packed_lem : (s : Bool) (i j : ℕ) (x : Reached) →
+  after_packed_lem : (s : Bool) (i j : ℕ) (x : Result ℕ ℕ) →
       on_reached text (sign h n s i j) (finished h n (packed s i j)) x ≡ on_clauses text h n (after_packed s i j x)
-  after_packed_lem s i j (Reached.Word k) = refl
-  after_packed_lem s i j (Reached.Fault k) = refl
+  after_packed_lem s i j (Ok k) = refl
+  after_packed_lem s i j (Err k) = refl
 
   usage_leads : (s : Bool) (i j k : ℕ) → joined text k (sign h n s i j) ≡ on_clauses text h n (usage_at s i j text k)
   unfolding usage_at sign_at packed_at
@@ -67,14 +64,14 @@ module _ (text : List ℕ) (h : Started) (n : ℕ) where
       by true false e = packed-leads text k h n true i j e ∙ after_packed_lem true i j (literal_at (ended (bytes "COMP-3")) text k)
       by false t e = packed-leads text k h n false i j refl ∙ after_packed_lem false i j (literal_at (ended (bytes "COMP-3")) text k)
 
-  after_picture_lem : (x : Pictured) → on_pictured text h n x ≡ on_clauses text h n (after_picture text x)
-  after_picture_lem (Pictured.Ended kind size scale digits k) = refl
-  after_picture_lem (Pictured.Number s i j k) = usage_leads s i j k
-  after_picture_lem (Pictured.Fault k) = refl
+  after_picture_lem : (x : Result Pictured ℕ) → on_pictured text h n x ≡ on_clauses text h n (after_picture text x)
+  after_picture_lem (Ok (Pictured.Ended x)) = refl
+  after_picture_lem (Ok (Pictured.Number s i j k)) = usage_leads s i j k
+  after_picture_lem (Err k) = refl
 
-  after_pic_lem : (x : Reached) → on_reached text (pic h n) (picture h n) x ≡ on_clauses text h n (after_pic text x)
-  after_pic_lem (Reached.Word k) = picture_leads text k h n ∙ after_picture_lem (picture_at text k)
-  after_pic_lem (Reached.Fault k) = refl
+  after_pic_lem : (x : Result ℕ ℕ) → on_reached text (pic h n) (picture h n) x ≡ on_clauses text h n (after_pic text x)
+  after_pic_lem (Ok k) = picture_leads text k h n ∙ after_picture_lem (picture_at text k)
+  after_pic_lem (Err k) = refl
 
   pub clauses_lead : (e : ℕ) → joined text e (pic h n) ≡ on_clauses text h n (clauses_at text e)
   unfolding clauses_at
@@ -98,10 +95,10 @@ abbrev pub started_at : List ℕ → Parts → ℕ → ℕ → Option (List ℕ)
 started_at text d p l none = faulty d p
 started_at text d p l (some ms) = joined text (p + 2) (name (started ms l p d))
 
-abbrev pub on_leveled : List ℕ → Groups → Parts → ℕ → Leveled → Reading
-on_leveled text g d p (Leveled.Level l) = started_at text d p l (enter g l)
-on_leveled text g d p Leveled.Name = joined text (p + 2) (label (naming g p d))
-on_leveled text g d p (Leveled.Fault k) = faulty d k
+abbrev pub on_leveled : List ℕ → Groups → Parts → ℕ → Result Leveled ℕ → Reading
+on_leveled text g d p (Ok (Leveled.Level l)) = started_at text d p l (enter g l)
+on_leveled text g d p (Ok Leveled.Name) = joined text (p + 2) (label (naming g p d))
+on_leveled text g d p (Err k) = faulty d k
 
 module _ (g : Groups) (d : Parts) where
   abbrev named : ℕ → ℕ → Bool

@@ -14,12 +14,10 @@ use Rattle.description.specs.Machine.{bind, after, result}
 use Rattle.description.specs.Grammar.{bytes, same, ended, Entry, item, packed}
 use Rattle.description.specs.Reader.{given, or_else, prefix, unended, Started, State, name, pic, picture, sign, side, separate, finished, opened, next, begins, ends, parts_of, Reading, faulty}
 use Rattle.description.specs.Stages.{inked, reach, common, met, literal_at, sided, side_at, joined}
-use Rattle.description.specs.declared.Reached.{Reached}
-use Rattle.description.specs.declared.Reached.TheVariants as Reached
 use Rattle.description.specs.declared.Sided.{Sided}
-use Rattle.description.specs.declared.Sided.TheVariants as Sided
 use Rattle.description.proofs.Bytes.{apart, eqb_same, eqb_no}
 use Rattle.description.proofs.Stages.{Middle, no_word, word-leads, word_reach, leads}
+use Rattle.std.specs.Prelude.{Err, Ok, Result}
 
 -- Two tests that agree on the beginnings of a text reach as far.
 pub reach-agree : (f g : List ℕ → Bool) (u bs : List ℕ) → ((k : ℕ) → f (u ++ take (suc k) bs) ≡ g (u ++ take (suc k) bs)) → reach f u bs ≡ reach g u bs
@@ -74,16 +72,16 @@ same-common (a ∷ w) (b ∷ bs) = by (eqb b a) refl (same-common w bs)
     by false e more = sym (eqb_no 0 (suc (length w)) (λ e. omega arith))
 
 -- what a word that was asked for leads to
-abbrev pub on_reached : List ℕ → State → State → Reached → Reading
-on_reached text q r (Reached.Word k) = joined text k r
-on_reached text q r (Reached.Fault k) = faulty (parts_of q) k
+abbrev pub on_reached : List ℕ → State → State → Result ℕ ℕ → Reading
+on_reached text q r (Ok k) = joined text k r
+on_reached text q r (Err k) = faulty (parts_of q) k
 
 module _ (text : List ℕ) (e : ℕ) (q r : State) (M : Middle q) (word : List ℕ) where
   abbrev rest : List ℕ
   rest = drop (inked text e) text
 
   literal-met : (m : ℕ) (t : Bool) → eqb m (length word) ≡ t → leads text (given t r) q (inked text e + m) ≡ on_reached text q r
-      (cond t (Reached.Word (inked text e + m)) (Reached.Fault (inked text e + m)))
+      (cond t (Ok (inked text e + m)) (Err (inked text e + m)))
   literal-met m true h = refl
   literal-met m false h = refl
 
@@ -97,7 +95,7 @@ module _ (text : List ℕ) (e : ℕ) (q r : State) (M : Middle q) (word : List �
       reaches = reach-agree (begins q) (λ u. prefix u word) [] rest f ∙ reach-prefix [] word rest
 
       by : (t : Bool) → eqb (inked text e) e ≡ t →
-          joined text e q ≡ on_reached text q r (cond t (Reached.Fault e) (met (length word) (inked text e) (common word rest)))
+          joined text e q ≡ on_reached text q r (cond t (Err e) (met (length word) (inked text e) (common word rest)))
       by true h = no_word text e q M (eqb-true (inked text e) e h)
       by false h =
           word-leads text e q M (eqb-false (inked text e) e h)
@@ -118,14 +116,14 @@ separate_leads text e h n c i j =
     (λ k. refl) (λ k. refl)
 
 -- LEADING or TRAILING: the first byte tells which.
-abbrev pub on_sided : List ℕ → Started → ℕ → ℕ → ℕ → Sided → Reading
-on_sided text h n i j (Sided.Side c k) = joined text k (separate h n c i j)
-on_sided text h n i j (Sided.Fault k) = faulty h.earlier k
+abbrev pub on_sided : List ℕ → Started → ℕ → ℕ → ℕ → Result Sided ℕ → Reading
+on_sided text h n i j (Ok s) = joined text s.end (separate h n s.kind i j)
+on_sided text h n i j (Err k) = faulty h.earlier k
 
-sided-leads : (text : List ℕ) (h : Started) (n i j c : ℕ) (x : Reached) →
+sided-leads : (text : List ℕ) (h : Started) (n i j c : ℕ) (x : Result ℕ ℕ) →
     on_reached text (side h n i j) (separate h n c i j) x ≡ on_sided text h n i j (sided c x)
-sided-leads text h n i j c (Reached.Word k) = refl
-sided-leads text h n i j c (Reached.Fault k) = refl
+sided-leads text h n i j c (Ok k) = refl
+sided-leads text h n i j c (Err k) = refl
 
 pub or_nothing : (o : Option State) → or_else o none ≡ o
 or_nothing none = refl

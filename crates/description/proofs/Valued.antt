@@ -16,8 +16,6 @@ use Rattle.description.specs.Reader.{is_some, given, or_else, prefix, unended, e
 use Rattle.description.specs.Reader.{begins_literal, Naming, State, label, value, values, high, alone, thru, labelled, next, begins, parts_of}
 use Rattle.description.specs.Reader.{Reading, faulty}
 use Rattle.description.specs.Stages.{inked, reach, joined, name_reach, is_period, literal_at, label_from, label_at, literal_reach, is_literal, is_ended, spelled, spelled_from, spelled_at, literal_in}
-use Rattle.description.specs.declared.Reached.{Reached}
-use Rattle.description.specs.declared.Reached.TheVariants as Reached
 use Rattle.description.specs.declared.Spelled.{Spelled}
 use Rattle.description.specs.declared.Spelled.TheVariants as Spelled
 use Rattle.description.proofs.Machine.{after_lives, after-some}
@@ -27,6 +25,7 @@ use Rattle.description.proofs.Literals as L
 use Rattle.description.proofs.Stages.{Middle, no_word, word-leads, word_reach, leads, reach_le}
 use Rattle.description.proofs.Phases.{reach-agree, on_reached, literal-leads, first, or_nothing}
 use Rattle.description.proofs.Ended.{Ends, reach-ended, byte_after, with_period}
+use Rattle.std.specs.Prelude.{Err, Ok, Result}
 
 -- The name of the entry.
 module _ (text : List ℕ) (e : ℕ) (h : Naming) where
@@ -35,7 +34,7 @@ module _ (text : List ℕ) (e : ℕ) (h : Naming) where
   label_middle = record { unended = refl; asks = λ p. refl }
 
   label_decided : (p m : ℕ) (bs : List ℕ) (c : Bool) → is_name (take m bs) ≡ c →
-      leads text (next (label h) p (take m bs)) (label h) (p + m) ≡ on_reached text (label h) (value h p) (cond c (Reached.Word (p + m)) (Reached.Fault (p + m)))
+      leads text (next (label h) p (take m bs)) (label h) (p + m) ≡ on_reached text (label h) (value h p) (cond c (Ok (p + m)) (Err (p + m)))
   unfolding next
   label_decided p m bs true i = rw i
   label_decided p m bs false i = rw i
@@ -45,7 +44,7 @@ module _ (text : List ℕ) (e : ℕ) (h : Naming) where
   label_leads = by (eqb (inked text e) e) refl
     where
       by : (t : Bool) → eqb (inked text e) e ≡ t →
-          joined text e (label h) ≡ on_reached text (label h) (value h (inked text e)) (cond t (Reached.Fault e) (label_from text (inked text e)))
+          joined text e (label h) ≡ on_reached text (label h) (value h (inked text e)) (cond t (Err e) (label_from text (inked text e)))
       by true i = no_word text e (label h) label_middle (eqb-true (inked text e) e i)
       by false i =
           word-leads text e (label h) label_middle (eqb-false (inked text e) e i)
@@ -75,10 +74,10 @@ module _ (text : List ℕ) (e : ℕ) (q : State) (M : Middle q) (goes stops : Li
   abbrev rest : List ℕ
   rest = drop (inked text e) text
 
-  abbrev on_spelled : ℕ → Spelled → Reading
-  on_spelled p (Spelled.Open k) = joined text k (goes (literal_in text p k))
-  on_spelled p (Spelled.Ended k) = joined text (k + 1) (stops (literal_in text p k))
-  on_spelled p (Spelled.Fault k) = faulty (parts_of q) k
+  abbrev on_spelled : ℕ → Result Spelled ℕ → Reading
+  on_spelled p (Ok (Spelled.Open k)) = joined text k (goes (literal_in text p k))
+  on_spelled p (Ok (Spelled.Ended k)) = joined text (k + 1) (stops (literal_in text p k))
+  on_spelled p (Err k) = faulty (parts_of q) k
 
   abbrev taken : List ℕ → Option State
   taken w = or_else (bind (read_literal w) (λ x. some (goes x))) (bind (unended w) (λ v. bind (read_literal v) (λ x. some (stops x))))
@@ -89,7 +88,7 @@ module _ (text : List ℕ) (e : ℕ) (q : State) (M : Middle q) (goes stops : Li
   -- a word that is a literal
   whole : (p m : ℕ) (x : Literal) → read_literal (take m (drop p text)) ≡ some x → (t : Bool) → is_period text (p + m) ≡ t →
       leads text (taken (take (cond (t && true) (suc m) m) (drop p text))) q (p + cond (t && true) (suc m) m)
-      ≡ on_spelled p (cond t (Spelled.Ended (p + m)) (Spelled.Open (p + m)))
+      ≡ on_spelled p (cond t (Ok (Spelled.Ended (p + m))) (Ok (Spelled.Open (p + m))))
   whole p m x h true i =
       let z : p + suc m ≡ p + m + 1 = omega arith in
       rw (with_period (drop p text) m (rw (byte_after text p m) i), no_literal (take m (drop p text)), unended_of (take m (drop p text)), h, literal_is p m x h, z)
@@ -98,7 +97,7 @@ module _ (text : List ℕ) (e : ℕ) (q : State) (M : Middle q) (goes stops : Li
   -- a word that is none: its point may be the period
   pointed : (p m : ℕ) → m ≤ length (drop p text) → read_literal (take m (drop p text)) ≡ none → (o : Option (List ℕ)) → unended (take m (drop p text)) ≡ o →
       leads text (taken (take m (drop p text))) q (p + m)
-      ≡ on_spelled p (cond (is_some (bind o (λ v. given (is_literal v) v))) (Spelled.Ended (p + m - 1)) (Spelled.Fault (p + m)))
+      ≡ on_spelled p (cond (is_some (bind o (λ v. given (is_literal v) v))) (Ok (Spelled.Ended (p + m - 1))) (Err (p + m)))
   pointed p m l h none i = rw (h, i)
   pointed p m l h (some v) i = by (read_literal v) refl
     where
@@ -115,7 +114,7 @@ module _ (text : List ℕ) (e : ℕ) (q : State) (M : Middle q) (goes stops : Li
 
       by : (o : Option Literal) → read_literal v ≡ o →
           leads text (taken (take m (drop p text))) q (p + m)
-          ≡ on_spelled p (cond (is_some (given (is_some o) v)) (Spelled.Ended (p + m - 1)) (Spelled.Fault (p + m)))
+          ≡ on_spelled p (cond (is_some (given (is_some o) v)) (Ok (Spelled.Ended (p + m - 1))) (Err (p + m)))
       by none j = rw (h, i, j)
       by (some x) j = let z : p + m - 1 + 1 ≡ p + m = omega (arith, long) in rw (h, i, j, literal, z, j)
 
@@ -136,7 +135,7 @@ module _ (text : List ℕ) (e : ℕ) (q : State) (M : Middle q) (goes stops : Li
           reach-agree (begins q) begins_literal [] rest f ∙ reach-ended spells is_literal literals_end [] rest
           ∙ rw (byte_after text (inked text e) (literal_reach text (inked text e)))
 
-      by : (t : Bool) → eqb (inked text e) e ≡ t → joined text e q ≡ on_spelled (inked text e) (cond t (Spelled.Fault e) (spelled_from text (inked text e)))
+      by : (t : Bool) → eqb (inked text e) e ≡ t → joined text e q ≡ on_spelled (inked text e) (cond t (Err e) (spelled_from text (inked text e)))
       by true h = no_word text e q M (eqb-true (inked text e) e h)
       by false h =
           word-leads text e q M (eqb-false (inked text e) e h)
@@ -238,15 +237,15 @@ module _ (h : Naming) (n : ℕ) (vs : List Value) where
           go (some v) = met (same (0x54 ∷ c ∷ w) (bytes "THRU"))
 
 -- What a literal leads to among values: the next word, or the end of the entry.
-abbrev pub on_value : List ℕ → Naming → ℕ → List Value → ℕ → Spelled → Reading
-on_value text h n vs p (Spelled.Open k) = joined text k (values h n vs (some (literal_in text p k)))
-on_value text h n vs p (Spelled.Ended k) = joined text (k + 1) (labelled h n (vs ++ single (literal_in text p k) ∷ []))
-on_value text h n vs p (Spelled.Fault k) = faulty h.earlier k
+abbrev pub on_value : List ℕ → Naming → ℕ → List Value → ℕ → Result Spelled ℕ → Reading
+on_value text h n vs p (Ok (Spelled.Open k)) = joined text k (values h n vs (some (literal_in text p k)))
+on_value text h n vs p (Ok (Spelled.Ended k)) = joined text (k + 1) (labelled h n (vs ++ single (literal_in text p k) ∷ []))
+on_value text h n vs p (Err k) = faulty h.earlier k
 
-abbrev pub on_high : List ℕ → Naming → ℕ → List Value → Literal → ℕ → Spelled → Reading
-on_high text h n vs l p (Spelled.Open k) = joined text k (values h n (vs ++ range l (literal_in text p k) ∷ []) none)
-on_high text h n vs l p (Spelled.Ended k) = joined text (k + 1) (labelled h n (vs ++ range l (literal_in text p k) ∷ []))
-on_high text h n vs l p (Spelled.Fault k) = faulty h.earlier k
+abbrev pub on_high : List ℕ → Naming → ℕ → List Value → Literal → ℕ → Result Spelled ℕ → Reading
+on_high text h n vs l p (Ok (Spelled.Open k)) = joined text k (values h n (vs ++ range l (literal_in text p k) ∷ []) none)
+on_high text h n vs l p (Ok (Spelled.Ended k)) = joined text (k + 1) (labelled h n (vs ++ range l (literal_in text p k) ∷ []))
+on_high text h n vs l p (Err k) = faulty h.earlier k
 
 module _ (text : List ℕ) (e : ℕ) (h : Naming) (n : ℕ) (vs : List Value) where
   -- A literal, where THRU may not stand.
@@ -262,12 +261,12 @@ module _ (text : List ℕ) (e : ℕ) (h : Naming) (n : ℕ) (vs : List Value) wh
       there (inl i) = inl i
       there (inr i) = inr (rw (first text e) i)
 
-      same-reading : (x : Spelled) →
+      same-reading : (x : Result Spelled ℕ) →
           on_spelled text e (values h n vs m) (values_middle h n vs m) (λ x. values h n (alone vs m) (some x)) (λ x. labelled h n (alone vs m ++ single x ∷ [])) (inked text e) x
           ≡ on_value text h n (alone vs m) (inked text e) x
-      same-reading (Spelled.Open k) = refl
-      same-reading (Spelled.Ended k) = refl
-      same-reading (Spelled.Fault k) = refl
+      same-reading (Ok (Spelled.Open k)) = refl
+      same-reading (Ok (Spelled.Ended k)) = refl
+      same-reading (Err k) = refl
 
   pub thru-leads : (x : Literal) → get_or text (inked text e) 0 ≡ 0x54 →
       joined text e (values h n vs (some x)) ≡ on_reached text (values h n vs (some x)) (high h n vs x) (literal_at (bytes "THRU") text e)
@@ -281,9 +280,9 @@ module _ (text : List ℕ) (e : ℕ) (h : Naming) (n : ℕ) (vs : List Value) wh
       spelled-leads text e (high h n vs l) (high_middle h n vs l) (λ x. values h n (vs ++ range l x ∷ []) none) (λ x. labelled h n (vs ++ range l x ∷ []))
       (λ k. refl) (λ k. refl) ∙ same-reading (spelled_at text e)
     where
-      same-reading : (x : Spelled) →
+      same-reading : (x : Result Spelled ℕ) →
           on_spelled text e (high h n vs l) (high_middle h n vs l) (λ x. values h n (vs ++ range l x ∷ []) none) (λ x. labelled h n (vs ++ range l x ∷ [])) (inked text e) x
           ≡ on_high text h n vs l (inked text e) x
-      same-reading (Spelled.Open k) = refl
-      same-reading (Spelled.Ended k) = refl
-      same-reading (Spelled.Fault k) = refl
+      same-reading (Ok (Spelled.Open k)) = refl
+      same-reading (Ok (Spelled.Ended k)) = refl
+      same-reading (Err k) = refl

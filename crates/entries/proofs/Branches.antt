@@ -9,22 +9,18 @@ use lib.ListN.{get_or, length}
 use Rattle.description.specs.Grammar.{bytes, ended}
 use Rattle.description.specs.Stages.{inked, literal_at, sided, side_at, after_separate, after_side, after_sign, sign_at, after_packed, packed_at, usage_at}
 use Rattle.description.specs.Stages.{picture_at, after_picture, after_pic, clauses_at, name_at, level_at}
-use Rattle.description.specs.declared.Reached.{Reached}
-use Rattle.description.specs.declared.Reached.TheVariants as Reached
 use Rattle.description.specs.declared.Called.{Called}
-use Rattle.description.specs.declared.Called.TheVariants as Called
 use Rattle.description.specs.declared.Pictured.{Pictured}
 use Rattle.description.specs.declared.Pictured.TheVariants as Pictured
 use Rattle.description.specs.declared.Sided.{Sided}
-use Rattle.description.specs.declared.Sided.TheVariants as Sided
 use Rattle.description.specs.declared.Clauses.{Clauses}
-use Rattle.description.specs.declared.Clauses.TheVariants as Clauses
 use Rattle.description.proofs.Bytes.{eqb_no}
 use Rattle.pictures.specs.Steps as Steps
 use Rattle.pictures.specs.Drawings.{cap_pictured}
 use Rattle.entries.specs.Entries.{cap, cap_clauses, item_of, cap_entry, noted}
 use Rattle.entries.specs.declared.EntryRead.{EntryRead}
-use Rattle.entries.specs.declared.EntryRead.TheVariants.{Whole, Fault}
+use Rattle.entries.specs.declared.EntryRead.TheVariants.{Whole}
+use Rattle.std.specs.Prelude.{Err, Ok, Result}
 
 -- a picture's count, as the code has it
 abbrev count : ℕ → ℕ
@@ -37,23 +33,13 @@ via f e h g = let i = sym e ∙ h in rw i g
 pub known : {A : Type 0} (P : A → Type 0) {x y v : A} → x ≡ y → x ≡ v → P y → P v
 known P e h g = let i = sym h ∙ e in rw i g
 
--- LEADING or TRAILING
-pub trailing_is : (text : List ℕ) (n : ℕ) {b p : ℕ} {r : Sided} → p ≡ inked text n → b ≡ get_or text p 0 → b ≡ 0x54 → r ≡ sided 6 (literal_at (bytes "TRAILING") text n) → r ≡ side_at text n
-trailing_is text n e f h k = let i : get_or text (inked text n) 0 ≡ 0x54 = rw (← e) (sym f ∙ h) in rw i k
-
-pub leading_is : (text : List ℕ) (n : ℕ) {b p : ℕ} {r : Sided} → p ≡ inked text n → b ≡ get_or text p 0 → ¬ (b ≡ 0x54) → r ≡ sided 5 (literal_at (bytes "LEADING") text n) → r ≡ side_at text n
-leading_is text n {b} e f h k =
-    let i : get_or text (inked text n) 0 ≡ b = rw (← e) (sym f) in
-    let j : eqb (get_or text (inked text n) 0) 0x54 ≡ false = rw i (eqb_no b 0x54 h) in
-    rw j k
-
 -- SIGN or COMP-3
-pub sign_is : (s : Bool) (i j : ℕ) (text : List ℕ) (n : ℕ) {b p : ℕ} {r : Clauses} → p ≡ inked text n → b ≡ get_or text p 0 → s && eqb b 0x53 ≡ true → r ≡ cap_clauses (sign_at i j text n) →
+pub sign_is : (s : Bool) (i j : ℕ) (text : List ℕ) (n : ℕ) {b p : ℕ} {r : Result Clauses ℕ} → p ≡ inked text n → b ≡ get_or text p 0 → s && eqb b 0x53 ≡ true → r ≡ cap_clauses (sign_at i j text n) →
     r ≡ cap_clauses (usage_at s i j text n)
 unfolding usage_at
 sign_is s i j text n {b} e f h k = let q : s && eqb (get_or text (inked text n) 0) 0x53 ≡ true = rw (← e, ← f) h in rw q k
 
-pub packed_is : (s : Bool) (i j : ℕ) (text : List ℕ) (n : ℕ) {b p : ℕ} {r : Clauses} → p ≡ inked text n → b ≡ get_or text p 0 → s && eqb b 0x53 ≡ false →
+pub packed_is : (s : Bool) (i j : ℕ) (text : List ℕ) (n : ℕ) {b p : ℕ} {r : Result Clauses ℕ} → p ≡ inked text n → b ≡ get_or text p 0 → s && eqb b 0x53 ≡ false →
     r ≡ cap_clauses (packed_at s i j text n) → r ≡ cap_clauses (usage_at s i j text n)
 unfolding usage_at
 packed_is s i j text n {b} e f h k = let q : s && eqb (get_or text (inked text n) 0) 0x53 ≡ false = rw (← e, ← f) h in rw q k
@@ -77,25 +63,25 @@ module _ (i j : ℕ) (text : List ℕ) where
   unfolding sign_at
   sign_caps n = by (literal_at (bytes "SIGN") text n)
     where
-      last : (c : ℕ) (x : Reached) → cap_clauses (after_separate c (count i) (count j) x) ≡ cap_clauses (after_separate c i j x)
-      last c (Reached.Word k) = rw (cap_separate i j, cap-count j, cap-digits i j)
-      last c (Reached.Fault k) = refl
+      last : (c : ℕ) (x : Result ℕ ℕ) → cap_clauses (after_separate c (count i) (count j) x) ≡ cap_clauses (after_separate c i j x)
+      last c (Ok k) = rw (cap_separate i j, cap-count j, cap-digits i j)
+      last c (Err k) = refl
 
-      side : (x : Sided) → cap_clauses (after_side text (count i) (count j) x) ≡ cap_clauses (after_side text i j x)
-      side (Sided.Side c k) = last c (literal_at (ended (bytes "SEPARATE")) text k)
-      side (Sided.Fault k) = refl
+      side : (x : Result Sided ℕ) → cap_clauses (after_side text (count i) (count j) x) ≡ cap_clauses (after_side text i j x)
+      side (Ok s) = last s.kind (literal_at (ended (bytes "SEPARATE")) text s.end)
+      side (Err k) = refl
 
-      by : (x : Reached) → cap_clauses (after_sign text (count i) (count j) x) ≡ cap_clauses (after_sign text i j x)
-      by (Reached.Word k) = side (side_at text k)
-      by (Reached.Fault k) = refl
+      by : (x : Result ℕ ℕ) → cap_clauses (after_sign text (count i) (count j) x) ≡ cap_clauses (after_sign text i j x)
+      by (Ok k) = side (side_at text k)
+      by (Err k) = refl
 
   packed_caps : (s : Bool) (n : ℕ) → cap_clauses (packed_at s (count i) (count j) text n) ≡ cap_clauses (packed_at s i j text n)
   unfolding packed_at
   packed_caps s n = by (literal_at (ended (bytes "COMP-3")) text n)
     where
-      by : (x : Reached) → cap_clauses (after_packed s (count i) (count j) x) ≡ cap_clauses (after_packed s i j x)
-      by (Reached.Word k) = rw (cap-packed i j, cap-count j, cap-digits i j)
-      by (Reached.Fault k) = refl
+      by : (x : Result ℕ ℕ) → cap_clauses (after_packed s (count i) (count j) x) ≡ cap_clauses (after_packed s i j x)
+      by (Ok k) = rw (cap-packed i j, cap-count j, cap-digits i j)
+      by (Err k) = refl
 
   usage_caps : (s : Bool) (n : ℕ) → cap_clauses (usage_at s (count i) (count j) text n) ≡ cap_clauses (usage_at s i j text n)
   unfolding usage_at
@@ -106,72 +92,27 @@ module _ (i j : ℕ) (text : List ℕ) where
       by true = sign_caps n
       by false = packed_caps s n
 
--- A picture with counts that stop, and what follows it.
-pub ended_is : (text : List ℕ) {c s d t k : ℕ} {x : Pictured} {r : Clauses} (y : Pictured) → x ≡ cap_pictured y → x ≡ Pictured.Ended c s d t k →
-    r ≡ cap_clauses (Clauses.Ended c s d t k) → r ≡ cap_clauses (after_picture text y)
-ended_is text {c} {s} {d} {t} {k} y e f g = g ∙ by y (sym f ∙ e)
-  where
-    by : (y : Pictured) → Pictured.Ended c s d t k ≡ cap_pictured y → cap_clauses (Clauses.Ended c s d t k) ≡ cap_clauses (after_picture text y)
-    by (Pictured.Ended c' s' d' t' k') h =
-        let p : c ≡ c' = cc in
-        let q : s ≡ count s' = cc in
-        let u : d ≡ count d' = cc in
-        let v : t ≡ count t' = cc in
-        let w : k ≡ k' = cc in
-        rw (p, q, u, v, w, cap-count s', cap-count d', cap-count t')
-    by (Pictured.Number s' i j k') h = let z : ◌≡◌ {A = ℕ} 0 1 = cc in absurd (omega arith)
-    by (Pictured.Fault k') h = let z : ◌≡◌ {A = ℕ} 0 1 = cc in absurd (omega arith)
-
-pub number_is : (text : List ℕ) {s : Bool} {i j k : ℕ} {x : Pictured} {r : Clauses} (y : Pictured) → x ≡ cap_pictured y → x ≡ Pictured.Number s i j k → r ≡ cap_clauses
+pub number_is : (text : List ℕ) {s : Bool} {i j k : ℕ} {x : Result Pictured ℕ} {r : Result Clauses ℕ} (y : Result Pictured ℕ) → x ≡ cap_pictured y → x ≡ Ok (Pictured.Number s i j k) → r ≡ cap_clauses
     (usage_at s i j text k) → r ≡ cap_clauses (after_picture text y)
 number_is text {s} {i} {j} {k} {r = r} y e f g = g ∙ by y (sym f ∙ e)
   where
-    by : (y : Pictured) → Pictured.Number s i j k ≡ cap_pictured y → cap_clauses (usage_at s i j text k) ≡ cap_clauses (after_picture text y)
-    by (Pictured.Ended c' s' d' t' k') h = let z : ◌≡◌ {A = ℕ} 0 1 = cc in absurd (omega arith)
-    by (Pictured.Number s' a b k') h =
+    by : (y : Result Pictured ℕ) → Ok (Pictured.Number s i j k) ≡ cap_pictured y → cap_clauses (usage_at s i j text k) ≡ cap_clauses (after_picture text y)
+    by (Ok (Pictured.Ended y)) h = let z : ◌≡◌ {A = ℕ} 0 1 = cc in absurd (omega arith)
+    by (Ok (Pictured.Number s' a b k')) h =
         let o : s ≡ s' = cc in
         let p : i ≡ count a = cc in
         let q : j ≡ count b = cc in
         let u : k ≡ k' = cc in
         rw (o, p, q, u) (usage_caps a b text s' k')
-    by (Pictured.Fault k') h = let z : ◌≡◌ {A = ℕ} 0 1 = cc in absurd (omega arith)
+    by (Err k') h = let z : ◌≡◌ {A = ℕ} 0 1 = cc in absurd (omega arith)
 
-pub number_small : {s : Bool} {i j k : ℕ} {x : Pictured} (y : Pictured) → x ≡ cap_pictured y → x ≡ Pictured.Number s i j k → (i ≤ 131072) × (j ≤ 131072)
+pub number_small : {s : Bool} {i j k : ℕ} {x : Result Pictured ℕ} (y : Result Pictured ℕ) → x ≡ cap_pictured y → x ≡ Ok (Pictured.Number s i j k) → (i ≤ 131072) × (j ≤ 131072)
 number_small {s} {i} {j} {k} y e f = by y (sym f ∙ e)
   where
-    by : (y : Pictured) → Pictured.Number s i j k ≡ cap_pictured y → (i ≤ 131072) × (j ≤ 131072)
-    by (Pictured.Ended c' s' d' t' k') h = let z : ◌≡◌ {A = ℕ} 0 1 = cc in absurd (omega arith)
-    by (Pictured.Number s' a b k') h =
+    by : (y : Result Pictured ℕ) → Ok (Pictured.Number s i j k) ≡ cap_pictured y → (i ≤ 131072) × (j ≤ 131072)
+    by (Ok (Pictured.Ended y)) h = let z : ◌≡◌ {A = ℕ} 0 1 = cc in absurd (omega arith)
+    by (Ok (Pictured.Number s' a b k')) h =
         let p : i ≡ count a = cc in
         let q : j ≡ count b = cc in
         (omega arith, omega arith)
-    by (Pictured.Fault k') h = let z : ◌≡◌ {A = ℕ} 0 1 = cc in absurd (omega arith)
-
-pub picture_fault : (text : List ℕ) {k : ℕ} {x : Pictured} (y : Pictured) → x ≡ cap_pictured y → x ≡ Pictured.Fault k → Clauses.Fault k ≡ cap_clauses (after_picture text y)
-picture_fault text {k} y e f = by y (sym f ∙ e)
-  where
-    by : (y : Pictured) → Pictured.Fault k ≡ cap_pictured y → Clauses.Fault k ≡ cap_clauses (after_picture text y)
-    by (Pictured.Ended c' s' d' t' k') h = let z : ◌≡◌ {A = ℕ} 0 1 = cc in absurd (omega arith)
-    by (Pictured.Number s' a b k') h = let z : ◌≡◌ {A = ℕ} 0 1 = cc in absurd (omega arith)
-    by (Pictured.Fault k') h = cc
-
--- An item's clauses with counts that stop, and the entry.
-pub item_is : (l d p n : ℕ) {c s t u k : ℕ} {x : Clauses} (y : Clauses) → x ≡ cap_clauses y → x ≡ Clauses.Ended c s t u k → Whole (noted l p n c s t u) d k ≡ cap_entry (item_of l d p n y)
-item_is l d p n {c} {s} {t} {u} {k} y e f = by y (sym f ∙ e)
-  where
-    by : (y : Clauses) → Clauses.Ended c s t u k ≡ cap_clauses y → Whole (noted l p n c s t u) d k ≡ cap_entry (item_of l d p n y)
-    by (Clauses.Ended c' s' t' u' k') h =
-        let a : c ≡ c' = cc in
-        let b : s ≡ cap s' = cc in
-        let q : t ≡ cap t' = cc in
-        let v : u ≡ cap u' = cc in
-        let g : k ≡ k' = cc in
-        rw (a, b, q, v, g)
-    by (Clauses.Fault k') h = let z : ◌≡◌ {A = ℕ} 0 1 = cc in absurd (omega arith)
-
-pub item_fault : (l d p n : ℕ) {k : ℕ} {x : Clauses} (y : Clauses) → x ≡ cap_clauses y → x ≡ Clauses.Fault k → Fault k ≡ cap_entry (item_of l d p n y)
-item_fault l d p n {k} y e f = by y (sym f ∙ e)
-  where
-    by : (y : Clauses) → Clauses.Fault k ≡ cap_clauses y → Fault k ≡ cap_entry (item_of l d p n y)
-    by (Clauses.Ended c' s' t' u' k') h = let z : ◌≡◌ {A = ℕ} 0 1 = cc in absurd (omega arith)
-    by (Clauses.Fault k') h = let i : k ≡ k' = cc in rw i
+    by (Err k') h = let z : ◌≡◌ {A = ℕ} 0 1 = cc in absurd (omega arith)

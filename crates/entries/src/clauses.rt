@@ -2,28 +2,25 @@
 ghost use Rattle.std.specs.Prelude.{◌≡◌, ◌≤◌, length};
 ghost use Rattle.description.specs.Grammar.{packed_kind};
 ghost use Rattle.description.specs.Stages.{side_at, after_side, sign_at, packed_at, usage_at, clauses_at};
-ghost use Rattle.description.specs.declared.Clauses.TheVariants as Clauses;
-ghost use Rattle.entries.specs.Entries.{cap, cap_clauses, sided_by, separate_at, picture_clause};
+ghost use Rattle.entries.specs.Entries.{cap, cap_ended, cap_clauses, sided_by, separate_at, picture_clause};
 
 use content::Row;
-use description::{Clauses, Pictured, Reached, Sided};
+use description::{Clauses, Pictured, Sided};
 use pictures::scan::picture_at;
 use text_bytes::blanks::next_ink;
 use text_bytes::bytes::byte_at;
 use wanted_words::literals::literal;
 
-fn side_word(word: &[u8], kind: u32, text: &[u8], n: usize) -> Sided
+fn side_word(word: &[u8], kind: u32, text: &[u8], n: usize) -> Result<Sided, usize>
     requires { n ≤ length text.now }
     ensures { result ≡ sided_by word.now kind text.now n }
 {
-    match literal(word, text, n) {
-        Reached::Word(k) => Sided::Side(kind, k),
-        Reached::Fault(k) => Sided::Fault(k),
-    }
+    let end = literal(word, text, n)?;
+    Ok(Sided { kind, end })
 }
 
 // LEADING or TRAILING.
-fn side_at(text: &[u8], n: usize) -> Sided
+fn side_at(text: &[u8], n: usize) -> Result<Sided, usize>
     requires { n ≤ length text.now }
     ensures { result ≡ side_at text.now n }
 {
@@ -41,42 +38,47 @@ fn stopped(n: u32) -> u32
     if 65536 < n { 65536 } else { n }
 }
 
-// The clauses of an item end at k.
-fn ended(kind: u32, size: u32, scale: u32, digits: u32, k: usize) -> Clauses
-    ensures { result ≡ cap_clauses (Clauses.Ended kind size scale digits k) }
+fn ended(x: Clauses) -> Clauses
+    ensures { result ≡ cap_ended x }
 {
-    Clauses::Ended(kind, stopped(size), stopped(scale), stopped(digits), k)
+    Clauses {
+        kind: x.kind,
+        size: stopped(x.size),
+        scale: stopped(x.scale),
+        digits: stopped(x.digits),
+        end: x.end,
+    }
 }
 
-fn separate(kind: u32, i: u32, j: u32, text: &[u8], n: usize) -> Clauses
+fn separate(kind: u32, i: u32, j: u32, text: &[u8], n: usize) -> Result<Clauses, usize>
     requires { (n ≤ length text.now) × ((i ≤ 131072) × (j ≤ 131072)) }
     ensures { result ≡ cap_clauses (separate_at kind i j text.now n) }
 {
-    match literal(b"SEPARATE.", text, n) {
-        Reached::Word(k) => ended(kind, i + j + 1, j, i + j, k),
-        Reached::Fault(k) => Clauses::Fault(k),
-    }
+    let end = literal(b"SEPARATE.", text, n)?;
+    Ok(ended(Clauses {
+        kind,
+        size: i + j + 1,
+        scale: j,
+        digits: i + j,
+        end,
+    }))
 }
 
-fn side_clause(i: u32, j: u32, text: &[u8], n: usize) -> Clauses
+fn side_clause(i: u32, j: u32, text: &[u8], n: usize) -> Result<Clauses, usize>
     requires { (n ≤ length text.now) × ((i ≤ 131072) × (j ≤ 131072)) }
     ensures { result ≡ cap_clauses (after_side text.now i j (side_at text.now n)) }
 {
-    match side_at(text, n) {
-        Sided::Side(kind, k) => separate(kind, i, j, text, k),
-        Sided::Fault(k) => Clauses::Fault(k),
-    }
+    let side = side_at(text, n)?;
+    separate(side.kind, i, j, text, side.end)
 }
 
 // The sign clause after a picture of i and j digits.
-fn sign_at(i: u32, j: u32, text: &[u8], n: usize) -> Clauses
+fn sign_at(i: u32, j: u32, text: &[u8], n: usize) -> Result<Clauses, usize>
     requires { (n ≤ length text.now) × ((i ≤ 131072) × (j ≤ 131072)) }
     ensures { result ≡ cap_clauses (sign_at i j text.now n) }
 {
-    match literal(b"SIGN", text, n) {
-        Reached::Word(k) => side_clause(i, j, text, k),
-        Reached::Fault(k) => Clauses::Fault(k),
-    }
+    let k = literal(b"SIGN", text, n)?;
+    side_clause(i, j, text, k)
 }
 
 fn packed_kind(signed: bool) -> u32
@@ -89,18 +91,22 @@ fn packed_kind(signed: bool) -> u32
 }
 
 // COMP-3 after a picture of i and j digits.
-fn packed_at(signed: bool, i: u32, j: u32, text: &[u8], n: usize) -> Clauses
+fn packed_at(signed: bool, i: u32, j: u32, text: &[u8], n: usize) -> Result<Clauses, usize>
     requires { (n ≤ length text.now) × ((i ≤ 131072) × (j ≤ 131072)) }
     ensures { result ≡ cap_clauses (packed_at signed i j text.now n) }
 {
-    match literal(b"COMP-3.", text, n) {
-        Reached::Word(k) => ended(packed_kind(signed), (i + j) / 2 + 1, j, i + j, k),
-        Reached::Fault(k) => Clauses::Fault(k),
-    }
+    let end = literal(b"COMP-3.", text, n)?;
+    Ok(ended(Clauses {
+        kind: packed_kind(signed),
+        size: (i + j) / 2 + 1,
+        scale: j,
+        digits: i + j,
+        end,
+    }))
 }
 
 // SIGN, after an S, or COMP-3.
-fn usage_at(signed: bool, i: u32, j: u32, text: &[u8], n: usize) -> Clauses
+fn usage_at(signed: bool, i: u32, j: u32, text: &[u8], n: usize) -> Result<Clauses, usize>
     requires { (n ≤ length text.now) × ((i ≤ 131072) × (j ≤ 131072)) }
     ensures { result ≡ cap_clauses (usage_at signed i j text.now n) }
 {
@@ -112,24 +118,26 @@ fn usage_at(signed: bool, i: u32, j: u32, text: &[u8], n: usize) -> Clauses
     }
 }
 
-fn picture_clause(text: &[u8], n: usize) -> Clauses
+fn picture_clause(text: &[u8], n: usize) -> Result<Clauses, usize>
     requires { (n ≤ length text.now) × (length text.now ≤ 4096) }
     ensures { result ≡ cap_clauses (picture_clause text.now n) }
 {
-    match picture_at(text, n) {
-        Pictured::Ended(kind, size, scale, digits, k) => ended(kind, size, scale, digits, k),
-        Pictured::Number(signed, i, j, k) => usage_at(signed, i, j, text, k),
-        Pictured::Fault(k) => Clauses::Fault(k),
+    match picture_at(text, n)? {
+        Pictured::Ended(x) => Ok(ended(x)),
+        Pictured::Number {
+            signed,
+            whole,
+            fraction,
+            end,
+        } => usage_at(signed, whole, fraction, text, end),
     }
 }
 
 // What follows an item's name at n.
-pub(crate) fn clauses_at(text: &[u8], n: usize) -> Clauses
+pub(crate) fn clauses_at(text: &[u8], n: usize) -> Result<Clauses, usize>
     requires { (n ≤ length text.now) × (length text.now ≤ 4096) }
     ensures { result ≡ cap_clauses (clauses_at text.now n) }
 {
-    match literal(b"PIC", text, n) {
-        Reached::Word(k) => picture_clause(text, k),
-        Reached::Fault(k) => Clauses::Fault(k),
-    }
+    let k = literal(b"PIC", text, n)?;
+    picture_clause(text, k)
 }

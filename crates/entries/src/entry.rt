@@ -5,7 +5,7 @@ ghost use Rattle.entries.specs.Entries.{entry_at, named_at, item_at, cap_entry};
 use crate::clauses::clauses_at;
 use crate::{EntryRead, Noted};
 use content::Row;
-use description::{Called, Clauses, Leveled};
+use description::{Called, Leveled};
 use levels::Entered;
 use levels::level::level_at;
 use levels::open::enter;
@@ -20,37 +20,44 @@ fn narrow(n: usize) -> u32
 }
 
 // An item whose name ends at k.
-fn item_at(text: &[u8], level: u32, depth: usize, place: u32, named: u32, k: usize) -> EntryRead
+fn item_at(
+    text: &[u8],
+    level: u32,
+    depth: usize,
+    place: u32,
+    named: u32,
+    k: usize,
+) -> Result<EntryRead, usize>
     requires { (k ≤ length text.now) × (length text.now ≤ 4096) }
     ensures { result ≡ cap_entry (item_at text.now level depth place named k) }
 {
-    match clauses_at(text, k) {
-        Clauses::Ended(kind, size, scale, digits, end) => {
-            let noted = Noted {
-                level,
-                place,
-                named,
-                kind,
-                size,
-                scale,
-                digits,
-            };
-            EntryRead::Whole(noted, depth, end)
-        }
-        Clauses::Fault(e) => EntryRead::Fault(e),
-    }
+    let x = clauses_at(text, k)?;
+    let noted = Noted {
+        level,
+        place,
+        named,
+        kind: x.kind,
+        size: x.size,
+        scale: x.scale,
+        digits: x.digits,
+    };
+    Ok(EntryRead::Whole {
+        noted,
+        depth,
+        end: x.end,
+    })
 }
 
 // An entry whose level number stands at p.
-fn named_at(text: &[u8], level: u32, depth: usize, p: usize) -> EntryRead
+fn named_at(text: &[u8], level: u32, depth: usize, p: usize) -> Result<EntryRead, usize>
     requires { (p + 2 ≤ length text.now) × (length text.now ≤ 4096) }
     ensures { result ≡ cap_entry (named_at text.now level depth p) }
 {
     let place = narrow(p);
     let named = narrow(next_ink(text, p + 2));
-    match name_at(level, text, p + 2) {
+    match name_at(level, text, p + 2)? {
         Called::Item(k) => item_at(text, level, depth, place, named, k),
-        Called::Group(k) => {
+        Called::Group(end) => {
             let noted = Noted {
                 level,
                 place,
@@ -60,9 +67,8 @@ fn named_at(text: &[u8], level: u32, depth: usize, p: usize) -> EntryRead
                 scale: 0,
                 digits: 0,
             };
-            EntryRead::Whole(noted, depth, k)
+            Ok(EntryRead::Whole { noted, depth, end })
         }
-        Called::Fault(k) => EntryRead::Fault(k),
     }
 }
 
@@ -74,16 +80,15 @@ pub fn entry_at(
     named: bool,
     text: &[u8],
     p: usize,
-) -> EntryRead
+) -> Result<EntryRead, usize>
     requires { (depth ≤ length stack.now) × ((p < length text.now) × (length text.now ≤ 4096)) }
     ensures { result ≡ cap_entry (entry_at stack.now depth waiting named text.now p) }
 {
-    match level_at(stack, depth, waiting, named, text, p) {
+    match level_at(stack, depth, waiting, named, text, p)? {
         Leveled::Level(level) => match enter(stack, depth, waiting, level) {
             Entered::Depth(d) => named_at(text, level, d, p),
-            Entered::Not => EntryRead::Fault(p),
+            Entered::Not => Err(p),
         },
-        Leveled::Name => EntryRead::Name,
-        Leveled::Fault(k) => EntryRead::Fault(k),
+        Leveled::Name => Ok(EntryRead::Name),
     }
 }

@@ -5,7 +5,7 @@ pub mod clauses; // what follows an item's name
 pub mod entry; // a whole entry
 
 // An entry as read: kind 0 is a group, and sizes, scales and counts of digits stop at 65,536.
-#[derive(Clone, Copy)]
+#[derive(Debug, Clone, Copy, PartialEq, Eq)]
 pub struct Noted {
     pub level: u32,
     pub place: u32,
@@ -16,11 +16,13 @@ pub struct Noted {
     pub digits: u32,
 }
 
-// A whole entry of an item, how many groups are open at it, and where its period ends; level 88; or the
-// first faulty byte.
-#[derive(Clone, Copy)]
+// A whole entry of an item, how many groups are open at it, and where its period ends; or level 88.
+#[derive(Debug, Clone, Copy, PartialEq, Eq)]
 pub enum EntryRead {
-    Whole(Noted, usize, usize),
+    Whole {
+        noted: Noted,
+        depth: usize,
+        end: usize,
+    },
     Name,
-    Fault(usize),
 }

@@ -20,6 +20,7 @@ use Rattle.description.proofs.Bytes.{apart, and_both, eqb_no, eqb_same}
 use Rattle.levels.specs.Stack.{opened, groups_of, back_depth, backed, entered_by, topped, topped_by}
 use Rattle.levels.specs.declared.Entered.{Entered}
 use Rattle.levels.specs.declared.Entered.TheVariants.{Depth, Not}
+use Rattle.std.specs.Prelude.{Ok, Err}
 
 -- The walk back.
 pub back_here : (stack : List ℕ) (d l n : ℕ) → 0 < d → get_or stack (d - 1) 0 ≡ l → n ≡ back_depth stack d l → d ≡ n
@@ -141,18 +142,18 @@ second_none g a (suc n) h e = absurd (omega arith)
 
 -- A level number.
 module _ (g : Groups) (named : Bool) (text : List ℕ) (p : ℕ) {a b : ℕ} (e : a ≡ get_or text p 0) (f : b ≡ get_or text (p + 1) 0) where
-  pub level_yes : {l : ℕ} → enters g (a ∷ b ∷ []) ≡ true → l ≡ 10 * (a - 0x30) + (b - 0x30) → Leveled.Level l ≡ level_at g named text p
+  pub level_yes : {l : ℕ} → enters g (a ∷ b ∷ []) ≡ true → l ≡ 10 * (a - 0x30) + (b - 0x30) → Ok (Leveled.Level l) ≡ level_at g named text p
   level_yes h k = rw (← e, ← f, h, k)
 
-  pub level_name : enters g (a ∷ b ∷ []) ≡ false → named && (is_eight a && is_eight b) ≡ true → Leveled.Name ≡ level_at g named text p
+  pub level_name : enters g (a ∷ b ∷ []) ≡ false → named && (is_eight a && is_eight b) ≡ true → Ok Leveled.Name ≡ level_at g named text p
   level_name h k = rw (← e, ← f, h, k)
 
   pub level_second : enters g (a ∷ b ∷ []) ≡ false → named && (is_eight a && is_eight b) ≡ false → begins_level g (a ∷ []) || (named && is_eight a) ≡ true →
-      Leveled.Fault (p + 1) ≡ level_at g named text p
+      Err (p + 1) ≡ level_at g named text p
   level_second h k m = rw (← e, ← f, h, k, m)
 
   pub level_first : enters g (a ∷ b ∷ []) ≡ false → named && (is_eight a && is_eight b) ≡ false → begins_level g (a ∷ []) || (named && is_eight a) ≡ false →
-      Leveled.Fault p ≡ level_at g named text p
+      Err p ≡ level_at g named text p
   level_first h k m = rw (← e, ← f, h, k, m)
 
 -- A level number that is stored leaves those below it.

@@ -67,20 +67,20 @@ pub fn level_at(
     named: bool,
     text: &[u8],
     p: usize,
-) -> Leveled
+) -> Result<Leveled, usize>
     requires { (depth ≤ length stack.now) × (p < length text.now) }
     ensures { result ≡ level_at (groups_of stack.now depth waiting) named text.now p }
 {
     let a = byte_at(text, p);
     let b = byte_at(text, p + 1);
     if enters_with(stack, depth, waiting, a, b) {
-        return Leveled::Level(two_digits(a, b));
+        return Ok(Leveled::Level(two_digits(a, b)));
     }
     if named & ((a == 0x38) & (b == 0x38)) {
-        return Leveled::Name;
+        return Ok(Leveled::Name);
     }
     if begins_with(stack, depth, waiting, a) | (named & (a == 0x38)) {
-        return Leveled::Fault(p + 1);
+        return Err(p + 1);
     }
-    Leveled::Fault(p)
+    Err(p)
 }

@@ -22,6 +22,7 @@ use Rattle.description.proofs.Ended.{ended_snoc}
 use Rattle.description.proofs.Stages.{reach_le}
 use Rattle.text_bytes.proofs.Laws.{part_from}
 use Rattle.literal_spans.specs.Steps.{is_quote, point_step, first_step, digit_step, step, spelled_far, spelled_state, whole_state}
+use Rattle.std.specs.Prelude.{Ok, Err}
 
 abbrev shape : Spelt → ℕ
 shape unspelt = 0
@@ -223,7 +224,7 @@ unfolding after unended
 spelt_as bs = goes_from [] bs unspelt refl refl
 
 -- The branches of a literal after a blank.
-pub span_none : (text : List ℕ) (n p : ℕ) → p ≡ inked text n → p ≡ n → Spelled.Fault n ≡ spelled_at text n
+pub span_none : (text : List ℕ) (n p : ℕ) → p ≡ inked text n → p ≡ n → Err n ≡ spelled_at text n
 span_none text n p e h = let i : inked text n ≡ n = sym e ∙ h in rw (i, eqb_same n)
 
 module _ (text : List ℕ) (n p l s : ℕ) (e : p ≡ inked text n) (f : ¬ (p ≡ n)) (g : l ≡ spelled_far 0 (take (length text - p) (drop p text)))
@@ -253,16 +254,16 @@ module _ (text : List ℕ) (n p l s : ℕ) (e : p ≡ inked text n) (f : ¬ (p �
   pub span_end : p ≤ length text → p + l ≤ length text
   span_end i = omega (arith, reach_le (λ w. is_some (after spelling unspelt w)) [] (drop p text), length-drop p text, long)
 
-  pub span_ended : whole_state s ≡ true → is_period text (p + l) ≡ true → Spelled.Ended (p + l) ≡ spelled_at text n
+  pub span_ended : whole_state s ≡ true → is_period text (p + l) ≡ true → Ok (Spelled.Ended (p + l)) ≡ spelled_at text n
   span_ended i j = sym (span_is i j refl)
 
-  pub span_open : whole_state s ≡ true → is_period text (p + l) ≡ false → Spelled.Open (p + l) ≡ spelled_at text n
+  pub span_open : whole_state s ≡ true → is_period text (p + l) ≡ false → Ok (Spelled.Open (p + l)) ≡ spelled_at text n
   span_open i j = sym (span_is i j refl)
 
-  pub span_point : whole_state s ≡ false → s ≡ 3 → Spelled.Ended (p + l - 1) ≡ spelled_at text n
+  pub span_point : whole_state s ≡ false → s ≡ 3 → Ok (Spelled.Ended (p + l - 1)) ≡ spelled_at text n
   span_point i k = sym (span_is {c = true} i refl (rw k))
 
-  pub span_fault : whole_state s ≡ false → ¬ (s ≡ 3) → Spelled.Fault (p + l) ≡ spelled_at text n
+  pub span_fault : whole_state s ≡ false → ¬ (s ≡ 3) → Err (p + l) ≡ spelled_at text n
   span_fault i k = sym (span_is i refl (eqb_no s 3 k))
 
   -- digits and a point are two bytes at least

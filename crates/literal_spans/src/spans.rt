@@ -15,24 +15,24 @@ fn is_whole(state: u32) -> bool
 }
 
 // The literal after a blank at n. The point of digits and a point was the period.
-pub fn spelled_at(text: &[u8], n: usize) -> Spelled
+pub fn spelled_at(text: &[u8], n: usize) -> Result<Spelled, usize>
     requires { n ≤ length text.now }
     ensures { result ≡ spelled_at text.now n }
 {
     let p = next_ink(text, n);
     if p == n {
-        return Spelled::Fault(n);
+        return Err(n);
     }
     let span = spell(&text[p..]);
     let k = p + span.length;
     if is_whole(span.state) {
         if period_at(text, k) {
-            return Spelled::Ended(k);
+            return Ok(Spelled::Ended(k));
         }
-        return Spelled::Open(k);
+        return Ok(Spelled::Open(k));
     }
     if span.state == 3 {
-        return Spelled::Ended(k - 1);
+        return Ok(Spelled::Ended(k - 1));
     }
-    Spelled::Fault(k)
+    Err(k)
 }

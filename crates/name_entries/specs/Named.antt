@@ -1,5 +1,5 @@
 -- Level 88 entries as the code reads them: what a whole entry leaves in the buffers.
-use Rattle.std.specs.Prelude.{◌≡◌, Bool, true, false, ◌||◌, List, [], ◌∷◌, ◌++◌, ℕ, ◌+◌, ◌*◌, ◌-◌, ◌≤◌, ◌<◌, ltb, length, take, drop, replicate}
+use Rattle.std.specs.Prelude.{◌≡◌, Bool, true, false, ◌||◌, List, [], ◌∷◌, ◌++◌, ℕ, ◌+◌, ◌*◌, ◌-◌, ◌≤◌, ◌<◌, ltb, length, take, drop, replicate, Result, Ok, Err}
 use Rattle.std.proofs.Math.Option.{none}
 use Rattle.content.specs.declared.Row as Rules
 use Rattle.description.specs.Grammar.{Row, Literal, literal_row, Value, Pair, pairs, literals, literal_bytes}
@@ -10,7 +10,6 @@ use Rattle.value_weights.specs.Weights.{shown}
 use Rattle.value_notes.specs.Taking.{note_numbers}
 use Rattle.value_notes.specs.declared.Tally.{Tally}
 use Rattle.name_entries.specs.declared.NameRead.{NameRead}
-use Rattle.name_entries.specs.declared.NameRead.TheVariants.{Whole, Fault}
 use Rattle.tables.specs.Rows.{name_width}
 
 -- where a literal stands in the text, and the literals that stand in such places
@@ -92,30 +91,30 @@ pub record Spared (k : ℕ) (notes row_left notes_left : List ℕ) : Type 0 wher
   pub counted : take (k * 7) notes_left ≡ take (k * 7) notes
   pub beyond : drop 448 notes_left ≡ drop 448 notes
 
-abbrev pub ReadAs : List ℕ → ℕ → List Value → NameRead → Type 0
-ReadAs text n vs (Whole t e) = (h : Naming) (p : ℕ) → joined text n (values h p [] none) ≡ joined text e (labelled h p vs)
-ReadAs text n vs (Fault k) = (h : Naming) (p : ℕ) → joined text n (values h p [] none) ≡ faulty h.earlier k
+abbrev pub ReadAs : List ℕ → ℕ → List Value → Result NameRead ℕ → Type 0
+ReadAs text n vs (Ok r) = (h : Naming) (p : ℕ) → joined text n (values h p [] none) ≡ joined text r.end (labelled h p vs)
+ReadAs text n vs (Err k) = (h : Naming) (p : ℕ) → joined text n (values h p [] none) ≡ faulty h.earlier k
 
 -- where no limit is passed, the notes after those that `Held` tells are as they were
-abbrev pub HeldBy : List ℕ → ℕ → Rules.Row → Tally → List ℕ → List Value → NameRead → List ℕ → List ℕ → Type 0
-HeldBy text n item start notes vs (Whole t e) row_left notes_left =
-    (e ≤ length text) × (n < e) × ((ss : List Span) → (start.over ≡ false → Noted text notes start ss) → Held text item start.over ss vs t row_left notes_left)
-    × (t.over ≡ false → drop (t.literals * 7) notes_left ≡ drop (t.literals * 7) notes)
-HeldBy text n item start notes vs (Fault k) row_left notes_left = Unit {0}
+abbrev pub HeldBy : List ℕ → ℕ → Rules.Row → Tally → List ℕ → List Value → Result NameRead ℕ → List ℕ → List ℕ → Type 0
+HeldBy text n item start notes vs (Ok r) row_left notes_left =
+    (r.end ≤ length text) × (n < r.end) × ((ss : List Span) → (start.over ≡ false → Noted text notes start ss) → Held text item start.over ss vs r.tally row_left notes_left)
+    × (r.tally.over ≡ false → drop (r.tally.literals * 7) notes_left ≡ drop (r.tally.literals * 7) notes)
+HeldBy text n item start notes vs (Err k) row_left notes_left = Unit {0}
 
 -- The values of an entry, from n on.
-pub record ValuesBy (text : List ℕ) (n : ℕ) (item : Rules.Row) (start : Tally) (notes : List ℕ) (r : NameRead) (row_left notes_left : List ℕ) : Type 0 where
+pub record ValuesBy (text : List ℕ) (n : ℕ) (item : Rules.Row) (start : Tally) (notes : List ℕ) (r : Result NameRead ℕ) (row_left notes_left : List ℕ) : Type 0 where
   pub values : List Value
   pub reads : ReadAs text n values r
   pub held : HeldBy text n item start notes values r row_left notes_left
   pub spared : Spared start.literals notes row_left notes_left
 
 -- A whole entry, whose level number stands before n.
-abbrev pub LabelledAs : List ℕ → ℕ → List Value → NameRead → Type 0
-LabelledAs text n vs (Whole t e) = (h : Naming) → joined text n (label h) ≡ joined text e (labelled h (inked text n) vs)
-LabelledAs text n vs (Fault k) = (h : Naming) → joined text n (label h) ≡ faulty h.earlier k
+abbrev pub LabelledAs : List ℕ → ℕ → List Value → Result NameRead ℕ → Type 0
+LabelledAs text n vs (Ok r) = (h : Naming) → joined text n (label h) ≡ joined text r.end (labelled h (inked text n) vs)
+LabelledAs text n vs (Err k) = (h : Naming) → joined text n (label h) ≡ faulty h.earlier k
 
-pub record NamedBy (text : List ℕ) (n : ℕ) (item : Rules.Row) (start : Tally) (notes : List ℕ) (r : NameRead) (row_left notes_left : List ℕ) : Type 0 where
+pub record NamedBy (text : List ℕ) (n : ℕ) (item : Rules.Row) (start : Tally) (notes : List ℕ) (r : Result NameRead ℕ) (row_left notes_left : List ℕ) : Type 0 where
   pub values : List Value
   pub reads : LabelledAs text n values r
   pub held : HeldBy text n item start notes values r row_left notes_left

@@ -5,9 +5,9 @@ pub mod reading; // a whole entry
 
 use value_notes::Tally;
 
-// The values of an entry, and where its period ends; or the first faulty byte.
+// The values of an entry, and where its period ends.
 #[derive(Clone, Copy)]
-pub enum NameRead {
-    Whole(Tally, usize),
-    Fault(usize),
+pub struct NameRead {
+    pub tally: Tally,
+    pub end: usize,
 }

@@ -7,7 +7,6 @@ use crate::NameRead;
 use condition_names::ValueRead;
 use condition_names::scan::value_at;
 use content::Row;
-use description::Reached;
 use value_notes::Tally;
 use value_notes::notes::clear;
 use value_notes::taking::take_value;
@@ -23,24 +22,21 @@ fn read_values(
     start: Tally,
     row: &mut [u32],
     notes: &mut [u32],
-) -> NameRead
+) -> Result<NameRead, usize>
     requires { (n ≤ length text.now) × Begun text.now start row.old notes.old }
     ensures { ValuesBy text.now n item start notes.old result row.new notes.new }
 {
     let mut tally = start;
     let mut at = n;
     loop {
-        match value_at(text, at) {
-            ValueRead::Open(found, end) => {
+        match value_at(text, at)? {
+            ValueRead::Open { found, end } => {
                 tally = take_value(weigh(text, item, found), found, tally, row, notes);
                 at = end;
             }
-            ValueRead::Ended(found, end) => {
+            ValueRead::Ended { found, end } => {
                 let last = take_value(weigh(text, item, found), found, tally, row, notes);
-                return NameRead::Whole(last, end);
-            }
-            ValueRead::Fault(k) => {
-                return NameRead::Fault(k);
+                return Ok(NameRead { tally: last, end });
             }
         }
     }
@@ -55,16 +51,12 @@ pub fn read_name(
     start: Tally,
     row: &mut [u32],
     notes: &mut [u32],
-) -> NameRead
+) -> Result<NameRead, usize>
     requires { (n ≤ length text.now) × (Ready text.now start notes.old × (length row.old ≡ name_width)) }
     ensures { NamedBy text.now n item start notes.old result row.new notes.new }
 {
     clear(row);
-    match label_at(text, n) {
-        Reached::Word(k) => match literal(b"VALUE", text, k) {
-            Reached::Word(m) => read_values(text, m, item, start, row, notes),
-            Reached::Fault(e) => NameRead::Fault(e),
-        },
-        Reached::Fault(e) => NameRead::Fault(e),
-    }
+    let k = label_at(text, n)?;
+    let m = literal(b"VALUE", text, k)?;
+    read_values(text, m, item, start, row, notes)
 }

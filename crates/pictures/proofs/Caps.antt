@@ -14,7 +14,7 @@ use Rattle.description.specs.Machine.{bind, after, result}
 use Rattle.description.specs.Grammar.{Shape, characters, number}
 use Rattle.description.specs.Reader as R
 use Rattle.description.specs.Reader.{is_some, pictures}
-use Rattle.description.specs.Stages.{inked, reach, pictured, picture_from, picture_at, is_period}
+use Rattle.description.specs.Stages.{inked, reach, clauses, pictured, picture_from, picture_at, is_period}
 use Rattle.description.specs.declared.Pictured.{Pictured}
 use Rattle.description.specs.declared.Pictured.TheVariants as Pictured
 use Rattle.description.proofs.Bytes.{apart, eqb_no, eqb_same, is_some_lem}
@@ -35,6 +35,7 @@ use Rattle.pictures.specs.declared.Drew.{Drew}
 use Rattle.pictures.specs.declared.Drew.TheVariants.{On, Stuck}
 use Rattle.pictures.specs.declared.Sketch.{Sketch}
 use Rattle.pictures.proofs.Saturates.{shown, saturates}
+use Rattle.std.specs.Prelude.{Result, Ok, Err}
 
 abbrev pub cap_o : Option R.Drawn → Drew
 cap_o none = Stuck
@@ -89,7 +90,7 @@ letters_caps : (c : R.Letter) (n k : ℕ) (p : Bool) → letters_end (R.letter_b
 letters_caps c zero k p = refl
 letters_caps c (suc n) k p = rw (eqb_no (cap (suc n)) 0 (λ e. omega arith)) (by c p)
   where
-    by : (c : R.Letter) (p : Bool) → cond p (Pictured.Ended (cond (eqb (R.letter_byte c) 0x58) 2 1) (cap (suc n)) 0 0 (k + 1)) (Pictured.Fault k)
+    by : (c : R.Letter) (p : Bool) → cond p (Ok (Pictured.Ended (clauses (cond (eqb (R.letter_byte c) 0x58) 2 1) (cap (suc n)) 0 0 (k + 1)))) (Err k)
         ≡ cap_pictured (pictured k (some (characters (R.letter_kind c) (suc n))) p)
     by R.letter_x true = refl
     by R.letter_x false = refl
@@ -102,7 +103,7 @@ digits_caps s m n (suc z) k p e =
     let i : cap (cap m + cap n) ≡ cap (m + n) = omega arith in
     rw (i, eqb_no (cap (m + n)) 0 (λ h. omega arith)) (by s p)
   where
-    by : (s p : Bool) → cond p (Pictured.Ended (number_kind s) (cap (m + n)) (cap n) (cap (m + n)) (k + 1)) (Pictured.Number s (cap m) (cap n) k) ≡ cap_pictured (pictured k (some (number s m n)) p)
+    by : (s p : Bool) → cond p (Ok (Pictured.Ended (clauses (number_kind s) (cap (m + n)) (cap n) (cap (m + n)) (k + 1)))) (Ok (Pictured.Number s (cap m) (cap n) k)) ≡ cap_pictured (pictured k (some (number s m n)) p)
     by true true = refl
     by true false = refl
     by false true = refl
@@ -205,7 +206,7 @@ all_read bs k l e h =
     rw (j, on_is (after pictures R.nothing (take k bs)) e)
 
 -- A picture after a blank.
-pub picture_none : (text : List ℕ) (n p : ℕ) → p ≡ inked text n → p ≡ n → Pictured.Fault n ≡ cap_pictured (picture_at text n)
+pub picture_none : (text : List ℕ) (n p : ℕ) → p ≡ inked text n → p ≡ n → Err n ≡ cap_pictured (picture_at text n)
 picture_none text n p e h = let i : inked text n ≡ n = sym e ∙ h in rw (i, eqb_same n)
 
 lives : (bs : List ℕ) → is_some (after pictures R.nothing (take (reach draws [] bs) bs)) ≡ true
@@ -224,7 +225,7 @@ sketch_le text p {s} l e =
     let i : s.len ≡ reach draws [] (drop p text) = ap (λ (z : Sketch). z.len) e ∙ ap (reach draws []) (part_from text p) in
     omega (arith, reach_le draws [] (drop p text), length-drop p text)
 
-pub picture_some : (text : List ℕ) (n p : ℕ) (s : Sketch) (t : Bool) {r : Pictured} → p ≡ inked text n → ¬ (p ≡ n) → s ≡ sketch (take (length text - p) (drop p text)) →
+pub picture_some : (text : List ℕ) (n p : ℕ) (s : Sketch) (t : Bool) {r : Result Pictured ℕ} → p ≡ inked text n → ¬ (p ≡ n) → s ≡ sketch (take (length text - p) (drop p text)) →
     t ≡ is_period text (p + s.len) → r ≡ drawn_end s.drawn (p + s.len) t → r ≡ cap_pictured (picture_at text n)
 unfolding result
 picture_some text n p s t e h f g i = rw (← e, eqb_no p n h)

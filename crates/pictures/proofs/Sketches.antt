@@ -4,6 +4,7 @@ use mathlib.Core.Bool.{Bool, true, false, cond, not}
 use Prim.Native.Nat.{ℕ, ◌+◌, ◌≤◌, min}
 use native.Mathlib.Omega.{arith}
 use lib.Dec.{eqb}
+use Rattle.description.specs.Stages.{clauses}
 use Rattle.description.specs.declared.Pictured.{Pictured}
 use Rattle.description.specs.declared.Pictured.TheVariants as Pictured
 use Rattle.description.proofs.Bytes.{eqb_no, eqb_same}
@@ -20,6 +21,7 @@ use Rattle.pictures.specs.declared.Drawn.{Drawn}
 use Rattle.pictures.specs.declared.Drawn.TheVariants.{Nothing, Letters, Whole, Pointed}
 use Rattle.pictures.specs.declared.Drew.{Drew}
 use Rattle.pictures.specs.declared.Drew.TheVariants.{On, Stuck}
+use Rattle.std.specs.Prelude.{Result, Ok, Err}
 
 pub total_settled : (t : Tally) → t.pending ≡ Settled → Times t.count ≡ total_of t
 total_settled t e = rw e
@@ -72,35 +74,35 @@ step_is b i h = rw i h
 pub small_is : {d e : Drawn} → d ≡ e → SmallDrawn d → SmallDrawn e
 small_is i h = rw i at h
 
-pub end_is : {d e : Drawn} (k : ℕ) (p : Bool) {r : Pictured} → d ≡ e → r ≡ drawn_end e k p → r ≡ drawn_end d k p
+pub end_is : {d e : Drawn} (k : ℕ) (p : Bool) {r : Result Pictured ℕ} → d ≡ e → r ≡ drawn_end e k p → r ≡ drawn_end d k p
 end_is k p i h = rw i h
 
-pub end_times : (f : ℕ → Pictured) (k : ℕ) {x y : Counted} {n : ℕ} {r : Pictured} → x ≡ y → x ≡ Times n → r ≡ f n → r ≡ end_with f k y
+pub end_times : (f : ℕ → Result Pictured ℕ) (k : ℕ) {x y : Counted} {n : ℕ} {r : Result Pictured ℕ} → x ≡ y → x ≡ Times n → r ≡ f n → r ≡ end_with f k y
 end_times f k e h g = let i = sym e ∙ h in rw i g
 
-pub end_open : (f : ℕ → Pictured) (k : ℕ) {x y : Counted} → x ≡ y → x ≡ Open → Pictured.Fault k ≡ end_with f k y
+pub end_open : (f : ℕ → Result Pictured ℕ) (k : ℕ) {x y : Counted} → x ≡ y → x ≡ Open → Err k ≡ end_with f k y
 end_open f k e h = let i = sym e ∙ h in rw i
 
 -- The end of a number, and of X or A.
 module _ (s : Bool) (m n k : ℕ) (period : Bool) {z : ℕ} (e : z ≡ cap (m + n)) where
-  pub number_zero : z ≡ 0 → Pictured.Fault k ≡ number_end s m n k period
+  pub number_zero : z ≡ 0 → Err k ≡ number_end s m n k period
   number_zero h = let i : cap (m + n) ≡ 0 = sym e ∙ h in rw i
 
-  pub number-ended : ¬ (z ≡ 0) → period ≡ true → Pictured.Ended (number_kind s) z n z (k + 1) ≡ number_end s m n k period
+  pub number-ended : ¬ (z ≡ 0) → period ≡ true → Ok (Pictured.Ended (clauses (number_kind s) z n z (k + 1))) ≡ number_end s m n k period
   number-ended h p = rw (← e, eqb_no z 0 h, p)
 
-  pub number_open : ¬ (z ≡ 0) → period ≡ false → Pictured.Number s m n k ≡ number_end s m n k period
+  pub number_open : ¬ (z ≡ 0) → period ≡ false → Ok (Pictured.Number s m n k) ≡ number_end s m n k period
   number_open h p = rw (← e, eqb_no z 0 h, p)
 
 module _ (c n k : ℕ) (period : Bool) where
-  pub letters_zero : n ≡ 0 → Pictured.Fault k ≡ letters_end c n k period
+  pub letters_zero : n ≡ 0 → Err k ≡ letters_end c n k period
   letters_zero h = rw h
 
-  pub letters_open : ¬ (n ≡ 0) → period ≡ false → Pictured.Fault k ≡ letters_end c n k period
+  pub letters_open : ¬ (n ≡ 0) → period ≡ false → Err k ≡ letters_end c n k period
   letters_open h p = rw (eqb_no n 0 h, p)
 
-  pub letters_x : ¬ (n ≡ 0) → period ≡ true → c ≡ 0x58 → Pictured.Ended 2 n 0 0 (k + 1) ≡ letters_end c n k period
+  pub letters_x : ¬ (n ≡ 0) → period ≡ true → c ≡ 0x58 → Ok (Pictured.Ended (clauses 2 n 0 0 (k + 1))) ≡ letters_end c n k period
   letters_x h p e = rw (eqb_no n 0 h, p, e)
 
-  pub letters_a : ¬ (n ≡ 0) → period ≡ true → ¬ (c ≡ 0x58) → Pictured.Ended 1 n 0 0 (k + 1) ≡ letters_end c n k period
+  pub letters_a : ¬ (n ≡ 0) → period ≡ true → ¬ (c ≡ 0x58) → Ok (Pictured.Ended (clauses 1 n 0 0 (k + 1))) ≡ letters_end c n k period
   letters_a h p e = rw (eqb_no n 0 h, p, eqb_no c 0x58 e)

@@ -1,10 +1,10 @@
 -- The step of a picture with counts that stop at 131,072, and what a picture is where it ends.
-use Rattle.std.specs.Prelude.{Bool, true, false, cond, List, [], ℕ, ◌+◌, ◌≤◌, eqb, take}
+use Rattle.std.specs.Prelude.{Bool, true, false, cond, List, [], ℕ, ◌+◌, ◌≤◌, eqb, take, Result, Ok, Err}
 use Rattle.std.proofs.Math.Option.{Option, none, some, get_or}
 use Rattle.description.specs.Machine.{after}
 use Rattle.description.specs.Reader as R
 use Rattle.description.specs.Reader.{is_some, pictures}
-use Rattle.description.specs.Stages.{reach}
+use Rattle.description.specs.Stages.{reach, clauses}
 use Rattle.description.specs.declared.Pictured.{Pictured}
 use Rattle.description.specs.declared.Pictured.TheVariants as Pictured
 use Rattle.pictures.specs.Steps.{cap, made, on_tally, total_of, Small}
@@ -64,20 +64,20 @@ abbrev pub number_kind : Bool → ℕ
 number_kind true = 4
 number_kind false = 3
 
-abbrev pub number_end : Bool → ℕ → ℕ → ℕ → Bool → Pictured
+abbrev pub number_end : Bool → ℕ → ℕ → ℕ → Bool → Result Pictured ℕ
 number_end s m n k period =
-    cond (eqb (cap (m + n)) 0) (Pictured.Fault k) (cond period (Pictured.Ended (number_kind s) (cap (m + n)) n (cap (m + n)) (k + 1)) (Pictured.Number s m n k))
+    cond (eqb (cap (m + n)) 0) (Err k) (cond period (Ok (Pictured.Ended (clauses (number_kind s) (cap (m + n)) n (cap (m + n)) (k + 1)))) (Ok (Pictured.Number s m n k)))
 
-abbrev pub letters_end : ℕ → ℕ → ℕ → Bool → Pictured
+abbrev pub letters_end : ℕ → ℕ → ℕ → Bool → Result Pictured ℕ
 letters_end c n k period =
-    cond (eqb n 0) (Pictured.Fault k) (cond period (Pictured.Ended (cond (eqb c 0x58) 2 1) n 0 0 (k + 1)) (Pictured.Fault k))
+    cond (eqb n 0) (Err k) (cond period (Ok (Pictured.Ended (clauses (cond (eqb c 0x58) 2 1) n 0 0 (k + 1)))) (Err k))
 
-abbrev pub end_with : (ℕ → Pictured) → ℕ → Counted → Pictured
+abbrev pub end_with : (ℕ → Result Pictured ℕ) → ℕ → Counted → Result Pictured ℕ
 end_with f k (Times n) = f n
-end_with f k Open = Pictured.Fault k
+end_with f k Open = Err k
 
-abbrev pub drawn_end : Drawn → ℕ → Bool → Pictured
-drawn_end Nothing k period = Pictured.Fault k
+abbrev pub drawn_end : Drawn → ℕ → Bool → Result Pictured ℕ
+drawn_end Nothing k period = Err k
 drawn_end (Letters c t) k period = end_with (λ n. letters_end c n k period) k (total_of t)
 drawn_end (Whole s t) k period = end_with (λ m. number_end s m 0 k period) k (total_of t)
 drawn_end (Pointed s m t) k period = end_with (λ n. number_end s m n k period) k (total_of t)
@@ -97,10 +97,10 @@ cap_drawn (R.letters c t) = Letters (R.letter_byte c) (cap_tally t)
 cap_drawn (R.whole s t) = Whole s (cap_tally t)
 cap_drawn (R.pointed s m t) = Pointed s (cap m) (cap_tally t)
 
-abbrev pub cap_pictured : Pictured → Pictured
-cap_pictured (Pictured.Ended kind size scale digits k) = Pictured.Ended kind (cap size) (cap scale) (cap digits) k
-cap_pictured (Pictured.Number s i j k) = Pictured.Number s (cap i) (cap j) k
-cap_pictured (Pictured.Fault k) = Pictured.Fault k
+abbrev pub cap_pictured : Result Pictured ℕ → Result Pictured ℕ
+cap_pictured (Ok (Pictured.Ended x)) = Ok (Pictured.Ended (clauses x.kind (cap x.size) (cap x.scale) (cap x.digits) x.end))
+cap_pictured (Ok (Pictured.Number s i j k)) = Ok (Pictured.Number s (cap i) (cap j) k)
+cap_pictured (Err k) = Err k
 
 -- A picture as far as it goes on, and what has been read of it there.
 abbrev pub draws : List ℕ → Bool

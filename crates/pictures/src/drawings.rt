@@ -6,7 +6,7 @@ ghost use Rattle.pictures.specs.Drawings.{SmallDrawn, on_letters, on_pointed, on
 use crate::tallies::{capped, read_byte};
 use crate::{Counted, Drawn, Drew, Pending, Tallied, Tally};
 use content::Row;
-use description::Pictured;
+use description::{Clauses, Pictured};
 
 fn total(t: Tally) -> Counted
     requires { Small t }
@@ -110,57 +110,72 @@ pub(crate) fn draw_byte(d: Drawn, b: u8) -> Drew
     }
 }
 
-fn number_end(signed: bool, m: u32, n: u32, k: usize, period: bool) -> Pictured
+fn number_end(signed: bool, m: u32, n: u32, k: usize, period: bool) -> Result<Pictured, usize>
     requires { (m ≤ 131072) × ((n ≤ 131072) × (k ≤ 131072)) }
     ensures { result ≡ number_end signed m n k period }
 {
     let digits = capped(m + n);
     if digits == 0 {
-        return Pictured::Fault(k);
+        return Err(k);
     }
     if period {
-        if signed {
-            return Pictured::Ended(Row::SIGNED, digits, n, digits, k + 1);
-        }
-        return Pictured::Ended(Row::UNSIGNED, digits, n, digits, k + 1);
+        return Ok(Pictured::Ended(Clauses {
+            kind: if signed { Row::SIGNED } else { Row::UNSIGNED },
+            size: digits,
+            scale: n,
+            digits,
+            end: k + 1,
+        }));
     }
-    Pictured::Number(signed, m, n, k)
+    Ok(Pictured::Number {
+        signed,
+        whole: m,
+        fraction: n,
+        end: k,
+    })
 }
 
-fn letters_end(c: u8, n: u32, k: usize, period: bool) -> Pictured
+fn letters_end(c: u8, n: u32, k: usize, period: bool) -> Result<Pictured, usize>
     requires { k ≤ 131072 }
     ensures { result ≡ letters_end c n k period }
 {
     if n == 0 {
-        return Pictured::Fault(k);
+        return Err(k);
     }
     if !period {
-        return Pictured::Fault(k);
+        return Err(k);
     }
-    if c == 0x58 {
-        return Pictured::Ended(Row::ALPHANUMERIC, n, 0, 0, k + 1);
-    }
-    Pictured::Ended(Row::ALPHABETIC, n, 0, 0, k + 1)
+    Ok(Pictured::Ended(Clauses {
+        kind: if c == 0x58 {
+            Row::ALPHANUMERIC
+        } else {
+            Row::ALPHABETIC
+        },
+        size: n,
+        scale: 0,
+        digits: 0,
+        end: k + 1,
+    }))
 }
 
 // What a picture is that goes on to place k, with or without a period there.
-pub(crate) fn drawn_end(d: Drawn, k: usize, period: bool) -> Pictured
+pub(crate) fn drawn_end(d: Drawn, k: usize, period: bool) -> Result<Pictured, usize>
     requires { (SmallDrawn d) × (k ≤ 131072) }
     ensures { result ≡ drawn_end d k period }
 {
     match d {
-        Drawn::Nothing => Pictured::Fault(k),
+        Drawn::Nothing => Err(k),
         Drawn::Letters(c, t) => match total(t) {
             Counted::Times(n) => letters_end(c, n, k, period),
-            Counted::Open => Pictured::Fault(k),
+            Counted::Open => Err(k),
         },
         Drawn::Whole(s, t) => match total(t) {
             Counted::Times(m) => number_end(s, m, 0, k, period),
-            Counted::Open => Pictured::Fault(k),
+            Counted::Open => Err(k),
         },
         Drawn::Pointed(s, m, t) => match total(t) {
             Counted::Times(n) => number_end(s, m, n, k, period),
-            Counted::Open => Pictured::Fault(k),
+            Counted::Open => Err(k),
         },
     }
 }

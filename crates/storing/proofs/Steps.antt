@@ -12,11 +12,10 @@ use Rattle.value_notes.specs.Taking.{tally}
 use Rattle.name_entries.specs.Named.{Span, Ready, NamedBy, Noted as NotesHold}
 use Rattle.value_notes.specs.declared.Tally.{Tally}
 use Rattle.name_entries.specs.declared.NameRead.{NameRead}
-use Rattle.name_entries.specs.declared.NameRead.TheVariants.{Whole, Fault}
 use Rattle.noting.specs.Stored.{noted_at}
 use Rattle.storing.specs.Naming.{item_row, names, start_of, passed_by, NameReady, NameStored, NotStored, NameBy}
 use Rattle.storing.specs.declared.Names.{Names}
-use Rattle.storing.specs.declared.NameStep.TheVariants.{Read, Fault as Faulty}
+use Rattle.std.specs.Prelude.{Result, Ok, Err}
 
 notes_as : {text notes : List ℕ} (s : Names) {ss : List Span} → NotesHold text notes (tally false 0 s.literals s.bytes) ss → NotesHold text notes (start_of s) ss
 notes_as s n = record { laid = n.laid; standing = n.standing; counted = n.counted; sized = n.sized; few = n.few; small = n.small }
@@ -41,44 +40,47 @@ module _ {text : List ℕ} {p : ℕ} {flat : List ℕ} {count : ℕ} {s : Names}
         noted = λ x. notes_as s (R.noted (or_left s.over (leb 64 s.count) x));
       })
 
-  module _ {item : Rules.Row} {start : Tally} {r : NameRead} {row-after notes-after : List ℕ} (i : item ≡ item_row (noted_at flat (count - 1))) (q : start ≡ start_of s)
+  module _ {item : Rules.Row} {start : Tally} {r : Result NameRead ℕ} {row-after notes-after : List ℕ} (i : item ≡ item_row (noted_at flat (count - 1))) (q : start ≡ start_of s)
       (N : NamedBy text (p + 2) item start notes r row-after notes-after) where
-    whole : {t : Tally} {e : ℕ} → r ≡ Whole t e → NamedBy text (p + 2) (item_row (noted_at flat (count - 1))) (start_of s) notes (Whole t e) row-after notes-after
+    whole : {w : NameRead} → r ≡ Ok w → NamedBy text (p + 2) (item_row (noted_at flat (count - 1))) (start_of s) notes (Ok w) row-after notes-after
     whole u = rw (← u, ← i, ← q) N
 
-    pub below : {t : Tally} {e : ℕ} → r ≡ Whole t e → t.over ≡ false → (s.count < 64) × (t.values ≤ 8)
-    below {t} u o =
+    pub below : {w : NameRead} → r ≡ Ok w → w.tally.over ≡ false → (s.count < 64) × (w.tally.values ≤ 8)
+    below u o =
         let h = (whole u).held.2 R.spans (λ x. notes_as s (R.noted (or_left s.over (leb 64 s.count) x))) in
         let a = or_left (s.over || leb 64 s.count) _ (sym h.over ∙ o) in
         (leb-false 64 s.count (or_right s.over (leb 64 s.count) a), (h.left o).few)
 
-    module _ {t : Tally} {e : ℕ} (u : r ≡ Whole t e) {next : Names} where
+    module _ {w : NameRead} (u : r ≡ Ok w) {next : Names} where
+      abbrev t : Tally
+      t = w.tally
+
       stepped : next ≡ cond t.over (passed_by s p) (names false 0 (s.count + 1) t.literals t.bytes) → {rows-after places-after row_last : List ℕ} →
           (t.over ≡ false → NameStored s.count (count - 1) t.values (inked text (p + 2)) rows places row-after rows-after places-after row_last) →
           (t.over ≡ true → NotStored s rows places notes rows-after places-after notes-after row_last) →
-          NameBy text p flat count s rows places notes (Read next e) rows-after places-after notes-after row_last
+          NameBy text p flat count s rows places notes (Ok (record { names = next; end = w.end })) rows-after places-after notes-after row_last
       stepped m f g =
-          let w = whole u in
+          let y = whole u in
           record {
-            values = w.values;
+            values = y.values;
             by = (
-              w.reads,
-              w.held.0,
-              w.held.1,
-              record { tallied = t; row = row-after; held = w.held.2; is = m; stored = f; beyond = w.held.3; passed = g },
+              y.reads,
+              y.held.0,
+              y.held.1,
+              record { tallied = t; row = row-after; held = y.held.2; is = m; stored = f; beyond = y.held.3; passed = g },
             );
           }
 
       pub named_step : t.over ≡ false → next ≡ names false 0 (s.count + 1) t.literals t.bytes → {rows-after places-after row_last : List ℕ} →
           NameStored s.count (count - 1) t.values (inked text (p + 2)) rows places row-after rows-after places-after row_last →
-          NameBy text p flat count s rows places notes (Read next e) rows-after places-after notes-after row_last
+          NameBy text p flat count s rows places notes (Ok (record { names = next; end = w.end })) rows-after places-after notes-after row_last
       named_step o m f = stepped (m ∙ sym (rw o)) (λ _. f) (λ x. apart x o)
 
-      pub named-over : t.over ≡ true → next ≡ passed_by s p → NameBy text p flat count s rows places notes (Read next e) rows places notes-after row-after
+      pub named-over : t.over ≡ true → next ≡ passed_by s p → NameBy text p flat count s rows places notes (Ok (record { names = next; end = w.end })) rows places notes-after row-after
       named-over o m =
           stepped (m ∙ sym (rw o)) (λ x. apart o x) (λ _. record { named = refl; placed = refl; spared = (whole u).spared })
 
-    pub named-fault : {k : ℕ} → r ≡ Fault k → NameBy text p flat count s rows places notes (Faulty k) rows places notes-after row-after
+    pub named-fault : {k : ℕ} → r ≡ Err k → NameBy text p flat count s rows places notes (Err k) rows places notes-after row-after
     named-fault {k} u =
-        let w : NamedBy text (p + 2) (item_row (noted_at flat (count - 1))) (start_of s) notes (Fault k) row-after notes-after = rw (← u, ← i, ← q) N in
+        let w : NamedBy text (p + 2) (item_row (noted_at flat (count - 1))) (start_of s) notes (Err k) row-after notes-after = rw (← u, ← i, ← q) N in
         record { values = w.values; by = (w.reads, record { named = refl; placed = refl; spared = w.spared }) }

@@ -1,5 +1,5 @@
 -- Level 88 entries in buffers.
-use Rattle.std.specs.Prelude.{◌≡◌, Bool, true, false, cond, ◌||◌, List, [], ◌∷◌, ◌++◌, map, ℕ, ◌+◌, ◌*◌, ◌-◌, ◌≤◌, ◌<◌, leb, length, take, drop, set, replicate}
+use Rattle.std.specs.Prelude.{◌≡◌, Bool, true, false, cond, ◌||◌, List, [], ◌∷◌, ◌++◌, map, ℕ, ◌+◌, ◌*◌, ◌-◌, ◌≤◌, ◌<◌, leb, length, take, drop, set, replicate, Result, Ok, Err}
 use Rattle.std.proofs.Math.Option.{Option, none, some}
 use Rattle.std.proofs.lemmas.List.Edits.{sets}
 use Rattle.content.specs.declared.Row as Rules
@@ -14,7 +14,6 @@ use Rattle.value_notes.specs.declared.Tally.{Tally}
 use Rattle.noting.specs.Stored.{noted_at}
 use Rattle.storing.specs.declared.Names.{Names}
 use Rattle.storing.specs.declared.NameStep.{NameStep}
-use Rattle.storing.specs.declared.NameStep.TheVariants.{Read, Fault}
 use Rattle.tables.specs.Rows.{name_width}
 
 abbrev pub item_row : Noted → Rules.Row
@@ -99,14 +98,14 @@ pub record Stepped (text : List ℕ) (p : ℕ) (flat : List ℕ) (count : ℕ) (
   pub beyond : tallied.over ≡ false → drop (tallied.literals * 7) notes_after ≡ drop (tallied.literals * 7) notes
   pub passed : tallied.over ≡ true → NotStored s rows places notes rows_after places_after notes_after row_after
 
-abbrev pub StepBy : List ℕ → ℕ → List ℕ → ℕ → Names → List ℕ → List ℕ → List ℕ → List Value → NameStep → List ℕ → List ℕ → List ℕ → List ℕ → Type 0
-StepBy text p flat count s rows places notes vs (Read r e) rows_after places_after notes_after row_after =
-    ((h : Naming) → joined text (p + 2) (label h) ≡ joined text e (labelled h (inked text (p + 2)) vs)) × (e ≤ length text) × (p + 2 < e)
-    × Stepped text p flat count s rows places notes vs r rows_after places_after notes_after row_after
-StepBy text p flat count s rows places notes vs (Fault k) rows_after places_after notes_after row_after =
+abbrev pub StepBy : List ℕ → ℕ → List ℕ → ℕ → Names → List ℕ → List ℕ → List ℕ → List Value → Result NameStep ℕ → List ℕ → List ℕ → List ℕ → List ℕ → Type 0
+StepBy text p flat count s rows places notes vs (Ok r) rows_after places_after notes_after row_after =
+    ((h : Naming) → joined text (p + 2) (label h) ≡ joined text r.end (labelled h (inked text (p + 2)) vs)) × (r.end ≤ length text) × (p + 2 < r.end)
+    × Stepped text p flat count s rows places notes vs r.names rows_after places_after notes_after row_after
+StepBy text p flat count s rows places notes vs (Err k) rows_after places_after notes_after row_after =
     ((h : Naming) → joined text (p + 2) (label h) ≡ faulty h.earlier k) × NotStored s rows places notes rows_after places_after notes_after row_after
 
-pub record NameBy (text : List ℕ) (p : ℕ) (flat : List ℕ) (count : ℕ) (s : Names) (rows places notes : List ℕ) (r : NameStep)
+pub record NameBy (text : List ℕ) (p : ℕ) (flat : List ℕ) (count : ℕ) (s : Names) (rows places notes : List ℕ) (r : Result NameStep ℕ)
     (rows_after places_after notes_after row_after : List ℕ) : Type 0 where
   pub values : List Value
   pub by : StepBy text p flat count s rows places notes values r rows_after places_after notes_after row_after

@@ -5,7 +5,7 @@ pub mod naming; // a level 88 entry in lent buffers
 
 // The level 88 entries of a text: whether one passes a limit, and where the first such starts; if none,
 // how many there are, how many literals they have, and how many bytes these.
-#[derive(Clone, Copy)]
+#[derive(Debug, Clone, Copy, PartialEq, Eq)]
 pub struct Names {
     pub over: bool,
     pub place: usize,
@@ -14,16 +14,16 @@ pub struct Names {
     pub bytes: usize,
 }
 
-// One level 88 entry more, and where its period ends; or the first faulty byte.
-#[derive(Clone, Copy)]
-pub enum NameStep {
-    Read(Names, usize),
-    Fault(usize),
+// One level 88 entry more, and where its period ends.
+#[derive(Debug, Clone, Copy, PartialEq, Eq)]
+pub struct NameStep {
+    pub names: Names,
+    pub end: usize,
 }
 
 // The entries of a text: how many of items are complete; whether the text is a description; if not, its
 // first faulty byte; and those of level 88.
-#[derive(Clone, Copy)]
+#[derive(Debug, Clone, Copy, PartialEq, Eq)]
 pub struct Found {
     pub count: usize,
     pub whole: bool,

@@ -8,7 +8,6 @@ ghost use Rattle.tables.specs.Rows.{name_width};
 
 use crate::{NameStep, Names};
 use content::Row;
-use name_entries::NameRead;
 use name_entries::reading::read_name;
 use tables::rows::NAME_WIDTH;
 use text_bytes::blanks::next_ink;
@@ -101,28 +100,31 @@ pub fn name_step(
     places: &mut [u32],
     notes: &mut [u32],
     row: &mut [u32],
-) -> NameStep
+) -> Result<NameStep, usize>
     requires { NameReady text.now p entries.now count kept names.old places.old notes.old row.old }
     ensures { NameBy text.now p entries.now count kept names.old places.old notes.old result names.new places.new notes.new row.new }
 {
     let last = count - 1;
     let item = item_row(entries, last);
-    match read_name(text, p + 2, item, start_of(kept), row, notes) {
-        NameRead::Whole(t, end) => {
-            if t.over {
-                return NameStep::Read(passed_by(kept, p), end);
-            }
-            let named = next_ink(text, p + 2);
-            store_name(names, places, row, kept.count, last, t.values, named);
-            let next = Names {
-                over: false,
-                place: 0,
-                count: kept.count + 1,
-                literals: t.literals,
-                bytes: t.bytes,
-            };
-            NameStep::Read(next, end)
-        }
-        NameRead::Fault(k) => NameStep::Fault(k),
+    let read = read_name(text, p + 2, item, start_of(kept), row, notes)?;
+    let t = read.tally;
+    if t.over {
+        return Ok(NameStep {
+            names: passed_by(kept, p),
+            end: read.end,
+        });
     }
+    let named = next_ink(text, p + 2);
+    store_name(names, places, row, kept.count, last, t.values, named);
+    let next = Names {
+        over: false,
+        place: 0,
+        count: kept.count + 1,
+        literals: t.literals,
+        bytes: t.bytes,
+    };
+    Ok(NameStep {
+        names: next,
+        end: read.end,
+    })
 }

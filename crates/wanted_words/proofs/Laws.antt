@@ -11,10 +11,9 @@ use lib.ListN.{length, get_or, take, drop, length-drop, drop_of_length-le, get_o
 use lib.Seq.{drop-cons, take_all}
 use Rattle.description.specs.Grammar.{same}
 use Rattle.description.specs.Stages.{inked, common, met, literal_at}
-use Rattle.description.specs.declared.Reached.{Reached}
-use Rattle.description.specs.declared.Reached.TheVariants as Reached
 use Rattle.description.proofs.Bytes.{eqb_no, eqb_same}
 use Rattle.text_bytes.proofs.Laws.{ink_within, part_from}
+use Rattle.std.specs.Prelude.{Err, Ok}
 
 -- A word that is asked for.
 pub common_more : (w bs : List ℕ) (k : ℕ) → k < length w → k < length bs → get_or bs k 0 ≡ get_or w k 0 →
@@ -45,7 +44,7 @@ common_le (a ∷ w) (b ∷ bs) = by (eqb b a) (common_le w bs)
     by true h = omega arith
     by false h = omega arith
 
-pub literal_none : (w text : List ℕ) (n p : ℕ) → p ≡ inked text n → p ≡ n → Reached.Fault n ≡ literal_at w text n
+pub literal_none : (w text : List ℕ) (n p : ℕ) → p ≡ inked text n → p ≡ n → Err n ≡ literal_at w text n
 literal_none w text n p e h = let i : inked text n ≡ n = sym e ∙ h in rw (i, eqb_same n)
 
 module _ (w text : List ℕ) (n p m : ℕ) (e : p ≡ inked text n) (f : m ≡ common w (take (length text - p) (drop p text))) where
@@ -56,8 +55,8 @@ module _ (w text : List ℕ) (n p m : ℕ) (e : p ≡ inked text n) (f : m ≡ c
   common-within h = omega (arith, reaches, ink_within text n p e h, common_le w (drop p text), length-drop p text)
 
   module _ (h : ¬ (p ≡ n)) where
-    pub literal-word : m ≡ length w → Reached.Word (p + m) ≡ literal_at w text n
+    pub literal-word : m ≡ length w → Ok (p + m) ≡ literal_at w text n
     literal-word k = rw (← e, eqb_no p n h, ← reaches, k, eqb_same (length w))
 
-    pub literal-fault : ¬ (m ≡ length w) → Reached.Fault (p + m) ≡ literal_at w text n
+    pub literal-fault : ¬ (m ≡ length w) → Err (p + m) ≡ literal_at w text n
     literal-fault k = rw (← e, eqb_no p n h, ← reaches, eqb_no m (length w) k)

@@ -2,7 +2,6 @@
 ghost use Rattle.std.specs.Prelude.{◌≡◌, ◌≤◌, length};
 ghost use Rattle.description.specs.Stages.{common, literal_at};
 
-use description::Reached;
 use text_bytes::blanks::next_ink;
 
 // How many bytes the two have in common at their beginning.
@@ -23,18 +22,18 @@ fn common_length(word: &[u8], rest: &[u8]) -> usize
 }
 
 // This word, after a blank at n.
-pub fn literal(word: &[u8], text: &[u8], n: usize) -> Reached
+pub fn literal(word: &[u8], text: &[u8], n: usize) -> Result<usize, usize>
     requires { n ≤ length text.now }
     ensures { result ≡ literal_at word.now text.now n }
 {
     let p = next_ink(text, n);
     if p == n {
-        return Reached::Fault(n);
+        return Err(n);
     }
     let m = common_length(word, &text[p..]);
     if m == word.len() {
-        Reached::Word(p + m)
+        Ok(p + m)
     } else {
-        Reached::Fault(p + m)
+        Err(p + m)
     }
 }

@@ -12,8 +12,6 @@ use lib.Seq.{append_snoc, drop-cons}
 use Rattle.description.specs.Grammar.{same, all, any, is_letter, is_hyphen, is_name_byte, within, keywords}
 use Rattle.description.specs.Reader.{is_name, is_called, begins_name}
 use Rattle.description.specs.Stages.{reach, inked, is_period, name_reach, name_at, label_at}
-use Rattle.description.specs.declared.Reached.{Reached}
-use Rattle.description.specs.declared.Reached.TheVariants as Reached
 use Rattle.description.specs.declared.Called.{Called}
 use Rattle.description.specs.declared.Called.TheVariants as Called
 use Rattle.description.proofs.Bytes.{apart, eqb_same, eqb_no, leb_so, leb_no}
@@ -21,6 +19,7 @@ use Rattle.description.proofs.Stages.{reach_le}
 use Rattle.description.proofs.Phases.{eqb_suc}
 use Rattle.words.specs.Runs.{name_run}
 use Rattle.text_bytes.proofs.Laws.{ink_within, part_from}
+use Rattle.std.specs.Prelude.{Err, Ok}
 
 -- Tests of each byte.
 pub all_more : (test : ℕ → Bool) (w : List ℕ) (k : ℕ) → k < length w → test (get_or w k 0) ≡ true → all test w ≡ all test (drop k w) → all test w ≡ all test (drop (k + 1) w)
@@ -206,11 +205,11 @@ pub no_byte : (text : List ℕ) (k : ℕ) → length text ≤ k → false ≡ is
 no_byte text k l = rw (get_or-eq_default text 0 l)
 
 -- A name after a blank.
-pub name_none : (l : ℕ) (text : List ℕ) (n p : ℕ) → p ≡ inked text n → p ≡ n → Called.Fault n ≡ name_at l text n
+pub name_none : (l : ℕ) (text : List ℕ) (n p : ℕ) → p ≡ inked text n → p ≡ n → Err n ≡ name_at l text n
 name_none l text n p e h = let i : inked text n ≡ n = sym e ∙ h in rw (i, eqb_same n)
 
 -- and of a level 88 entry
-pub label_none : (text : List ℕ) (n p : ℕ) → p ≡ inked text n → p ≡ n → Reached.Fault n ≡ label_at text n
+pub label_none : (text : List ℕ) (n p : ℕ) → p ≡ inked text n → p ≡ n → Err n ≡ label_at text n
 label_none text n p e h = let i : inked text n ≡ n = sym e ∙ h in rw (i, eqb_same n)
 
 module _ (text : List ℕ) (n p m : ℕ) (e : p ≡ inked text n) (g : m ≡ reach begins_name [] (take (length text - p) (drop p text))) where
@@ -225,8 +224,8 @@ module _ (text : List ℕ) (n p m : ℕ) (e : p ≡ inked text n) (g : m ≡ rea
 
   module _ (f : ¬ (p ≡ n)) (t : Bool) where
     pub name_is : (l : ℕ) (s : Bool) → is_called (take ((p + m) - p) (drop p text)) ≡ t → is_period text (p + m) && leb l 48 ≡ s →
-        cond t (cond s (Called.Group (p + m + 1)) (Called.Item (p + m))) (Called.Fault (p + m)) ≡ name_at l text n
+        cond t (cond s (Ok (Called.Group (p + m + 1))) (Ok (Called.Item (p + m)))) (Err (p + m)) ≡ name_at l text n
     name_is l s h k = let i : is_called (take m (drop p text)) ≡ t = rw part_is at h in rw (← e, eqb_no p n f, ← reaches, i, k)
 
-    pub label_is : is_name (take ((p + m) - p) (drop p text)) ≡ t → cond t (Reached.Word (p + m)) (Reached.Fault (p + m)) ≡ label_at text n
+    pub label_is : is_name (take ((p + m) - p) (drop p text)) ≡ t → cond t (Ok (p + m)) (Err (p + m)) ≡ label_at text n
     label_is h = let i : is_name (take m (drop p text)) ≡ t = rw part_is at h in rw (← e, eqb_no p n f, ← reaches, i)

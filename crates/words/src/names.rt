@@ -5,7 +5,7 @@ ghost use Rattle.description.specs.Reader.{is_name, is_called, begins_name};
 ghost use Rattle.description.specs.Stages.{reach, is_period, name_at, label_at};
 ghost use Rattle.words.specs.Runs.{name_run};
 
-use description::{Called, Reached};
+use description::Called;
 use keywords::{is_keyword, same_bytes};
 use text_bytes::blanks::next_ink;
 use text_bytes::bytes::{is_letter, is_name_byte};
@@ -108,39 +108,39 @@ pub fn period_at(text: &[u8], k: usize) -> bool
 }
 
 // The name or FILLER of an entry, after a blank at n.
-pub fn name_at(level: u32, text: &[u8], n: usize) -> Called
+pub fn name_at(level: u32, text: &[u8], n: usize) -> Result<Called, usize>
     requires { n ≤ length text.now }
     ensures { result ≡ name_at level text.now n }
 {
     let p = next_ink(text, n);
     if p == n {
-        return Called::Fault(n);
+        return Err(n);
     }
     let m = name_reach(&text[p..]);
     let k = p + m;
     if !is_called(&text[p..k]) {
-        return Called::Fault(k);
+        return Err(k);
     }
     if period_at(text, k) & (level <= 48) {
-        Called::Group(k + 1)
+        Ok(Called::Group(k + 1))
     } else {
-        Called::Item(k)
+        Ok(Called::Item(k))
     }
 }
 
 // The name of a level 88 entry, after a blank at n: no FILLER, no period.
-pub fn label_at(text: &[u8], n: usize) -> Reached
+pub fn label_at(text: &[u8], n: usize) -> Result<usize, usize>
     requires { n ≤ length text.now }
     ensures { result ≡ label_at text.now n }
 {
     let p = next_ink(text, n);
     if p == n {
-        return Reached::Fault(n);
+        return Err(n);
     }
     let m = name_reach(&text[p..]);
     let k = p + m;
     if is_name(&text[p..k]) {
-        return Reached::Word(k);
+        return Ok(k);
     }
-    Reached::Fault(k)
+    Err(k)
 }

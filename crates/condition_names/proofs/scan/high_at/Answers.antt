@@ -1,11 +1,9 @@
 -- `high_at` meets its contract: from the laws of proofs/ and what its callees ensure. Assumes nothing.
-use mathlib.Core.Path.{sym, ◌∙◌}
+use mathlib.Core.Path.{sym, ap, ◌∙◌}
 use native.Mathlib.Omega.{arith}
+use Rattle.std.proofs.Common.{Ok}
 use Rattle.condition_names.proofs.Leads.{literal-ended}
 use Rattle.condition_names.proofs.scan.high_at.Goals as goal
 
 pub overflow_add-result : goal.overflow_add-result
-overflow_add-result c =
-    let p3 = c in
-    let p6 = p3 in
-    omega (arith, (literal-ended p6.args.text.now p6.args.n p6.requires _ (sym p3.spelled_at.ensures ∙ c.in-Ended.is)).1)
+overflow_add-result c = omega (arith, (literal-ended c.args.text.now c.args.n c.requires _ (sym c.in_ok-end.ensures ∙ ap Ok c.in-Ended.is)).1)

@@ -53,8 +53,8 @@ entry_at-requires c =
       ),
     )
 
-pub returns-in-Fault : goal.returns-in-Fault
-returns-in-Fault c =
+pub returns-in-Err : goal.returns-in-Err
+returns-in-Err c =
     let p2 = c in
     let p4 = p2 in
     let p6 = p4 in
@@ -63,8 +63,8 @@ returns-in-Fault c =
     let p16 = p8 in record {
       read_by = faults p16.args.text.now p8.loop-kept.entries p8.loop-kept.stack p8.loop-kept.names p8.loop-kept.places p8.loop-kept.notes p8.loop-kept.depth
           p8.loop-kept.waiting p8.loop-kept.count p8.loop-kept.at p8.loop-kept.kept p8.loop-kept.invariant.0 p16.requires.text_len_bound.0 p7.next_ink-p.ensures p6.if-p-text.false
-          p4.entry_at.ensures p2.in-Fault.is c.found-in-Fault.ensures;
-      beyond = beyond_as p8.loop-kept.invariant.7 c.found-in-Fault.ensures;
+          p4.entry_at.ensures p2.in-Err.is c.found-in-Err.ensures;
+      beyond = beyond_as p8.loop-kept.invariant.7 c.found-in-Err.ensures;
     }
 
 pub name_step-requires : goal.name_step-requires
@@ -102,16 +102,16 @@ returns-then-not-parted_at c =
     ) in record {
       read_by = name_stops p34.args.text.now p26.loop-kept.entries p26.loop-kept.stack p26.loop-kept.names p26.loop-kept.places p26.loop-kept.notes
           p26.loop-kept.depth p26.loop-kept.waiting p26.loop-kept.count p26.loop-kept.at p26.loop-kept.kept p26.loop-kept.invariant.0 p34.requires.text_len_bound.0
-          p25.next_ink-p.ensures p24.if-p-text.false p22.entry_at.ensures p20.in-Name.is w (step_as p14.name_step.ensures p4.in-Read.is)
+          p25.next_ink-p.ensures p24.if-p-text.false p22.entry_at.ensures p20.in-Name.is w (step_as p14.name_step.ensures p4.in-Ok.is)
           (sym p2.parted_at.ensures ∙ c.if-not-parted_at.true) c.found-then-not-parted_at.ensures;
       beyond = beyond_as (name_beyond p34.args.text.now p26.loop-kept.entries p26.loop-kept.stack p26.loop-kept.names p26.loop-kept.places p26.loop-kept.notes
           p26.loop-kept.depth p26.loop-kept.waiting p26.loop-kept.count p26.loop-kept.at p26.loop-kept.kept p26.loop-kept.invariant.0 p34.requires.text_len_bound.0
-          p25.next_ink-p.ensures p24.if-p-text.false p22.entry_at.ensures p20.in-Name.is w (step_as p14.name_step.ensures p4.in-Read.is)
+          p25.next_ink-p.ensures p24.if-p-text.false p22.entry_at.ensures p20.in-Name.is w (step_as p14.name_step.ensures p4.in-Ok.is)
           p26.loop-kept.invariant.7 (p14.name_step.auto.row ∙ p26.loop-kept.invariant.6 ∙ p34.requires.in_bounds.1.1.1)) c.found-then-not-parted_at.ensures;
     }
 
-pub loop-kept-preserved-in-Read : goal.loop-kept-preserved-in-Read
-loop-kept-preserved-in-Read c =
+pub loop-kept-preserved-in-Ok : goal.loop-kept-preserved-in-Ok
+loop-kept-preserved-in-Ok c =
     let p3 = c in
     let p13 = p3 in
     let p19 = p13 in
@@ -127,7 +127,7 @@ loop-kept-preserved-in-Read c =
       name_goes p33.args.text.now p25.loop-kept.entries p25.loop-kept.stack p25.loop-kept.names p25.loop-kept.places p25.loop-kept.notes
           p25.loop-kept.depth p25.loop-kept.waiting p25.loop-kept.count p25.loop-kept.at p25.loop-kept.kept p25.loop-kept.invariant.0 p33.requires.text_len_bound.0
           p24.next_ink-p.ensures p23.if-p-text.false p21.entry_at.ensures p19.in-Name.is w
-          (step_as p13.name_step.ensures p3.in-Read.is) (sym c.parted_at.ensures ∙ c.if-not-parted_at.false),
+          (step_as p13.name_step.ensures p3.in-Ok.is) (sym c.parted_at.ensures ∙ c.if-not-parted_at.false),
       p25.loop-kept.invariant.1,
       p25.loop-kept.invariant.2,
       p13.name_step.auto.names ∙ p25.loop-kept.invariant.3,
@@ -137,12 +137,12 @@ loop-kept-preserved-in-Read c =
       name_beyond p33.args.text.now p25.loop-kept.entries p25.loop-kept.stack p25.loop-kept.names p25.loop-kept.places p25.loop-kept.notes
           p25.loop-kept.depth p25.loop-kept.waiting p25.loop-kept.count p25.loop-kept.at p25.loop-kept.kept p25.loop-kept.invariant.0 p33.requires.text_len_bound.0
           p24.next_ink-p.ensures p23.if-p-text.false p21.entry_at.ensures p19.in-Name.is w
-          (step_as p13.name_step.ensures p3.in-Read.is) p25.loop-kept.invariant.7
+          (step_as p13.name_step.ensures p3.in-Ok.is) p25.loop-kept.invariant.7
           (p13.name_step.auto.row ∙ p25.loop-kept.invariant.6 ∙ p33.requires.in_bounds.1.1.1),
     )
 
-pub returns-in-Fault-name_step : goal.returns-in-Fault-name_step
-returns-in-Fault-name_step c =
+pub returns-in-Err-name_step : goal.returns-in-Err-name_step
+returns-in-Err-name_step c =
     let p2 = c in
     let p12 = p2 in
     let p18 = p12 in
@@ -151,11 +151,11 @@ returns-in-Fault-name_step c =
     let p23 = p22 in
     let p24 = p23 in
     let p32 = p24 in
-    let n = step_as p12.name_step.ensures p2.in-Fault-name_step.is in record {
+    let n = step_as p12.name_step.ensures p2.in-Err-name_step.is in record {
       read_by = name_fault p32.args.text.now p24.loop-kept.entries p24.loop-kept.stack p24.loop-kept.names p24.loop-kept.places p24.loop-kept.notes
           p24.loop-kept.depth p24.loop-kept.waiting p24.loop-kept.count p24.loop-kept.at p24.loop-kept.kept p24.loop-kept.invariant.0 p32.requires.text_len_bound.0
-          p23.next_ink-p.ensures p22.if-p-text.false p20.entry_at.ensures p18.in-Name.is n c.found-in-Fault-name_step.ensures;
-      beyond = beyond_fault p24.loop-kept.invariant.7 c.found-in-Fault-name_step.ensures n.by.1;
+          p23.next_ink-p.ensures p22.if-p-text.false p20.entry_at.ensures p18.in-Name.is n c.found-in-Err-name_step.ensures;
+      beyond = beyond_fault p24.loop-kept.invariant.7 c.found-in-Err-name_step.ensures n.by.1;
     }
 
 pub push-requires : goal.push-requires

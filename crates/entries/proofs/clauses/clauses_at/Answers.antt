@@ -1,28 +1,23 @@
 -- `clauses_at` meets its contract: from the laws of proofs/ and what its callees ensure. Assumes nothing.
-use Prim.Native.Nat.{◌-◌}
-use mathlib.Core.Path.{refl}
-use Rattle.entries.specs.Entries.{cap_clauses}
-use Rattle.entries.proofs.Branches.{via, known}
+use mathlib.Core.Path.{ap, ◌∙◌}
+use Rattle.std.proofs.lemmas.Result.{err_from_is_err_and}
 use Rattle.description.specs.Grammar.{bytes}
 use Rattle.description.specs.Stages.{after_pic, clauses_at}
+use Rattle.entries.specs.Entries.{cap_clauses}
+use Rattle.entries.proofs.Branches.{known}
 use Rattle.entries.proofs.Bounds.{Reaches, literal_reaches}
 use Rattle.entries.proofs.clauses.clauses_at.Goals as goal
 
 pub picture_clause-requires : goal.picture_clause-requires
-picture_clause-requires c = (
-  (known (Reaches c.args.text.now
-      c.args.n) c.literal.ensures c.in-Word.is
-      (literal_reaches c.args.text.now c.args.n
-      c.requires.0 (bytes "PIC"))).1,
-  c.requires.1,
-)
+picture_clause-requires c =
+    ((known (Reaches c.args.text.now c.args.n) c.literal.ensures c.in_ok-k.was (literal_reaches c.args.text.now c.args.n c.requires.0 (bytes "PIC"))).1, c.requires.1)
 
-pub returns-in-Word : goal.returns-in-Word
+pub returns : goal.returns
 unfolding clauses_at
-returns-in-Word c = via (λ x. cap_clauses (after_pic c.args.text.now x))
-    c.literal.ensures c.in-Word.is c.picture_clause.ensures
+returns c = c.picture_clause.ensures ∙ ap (λ x. cap_clauses (after_pic c.args.text.now x)) c.in_ok-k.ensures
 
-pub returns-in-Fault : goal.returns-in-Fault
+pub returns-in_err-k : goal.returns-in_err-k
 unfolding clauses_at
-returns-in-Fault c = via (λ x. cap_clauses (after_pic c.args.text.now x)) c.literal.ensures
-    c.in-Fault.is refl
+returns-in_err-k c =
+    let p = err_from_is_err_and c.from_residual.result c.from_residual.ensures.1 in
+    rw (p.1, p.2) (ap (λ x. cap_clauses (after_pic c.args.text.now x)) c.in_err-k.ensures)

@@ -1,6 +1,8 @@
 -- `named_at` meets its contract: from the laws of proofs/ and what its callees ensure. Assumes nothing.
 use Prim.Native.Nat.{◌-◌, ◌+◌}
+use mathlib.Core.Path.{ap, ◌∙◌}
 use native.Mathlib.Omega.{arith}
+use Rattle.std.proofs.Common.{Ok}
 use Rattle.entries.proofs.Branches.{known}
 use Rattle.text_bytes.proofs.Laws.{ink_within}
 use Rattle.entries.proofs.Bounds.{Names, name_reaches}
@@ -11,10 +13,7 @@ narrow-named-requires c = omega (arith, ink_within _ _ _ c.next_ink.ensures c.re
 
 pub item_at-requires : goal.item_at-requires
 item_at-requires c = (
-  (known (Names c.args.text.now
-      (c.args.p + 2)) c.name_at.ensures c.in-Item.is
-      (name_reaches c.args.text.now
-      (c.args.p + 2) c.requires.0
-      c.args.level)).1,
+  (known (Names c.args.text.now (c.args.p + 2)) c.name_at.ensures (c.in_ok-k.was ∙ ap Ok c.in-Item.is)
+      (name_reaches c.args.text.now (c.args.p + 2) c.requires.0 c.args.level)).1,
   c.requires.1,
 )

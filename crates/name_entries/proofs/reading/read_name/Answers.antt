@@ -3,63 +3,36 @@ use native.Mathlib.Omega.{arith}
 use mathlib.Core.Path.{sym, ap, ◌∙◌}
 use Prim.Native.Nat.{ℕ}
 use lib.ListN.{replicate}
+use Rattle.std.proofs.lemmas.Result.{err_from_is_err_and}
 use Rattle.description.specs.Grammar.{bytes}
 use Rattle.condition_names.proofs.Leads.{word-within}
 use Rattle.name_entries.proofs.Going.{begun, label_within, valued, value-fault, label_fault}
 use Rattle.name_entries.proofs.reading.read_name.Goals as goal
 
 pub literal-requires : goal.literal-requires
-literal-requires c =
-    let p2 = c in
-    let p4 = p2 in
-    let p12 = p4 in
-    (label_within p12.args.text.now p12.args.n _ p12.requires.0 (sym p2.in-Word.is ∙ p4.label_at.ensures)).1
+literal-requires c = (label_within c.args.text.now c.args.n _ c.requires.0 c.in_ok-k.ensures).1
 
 pub read_values-requires : goal.read_values-requires
 read_values-requires c =
-    let p3 = c in
-    let p5 = p3 in
-    let p8 = p5 in
-    let p10 = p8 in
-    let p13 = p10 in
-    let p18 = p13 in (
-      (word-within (bytes "VALUE") p18.args.text.now _ _ (label_within p18.args.text.now p18.args.n _ p18.requires.0 (sym
-          p8.in-Word.is ∙ p10.label_at.ensures)).1 (sym p5.literal.ensures ∙ p3.in-Word-literal.is)).1,
-      begun p18.requires.1.0 (p13.clear.ensures ∙
-          ap (λ (n : ℕ). replicate n 0) p18.requires.1.1),
+    let named = label_within c.args.text.now c.args.n _ c.requires.0 c.in_ok-k.ensures in (
+      (word-within (bytes "VALUE") c.args.text.now _ _ named.1 (sym c.in_ok-m.ensures)).1,
+      begun c.requires.1.0 (c.clear.ensures ∙ ap (λ (n : ℕ). replicate n 0) c.requires.1.1),
     )
 
-pub returns-in-Word-literal : goal.returns-in-Word-literal
-returns-in-Word-literal c =
-    let p4 = c in
-    let p8 = p4 in
-    let p10 = p8 in
-    let p13 = p10 in
-    let p15 = p13 in
-    let p23 = p15 in
-    valued p23.args.text.now p23.args.n _ (sym p13.in-Word.is ∙ p15.label_at.ensures) p4.read_values.result (omega (
-      arith,
-      (label_within p23.args.text.now p23.args.n _ p23.requires.0 (sym p13.in-Word.is ∙ p15.label_at.ensures)).0,
-      (word-within (bytes
-          "VALUE") p23.args.text.now _ _ (label_within p23.args.text.now p23.args.n _ p23.requires.0 (sym p13.in-Word.is ∙
-          p15.label_at.ensures)).1 (sym p10.literal.ensures ∙ p8.in-Word-literal.is)).0,
-    )) (sym p8.in-Word-literal.is ∙ p10.literal.ensures)
-    p4.read_values.ensures
+pub returns : goal.returns
+returns c =
+    let named = label_within c.args.text.now c.args.n _ c.requires.0 c.in_ok-k.ensures in
+    valued c.args.text.now c.args.n _ c.in_ok-k.ensures c.read_values.result
+    (omega (arith, named.0, (word-within (bytes "VALUE") c.args.text.now _ _ named.1 (sym c.in_ok-m.ensures)).0)) c.in_ok-m.ensures
+    c.read_values.ensures
 
-pub returns-in-Fault-literal : goal.returns-in-Fault-literal
-returns-in-Fault-literal c =
-    let p3 = c in
-    let p6 = p3 in
-    let p8 = p6 in
-    let p11 = p8 in
-    let p16 = p11 in
-    value-fault p16.args.text.now p16.args.n _ (sym p6.in-Word.is ∙ p8.label_at.ensures)
-    (p11.clear.ensures ∙ ap (λ (n : ℕ). replicate n 0) p16.requires.1.1) (sym c.in-Fault-literal.is ∙ p3.literal.ensures)
+pub returns-in_err-m : goal.returns-in_err-m
+returns-in_err-m c =
+    let p = err_from_is_err_and c.from_residual-in_err-m.result c.from_residual-in_err-m.ensures.1 in
+    rw (p.1, p.2)
+    (value-fault c.args.text.now c.args.n _ c.in_ok-k.ensures (c.clear.ensures ∙ ap (λ (n : ℕ). replicate n 0) c.requires.1.1) c.in_err-m.ensures)
 
-pub returns-in-Fault : goal.returns-in-Fault
-returns-in-Fault c =
-    let p3 = c in
-    let p6 = p3 in
-    let p11 = p6 in
-    label_fault p11.args.text.now p11.args.n (p6.clear.ensures ∙ ap (λ (n : ℕ). replicate n 0) p11.requires.1.1)
-    (sym c.in-Fault.is ∙ p3.label_at.ensures)
+pub returns-in_err-k : goal.returns-in_err-k
+returns-in_err-k c =
+    let p = err_from_is_err_and c.from_residual.result c.from_residual.ensures.1 in
+    rw (p.1, p.2) (label_fault c.args.text.now c.args.n (c.clear.ensures ∙ ap (λ (n : ℕ). replicate n 0) c.requires.1.1) c.in_err-k.ensures)
