@@ -28,10 +28,8 @@ pub(crate) fn put_content(out: &mut [u8], at: usize, bytes: &[u8]) -> usize
     ensures { Puts out.old at (content_shown bytes.now) result out.new }
 {
     let mut end = put(out, at, b"\"");
-    let mut i: usize = 0;
-    while i < bytes.len() {
-        end = put_byte(out, end, bytes[i]);
-        i += 1;
+    for byte in bytes {
+        end = put_byte(out, end, *byte);
     }
     put(out, end, b"\"")
 }

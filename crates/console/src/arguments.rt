@@ -8,17 +8,11 @@ use std::rt::Env;
 pub fn argument(rt: &impl Env, i: usize, room: &mut [u8]) -> usize
     ensures { result ≤ length room.new }
 {
-    match rt.arg(i, room) {
-        Ok(n) => n,
-        Err(_) => 0,
-    }
+    rt.arg(i, room).unwrap_or(0)
 }
 
 fn is_missing(rt: &impl Env, i: usize) -> bool {
-    match rt.arg(i, &mut [0u8; 1]) {
-        Err(FillError::NotPresent) => true,
-        _ => false,
-    }
+    matches!(rt.arg(i, &mut [0u8; 1]), Err(FillError::NotPresent))
 }
 
 // How many arguments there are, the program's own name among them.

@@ -15,10 +15,7 @@ const EILSEQ: i32 = 84;
 fn path(name: &[u8]) -> io::Result<&str>
     ensures { IfOk result (λ path. path.now ≡ name.now) }
 {
-    match str::from_utf8(name) {
-        Ok(path) => Ok(path),
-        Err(_) => Err(Error::from_raw_os_error(EILSEQ)),
-    }
+    str::from_utf8(name).map_err(|_| Error::from_raw_os_error(EILSEQ))
 }
 
 // Open for reading.

@@ -10,6 +10,7 @@ pub fn read_full<R: Read>(from: &mut R, room: &mut [u8]) -> usize
     ensures bytes { Consumes (R.remaining from.old) (R.remaining from.new) (take result room.new) }
 {
     let mut done: usize = 0;
+    // The step is what a read gave.
     while done < room.len() {
         match from.read(&mut room[done..]) {
             Ok(0) => return done,

@@ -34,13 +34,11 @@ pub fn low_byte(number: u32) -> u8
 pub fn narrow(numbers: &[u32], bytes: &mut [u8]) -> usize
     ensures { Narrows numbers.now bytes.old result bytes.new }
 {
-    let mut i: usize = 0;
-    while i < numbers.len() {
+    for (i, number) in numbers.iter().enumerate() {
         if i >= bytes.len() {
             return i;
         }
-        bytes[i] = low_byte(numbers[i]);
-        i += 1;
+        bytes[i] = low_byte(*number);
     }
-    i
+    numbers.len()
 }

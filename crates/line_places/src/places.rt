@@ -7,12 +7,10 @@ pub fn line_number(before: &[u8]) -> usize
     ensures { result ≡ line_number before.now }
 {
     let mut line: usize = 1;
-    let mut i: usize = 0;
-    while i < before.len() {
-        if before[i] == 0x0A {
+    for byte in before {
+        if *byte == 0x0A {
             line += 1;
         }
-        i += 1;
     }
     line
 }
@@ -22,12 +20,10 @@ pub fn line_start(before: &[u8]) -> usize
     ensures { result ≡ line_start before.now }
 {
     let mut start: usize = 0;
-    let mut i: usize = 0;
-    while i < before.len() {
-        if before[i] == 0x0A {
+    for (i, byte) in before.iter().enumerate() {
+        if *byte == 0x0A {
             start = i + 1;
         }
-        i += 1;
     }
     start
 }
@@ -36,27 +32,17 @@ pub fn line_start(before: &[u8]) -> usize
 pub fn line_rest(rest: &[u8]) -> usize
     ensures { result ≡ line_rest rest.now }
 {
-    let mut i: usize = 0;
-    while i < rest.len() {
-        if rest[i] == 0x0A {
-            return i;
-        }
-        i += 1;
-    }
-    i
+    rest.iter()
+        .position(|byte| *byte == 0x0A)
+        .unwrap_or(rest.len())
 }
 
 // What follows the characters with ink: the end of a word, or what nobody sees in it.
 pub fn after_ink(rest: &[u8]) -> u8
     ensures { result ≡ after_ink rest.now }
 {
-    let mut i: usize = 0;
-    while i < rest.len() {
-        let byte = rest[i];
-        if (byte < 0x21) | (0x7E < byte) {
-            return byte;
-        }
-        i += 1;
-    }
-    0x0A
+    rest.iter()
+        .copied()
+        .find(|byte| *byte < 0x21 || 0x7E < *byte)
+        .unwrap_or(0x0A)
 }

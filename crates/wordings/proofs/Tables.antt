@@ -4,10 +4,9 @@ use mathlib.Core.Bool.{Bool, true, false, cond, not, ◌&&◌, false≢true}
 use mathlib.Core.List.{List, [], ◌∷◌, ◌++◌}
 use Prim.Native.Nat.{ℕ, zero, suc, ◌+◌, ◌-◌, ◌≤◌, ◌<◌}
 use native.Mathlib.Omega.{arith}
-use lib.Dec.{eqb, ltb}
+use lib.Dec.{eqb}
 use lib.ListN.{length, take, drop, get_or, length-drop}
-use lib.Seq.{take_at, take_all, length-take-le}
-use borrow.Author.Tests.{ltb-false}
+use lib.Seq.{take_at, take_all, length-take-le, drop-length}
 use Rattle.tables.proofs.Tests.{both}
 use Rattle.description.proofs.Bytes.{eqb_no}
 use Rattle.lines.specs.Put.{Puts}
@@ -27,15 +26,17 @@ module _ (text : List ℕ) (i : ℕ) where
   line_on zero some h e = absurd (omega arith)
   line_on (suc left) some h e = sym (rw (next text i h) (rw (eqb_no (get_or text i 0) 0x0A e) refl))
 
-  -- the line starts here, or nothing is left
-  pub line_here : (left : ℕ) → i ≤ length text → ltb i (length text) && ltb 0 left ≡ false → after_lines left (drop i text) ≡ drop i text
+  -- the line starts here
+  pub line_here : (left : ℕ) → left ≡ 0 → after_lines left (drop i text) ≡ drop i text
   unfolding after_lines
-  line_here zero l e = refl
-  line_here (suc left) l e = by (ltb i (length text)) refl e
-    where
-      by : (b : Bool) → ltb i (length text) ≡ b → b && ltb 0 (suc left) ≡ false → after_lines (suc left) (drop i text) ≡ drop i text
-      by true p q = absurd (omega (arith, ltb-false 0 (suc left) q))
-      by false p q = rw (none text i l (ltb-false i (length text) p)) refl
+  line_here zero e = refl
+  line_here (suc left) e = absurd (omega arith)
+
+  -- nothing is left
+  pub no_line : (left : ℕ) → i ≤ length text → length text ≤ i → after_lines left (drop i text) ≡ drop (length text) text
+  unfolding after_lines
+  no_line zero l e = ap (λ (k : ℕ). drop k text) (let q : i ≡ length text = omega arith in q)
+  no_line (suc left) l e = rw (none text i l e, drop-length text) refl
 
 -- The line from there on.
 inside : (place : ℕ) (text : List ℕ) → end_from place text ≤ place + length text

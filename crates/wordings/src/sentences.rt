@@ -12,14 +12,15 @@ fn line_at(text: &[u8], number: u32) -> usize
     ensures { (result ≤ length text.now) × (drop result text.now ≡ after_lines number text.now) }
 {
     let mut left = number;
-    let mut i: usize = 0;
-    while (i < text.len()) & (left > 0) {
-        if text[i] == 0x0A {
+    for (i, byte) in text.iter().enumerate() {
+        if left == 0 {
+            return i;
+        }
+        if *byte == 0x0A {
             left -= 1;
         }
-        i += 1;
     }
-    i
+    text.len()
 }
 
 // That line.

@@ -1,22 +1,13 @@
 -- The first byte without ink.
-use mathlib.Core.Path.{sym, ◌∙◌}
-use Prim.Native.Nat.{◌-◌}
-use native.Mathlib.Omega.{arith}
-use Rattle.line_places.proofs.Walking.{ink_here, ink_later, ink_done}
+use Rattle.std.proofs.Common.{rules, ◌||◌, nat_lt}
+use Rattle.std.proofs.lemmas.Iterator.{YieldsList-from_slice}
+use Rattle.std.proofs.lemmas.Iterator.Consumers.{YieldsList-from_copied}
+use Rattle.std.proofs.lemmas.Iterator.Search.{find_from_yields_List}
+use Rattle.line_places.proofs.Walking.{ink-found}
 use Rattle.line_places.proofs.places.after_ink.Goals as goal
-
-pub returns-then-byte : goal.returns-then-byte
-returns-then-byte c =
-    let l = c.loop-i in
-    sym (ink_here c.args.rest.now l.i c.loop-i-test.true c.if-byte.true) ∙ l.invariant.1
-
-pub loop-i-preserved : goal.loop-i-preserved
-loop-i-preserved c =
-    let l = c.loop-i in
-    let t = c.loop-i-test.true in
-    (omega (arith, t), ink_later c.args.rest.now l.i t c.if-byte.false ∙ l.invariant.1)
 
 pub returns : goal.returns
 returns c =
-    let l = c.loop-i in
-    sym (ink_done c.args.rest.now l.i l.invariant.0 c.loop-i-test.false) ∙ l.invariant.1
+    let items = YieldsList-from_copied (YieldsList-from_slice c.args.rest.now cc) in
+    let found = find_from_yields_List (λ b. nat_lt b 0x21 || nat_lt 0x7E b) _ _ _ c.find.ensures.ran items (λ x b q k. search rules) in
+    rw c.unwrap_or.ensures (ink-found _ _ found)

@@ -1,16 +1,11 @@
 -- One line more at each line feed.
-use mathlib.Core.Path.{sym, ◌∙◌}
-use mathlib.Core.Logic.{⊎_elim}
-use Prim.Native.Nat.{◌-◌}
-use native.Mathlib.Omega.{arith}
+use Rattle.std.proofs.Common.{sym, ◌∙◌, arith}
 use Rattle.std.proofs.lemmas.Grind.{common_steps}
 use Rattle.line_places.proofs.Walking.{line-next, line_same, line-done}
 use Rattle.line_places.proofs.places.line_number.Goals as goal
 
-pub loop-i-preserved : goal.loop-i-preserved
-loop-i-preserved c = grind (arith, common_steps, line-next, line_same)
+pub loop-byte-preserved : goal.loop-byte-preserved
+loop-byte-preserved c = grind (arith, common_steps, line-next, line_same)
 
 pub returns : goal.returns
-returns c =
-    let l = c.loop-i in
-    sym (line-done c.args.before.now l.i l.line l.invariant.0 c.loop-i-test.false) ∙ l.invariant.2
+returns c = sym (line-done c.args.before.now c.loop-byte.byte-index c.loop-byte.line (omega arith) (omega arith)) ∙ c.loop-byte.invariant.1
