@@ -6,7 +6,7 @@ use native.Mathlib.Omega.{arith}
 use lib.ListN.{length, drop, length-append, drop_of_length-le}
 use Rattle.simples.specs.declared.Carried.{Carried}
 use Rattle.simples.specs.declared.Single.{Single}
-use Rattle.simples.specs.declared.Single.TheVariants.{Row, Stuck}
+use Rattle.std.proofs.Common.{Result, Ok, Err}
 use Rattle.grammar.specs.Grammar.{Class, operand, switch, opening, closing, not, and, or, order, bound, test, name, Class-discrete, class, Is}
 use Rattle.grammar.specs.Grammar.{Carry, nothing, carried, simple}
 use Rattle.grammar.specs.Parser.{Result, parsed, stuck, Parser, on, object, alone, short_bounded, short_ordered, parse_simple}
@@ -114,7 +114,7 @@ module _ {tokens w : List ℕ} {at count : ℕ} {carry : Carried} (p : Progress 
   pub ended : length tokens ≤ at → spelled tokens ≡ w
   ended l = rw (p.says, drop_of_length-le tokens l, none_left, append-nil)
 
-  pub halted : {r : Single} {place : ℕ} → Reads (part (carry_of carry)) 1 tokens at r → r ≡ Stuck place → spelled tokens ≡ w
+  pub halted : {r : Result Single ℕ} {place : ℕ} → Reads (part (carry_of carry)) 1 tokens at r → r ≡ Err place → spelled tokens ≡ w
   unfolding parts_spelled
   halted {place = place} h e = go p.parts p.says
     where
@@ -124,13 +124,28 @@ module _ {tokens w : List ℕ} {at count : ℕ} {carry : Carried} (p : Progress 
           let g : part (carry_of carry) (drop at tokens) ≡ stuck (drop place tokens) = rw e at h.found in
           rw (g, append-nil) at q
 
-  pub further : {r : Single} {a n b next : ℕ} {c : Carried} → at < length tokens → Reads (part (carry_of carry)) 1 tokens at r →
-      r ≡ Row a n b next c →
-      Progress tokens (w ++ full_form a n b) next (count + length (full_form a n b)) c × (n < 64) × (at < next)
+  pub further : {r : Result Single ℕ} {s : Single} → at < length tokens → Reads (part (carry_of carry)) 1 tokens at r → r ≡ Ok s →
+      let form = full_form s.subject s.relation s.object in
+      Progress tokens (w ++ form) s.next (count + length form) s.carry × (s.relation < 64) × (at < s.next)
   unfolding parts_spelled expanded
-  further {a = a} {n = n} {b = b} {next = next} {c = c} l h e = go p.parts p.enough p.says
+  further {s = s} l h e = go p.parts p.enough p.says
     where
-      read : Reads (part (carry_of carry)) 1 tokens at (Row a n b next c)
+      abbrev a : ℕ
+      a = s.subject
+
+      abbrev n : ℕ
+      n = s.relation
+
+      abbrev b : ℕ
+      b = s.object
+
+      abbrev next : ℕ
+      next = s.next
+
+      abbrev c : Carried
+      c = s.carry
+
+      read : Reads (part (carry_of carry)) 1 tokens at (Ok s)
       read = rw e at h
 
       go : (parts : ℕ) → length tokens - at ≤ parts → spelled tokens ≡ w ++ parts_spelled parts (carry_of carry) (drop at tokens) →

@@ -15,8 +15,7 @@ use Rattle.tables.specs.declared.Check.TheVariants.{Sound, Refused}
 use Rattle.tables.specs.Operands.{Lent, lend, lend_names, under}
 use Rattle.tables.specs.Refusals.{place, first_of}
 use Rattle.tables.proofs.Lines.{line_sound, line_refused, line_last}
-use Rattle.parser.specs.declared.Parse.{Parse}
-use Rattle.parser.specs.declared.Parse.TheVariants.{Accepted}
+use Rattle.std.proofs.Common.{Result, Ok}
 use Rattle.grammar.specs.Parser.{Reading, accepted, refused, read}
 use Rattle.grammar.specs.Depth.{depth_check}
 use Rattle.grammar.specs.Judging.{simple_count}
@@ -42,13 +41,13 @@ pub eight_first : (seven : ℕ) (eight : Refusal) → place eight < seven → Re
 eight_first seven eight h = rw (lt-leb seven (place eight) h)
 
 -- what was parsed is what is read
-seven : (r : Parse) (before after : List ℕ) (reading : Reading) → Whole r before after reading → parse_check r ≡ grammar_check reading
+seven : (r : Result ℕ ℕ) (before after : List ℕ) (reading : Reading) → Whole r before after reading → parse_check r ≡ grammar_check reading
 unfolding Whole
 seven r before after (accepted t) w = ap parse_check w.0
 seven r before after (refused at) w = ap parse_check w.0
 
 -- the rows of an accepted sequence
-lies : (count : ℕ) (before after : List ℕ) (reading : Reading) → Whole (Accepted count) before after reading → RowsStand reading count before after
+lies : (count : ℕ) (before after : List ℕ) (reading : Reading) → Whole (Ok count) before after reading → RowsStand reading count before after
 unfolding Whole
 lies count before after (accepted t) w =
     let e : count ≡ simple_count t = cc w.0 in
@@ -60,7 +59,7 @@ stands_rows {count = count} {before = before} s =
     rw s.rows (take_at (planned s.tree) (drop (count * 5) before) (count * 5) (planned-length s.tree ∙ ap (λ n. n * 5) (sym s.counted)))
 
 -- what is parsed of at most 256 tokens leaves the buffer as it was from its 128th row on
-spared : (tokens : List ℕ) (r : Parse) (before after : List ℕ) → length tokens ≤ 256 → Parses tokens r before after → drop 640 after ≡ drop 640 before
+spared : (tokens : List ℕ) (r : Result ℕ ℕ) (before after : List ℕ) → length tokens ≤ 256 → Parses tokens r before after → drop 640 after ≡ drop 640 before
 unfolding Whole
 spared tokens r before after l w = go (read tokens) refl w
   where
@@ -80,7 +79,7 @@ parsed_enough tokens Sound d = rw (take_all (length tokens) tokens (omega arith)
 parsed_enough tokens (Refused eight) d = deep_enough tokens eight (sym d)
 
 -- 7 to 9, of a sequence of which 1 to 6 refuse nothing
-module _ (lent : Lent) (tokens before after : List ℕ) (parsed : Parse) {depth : Check} {end : ℕ} (d : depth ≡ depth_check tokens)
+module _ (lent : Lent) (tokens before after : List ℕ) (parsed : Result ℕ ℕ) {depth : Check} {end : ℕ} (d : depth ≡ depth_check tokens)
     (n : end ≡ parsed_tokens tokens depth) (parses : Parses (take end tokens) parsed before after) where
   -- the line of 7 and 8, as the code has tried it
   first-line : {r : Check} → r ≡ earlier (parse_check parsed) depth → earlier (grammar_check (read tokens)) (depth_check tokens) ≡ r
@@ -105,18 +104,18 @@ unparsed_refused (Refused eight) r at e f = pick (leb at (place eight)) (sym e �
     pick false k = let z : ◌≡◌ {A = ℕ} 0 1 = cc in omega arith
 
 -- where neither 7 nor 8 refuses, all tokens are parsed
-all_parsed : (tokens before after : List ℕ) (p : Parse) (depth : Check) → depth ≡ Sound → Parses (take (parsed_tokens tokens depth) tokens) p before after →
+all_parsed : (tokens before after : List ℕ) (p : Result ℕ ℕ) (depth : Check) → depth ≡ Sound → Parses (take (parsed_tokens tokens depth) tokens) p before after →
     Parses tokens p before after
 all_parsed tokens before after p depth e h = rw (e, take_all (length tokens) tokens (omega arith)) at h
 
 module _ (items literals tokens before after : List ℕ) (count : ℕ) {depth : Check} {end : ℕ} (d : depth ≡ depth_check tokens)
-    (n : end ≡ parsed_tokens tokens depth) (parsed : Parses (take end tokens) (Accepted count) before after) {r : Check}
-    (e : r ≡ earlier (parse_check (Accepted count)) depth) (f : r ≡ Sound) (there : There items literals tokens) where
+    (n : end ≡ parsed_tokens tokens depth) (parsed : Parses (take end tokens) (Ok count) before after) {r : Check}
+    (e : r ≡ earlier (parse_check (Ok count)) depth) (f : r ≡ Sound) (there : There items literals tokens) where
   abbrev lent : Lent
   lent = lend items literals []
 
-  parses : Parses tokens (Accepted count) before after
-  parses = all_parsed tokens before after (Accepted count) depth (sym e ∙ f) (rw n at parsed)
+  parses : Parses tokens (Ok count) before after
+  parses = all_parsed tokens before after (Ok count) depth (sym e ∙ f) (rw n at parsed)
 
   -- 9 is tried of the rows in the buffer
   typing_of : (reading : Reading) → RowsStand reading count before after → typing_check lent reading ≡ typed_rows lent after count
@@ -135,14 +134,14 @@ module _ (items literals tokens before after : List ℕ) (count : ℕ) {depth : 
 
   last_line : {typing : Check} → typing ≡ typed_rows lent after count → first_of (grammar_lines lent tokens) ≡ typing
   last_line g =
-      line_sound _ (first-line lent tokens before after (Accepted count) d n parsed e ∙ f)
+      line_sound _ (first-line lent tokens before after (Ok count) d n parsed e ∙ f)
       ∙ line_last _
       ∙ typing_of (read tokens) (lies count before after (read tokens) parses)
       ∙ sym g
 
   pub typing_refused : length tokens ≤ 256 → {typing : Check} → typing ≡ typed_rows lent after count → {refusal : Refusal} → typing ≡ Refused refusal →
       Resolves lent tokens (Unprepared refusal) before after
-  typing_refused l g h = record { readied = (last_line g ∙ h, spared tokens (Accepted count) before after l parses) }
+  typing_refused l g h = record { readied = (last_line g ∙ h, spared tokens (Ok count) before after l parses) }
 
   pub resolved : {typing : Check} → typing ≡ typed_rows lent after count → typing ≡ Sound → Resolves lent tokens (Rows count) before after
   resolved g h = record { readied = (last_line g ∙ h, lies count before after (read tokens) parses) }

@@ -1,13 +1,11 @@
 -- What 7 to 9 leave: a refusal, or the rows of the condition's tree in a buffer.
-use Rattle.std.specs.Prelude.{◌≡◌, Bool, List, [], ◌++◌, ℕ, suc, ◌*◌, length, drop}
+use Rattle.std.specs.Prelude.{◌≡◌, Bool, List, [], ◌++◌, ℕ, suc, ◌*◌, length, drop, Result, Ok, Err}
 use Rattle.tables.specs.declared.Refusal.TheVariants.{Grammar}
 use Rattle.tables.specs.declared.Check.{Check}
 use Rattle.tables.specs.declared.Check.TheVariants.{Sound, Refused}
 use Rattle.tables.specs.Operands.{Lent, lend_names, under}
 use Rattle.tables.specs.Tables.{token_check}
 use Rattle.tables.specs.Refusals.{place, first_of}
-use Rattle.parser.specs.declared.Parse.{Parse}
-use Rattle.parser.specs.declared.Parse.TheVariants.{Accepted, Refused as Unparsed}
 use Rattle.grammar.specs.Grammar.{Tree}
 use Rattle.grammar.specs.Parser.{Reading, accepted, read}
 use Rattle.grammar.specs.Judging.{simple_count}
@@ -23,9 +21,9 @@ pub record There (items literals tokens : List ℕ) : Type 0 where
   pub exist : token_check (under off (lend_names items literals [] names)) tokens ≡ Sound
 
 -- 7, of what was parsed
-abbrev pub parse_check : Parse → Check
-parse_check (Accepted n) = Sound
-parse_check (Unparsed at) = Refused (Grammar at)
+abbrev pub parse_check : Result ℕ ℕ → Check
+parse_check (Ok n) = Sound
+parse_check (Err at) = Refused (Grammar at)
 
 -- how many tokens 7 is looked for in: up to the "(" at which 8 refuses
 abbrev pub parsed_tokens : List ℕ → Check → ℕ

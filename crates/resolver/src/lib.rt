@@ -8,7 +8,6 @@ ghost use Rattle.rules.specs.Calls.{earlier};
 ghost use Rattle.resolver.specs.Resolved.{parse_check, parsed_tokens, There, Resolves};
 
 use brackets::check_depth;
-use parser::Parse;
 use parser::cycle::parse;
 use refusal_numbers::place_of;
 use row_typing::rows::check_typing;
@@ -22,12 +21,12 @@ pub enum Prepared {
 }
 
 // Of 7 and 8 the one at the smaller place, and 7 on a tie.
-fn earlier_of(parsed: Parse, depth: Check) -> Check
+fn earlier_of(parsed: Result<usize, usize>, depth: Check) -> Check
     ensures { result ≡ earlier (parse_check parsed) depth }
 {
     match parsed {
-        Parse::Accepted(_) => depth,
-        Parse::Refused(seven) => match depth {
+        Ok(_) => depth,
+        Err(seven) => match depth {
             Check::Sound => Check::Refused(Refusal::Grammar(seven)),
             Check::Refused(eight) => {
                 if seven <= place_of(eight) {
@@ -65,8 +64,8 @@ pub fn resolve(items: &[u32], literals: &[u32], tokens: &[u32], rows: &mut [u32]
         return Prepared::Refused(refusal);
     }
     match parsed {
-        Parse::Refused(at) => Prepared::Refused(Refusal::Grammar(at)),
-        Parse::Accepted(count) => {
+        Err(at) => Prepared::Refused(Refusal::Grammar(at)),
+        Ok(count) => {
             let typing = check_typing(items, literals, rows, count);
             match typing {
                 Check::Sound => Prepared::Rows(count),

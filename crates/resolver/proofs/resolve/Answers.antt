@@ -14,7 +14,7 @@ returns-in-Refused c =
 
 pub check_typing-typing-requires : goal.check_typing-typing-requires
 check_typing-typing-requires c =
-    let found = c.in-Accepted.is in
+    let found = c.in-Ok.is in
     let e = c in
     let t = e in
     shaped_rows _ _ _ _ _ _ t.check_depth-depth.ensures t.parsed_tokens-end.ensures.0 (rw found at e.parse-parsed.ensures)
@@ -24,7 +24,7 @@ check_typing-typing-requires c =
 pub returns-in-Sound : goal.returns-in-Sound
 returns-in-Sound c =
     let p = c in
-    let found = p.in-Accepted.is in
+    let found = p.in-Ok.is in
     let e = p in
     let t = e in
     resolved _ _ _ _ _ _ t.check_depth-depth.ensures t.parsed_tokens-end.ensures.0 (rw found at e.parse-parsed.ensures)
@@ -34,7 +34,7 @@ returns-in-Sound c =
 pub returns-in-Refused-typing : goal.returns-in-Refused-typing
 returns-in-Refused-typing c =
     let p = c in
-    let found = p.in-Accepted.is in
+    let found = p.in-Ok.is in
     let e = p in
     let t = e in
     let start = t in

@@ -17,59 +17,59 @@ body-returns-then-peek-ne-OPEN t c =
 pub body-condition-inner-requires : goal.body-condition-inner-requires
 body-condition-inner-requires t c = omega (arith, inside _ _ c.peek.ensures (omega arith))
 
-pub body-returns-in-Stuck : goal.body-returns-in-Stuck
-body-returns-in-Stuck t c = body_stuck _ _ _ c.peek.ensures c.if-peek-ne-OPEN.false c.in-Stuck.ensures
+pub body-returns-in_err-inner : goal.body-returns-in_err-inner
+body-returns-in_err-inner t c = body_stuck _ _ _ c.peek.ensures c.if-peek-ne-OPEN.false c.in_err-inner.ensures
 
-pub body-returns-then-peek-eq-CLOSE : goal.body-returns-then-peek-eq-CLOSE
-body-returns-then-peek-eq-CLOSE t c =
-    body_shut _ _ _ c.peek.ensures c.if-peek-ne-OPEN.false c.in-Parsed.ensures c.peek-in-Parsed.ensures c.if-peek-eq-CLOSE.true
+pub body-returns : goal.body-returns
+body-returns t c =
+    body_shut _ _ _ c.peek.ensures c.if-peek-ne-OPEN.false c.in_ok-inner.ensures c.peek-2.ensures c.if-peek-ne-CLOSE.false
 
-pub body-returns-else-peek-eq-CLOSE : goal.body-returns-else-peek-eq-CLOSE
-body-returns-else-peek-eq-CLOSE t c =
-    body_not_shut _ _ _ c.peek.ensures c.if-peek-ne-OPEN.false c.in-Parsed.ensures c.peek-in-Parsed.ensures c.requires
-    c.if-peek-eq-CLOSE.false
+pub body-returns-then-peek-ne-CLOSE : goal.body-returns-then-peek-ne-CLOSE
+body-returns-then-peek-ne-CLOSE t c =
+    body_not_shut _ _ _ c.peek.ensures c.if-peek-ne-OPEN.false c.in_ok-inner.ensures c.peek-2.ensures c.requires
+    c.if-peek-ne-CLOSE.true
 
-pub chain-returns-in-Stuck : goal.chain-returns-in-Stuck
-chain-returns-in-Stuck t c = c.loop-place.invariant.whole _ _ (joins_stuck chains c.in-Stuck.ensures)
+pub chain-returns-in_err-part : goal.chain-returns-in_err-part
+chain-returns-in_err-part t c = c.loop-place.invariant.whole _ _ (joins_stuck chains c.in_err-part.ensures)
 
 pub chain-returns-then-peek-ne-AND : goal.chain-returns-then-peek-ne-AND
 chain-returns-then-peek-ne-AND t c =
-    c.loop-place.invariant.whole _ _ (joins_part chains c.in-Parsed.ensures c.peek.ensures c.if-peek-ne-AND.true)
+    c.loop-place.invariant.whole _ _ (joins_part chains c.in_ok-part.ensures c.peek.ensures c.if-peek-ne-AND.true)
 
 pub chain-loop-place-smaller : goal.chain-loop-place-smaller
 chain-loop-place-smaller t c =
     omega (
       arith,
       inside _ _ c.peek.ensures (omega (arith, c.if-peek-ne-AND.false)),
-      c.in-Parsed.ensures,
+      c.in_ok-part.ensures,
       c.loop-place.invariant,
     )
 
 pub chain-loop-place-preserved : goal.chain-loop-place-preserved
 chain-loop-place-preserved t c =
-    joins_on chains c.loop-place.invariant c.in-Parsed.ensures c.peek.ensures c.if-peek-ne-AND.false
+    joins_on chains c.loop-place.invariant c.in_ok-part.ensures c.peek.ensures c.if-peek-ne-AND.false
     (rw (c.later-rest.ensures, c.verdict-done.ensures) at c.retarget.ensures)
     (omega (arith, c.retarget.auto, c.term-part.auto))
 
-pub condition-returns-in-Stuck : goal.condition-returns-in-Stuck
-condition-returns-in-Stuck t c = c.loop-place.invariant.whole _ _ (joins_stuck conditions c.in-Stuck.ensures)
+pub condition-returns-in_err-part : goal.condition-returns-in_err-part
+condition-returns-in_err-part t c = c.loop-place.invariant.whole _ _ (joins_stuck conditions c.in_err-part.ensures)
 
 pub condition-returns-then-peek-ne-OR : goal.condition-returns-then-peek-ne-OR
 condition-returns-then-peek-ne-OR t c =
-    c.loop-place.invariant.whole _ _ (joins_part conditions c.in-Parsed.ensures c.peek.ensures c.if-peek-ne-OR.true)
+    c.loop-place.invariant.whole _ _ (joins_part conditions c.in_ok-part.ensures c.peek.ensures c.if-peek-ne-OR.true)
 
 pub condition-loop-place-smaller : goal.condition-loop-place-smaller
 condition-loop-place-smaller t c =
     omega (
       arith,
       inside _ _ c.peek.ensures (omega (arith, c.if-peek-ne-OR.false)),
-      c.in-Parsed.ensures,
+      c.in_ok-part.ensures,
       c.loop-place.invariant,
     )
 
 pub condition-loop-place-preserved : goal.condition-loop-place-preserved
 condition-loop-place-preserved t c =
-    joins_on conditions c.loop-place.invariant c.in-Parsed.ensures c.peek.ensures c.if-peek-ne-OR.false
+    joins_on conditions c.loop-place.invariant c.in_ok-part.ensures c.peek.ensures c.if-peek-ne-OR.false
     (rw (c.later-rest.ensures, c.verdict-done.ensures) at c.retarget.ensures)
     (omega (arith, c.retarget.auto, c.chain-part.auto))
 
@@ -122,13 +122,13 @@ term-returns-then-is_order-relation-2 t c =
 pub term-body-inner-requires : goal.term-body-inner-requires
 term-body-inner-requires t c = omega (arith, inside _ _ c.peek-here.ensures (omega (arith, c.if-here-ne-NOT.false)))
 
-pub term-returns-in-Stuck : goal.term-returns-in-Stuck
-term-returns-in-Stuck t c =
+pub term-returns-in_err-inner : goal.term-returns-in_err-inner
+term-returns-in_err-inner t c =
     term_not_stuck _ _ _ c.peek-here.ensures c.if-here-ne-NOT.false c.peek-after.ensures
-    (no_short _ _ _ _ (c.is_order-2.ensures ∙ order-within _) c.if-is_order-relation-2.false) c.in-Stuck.ensures
+    (no_short _ _ _ _ (c.is_order-2.ensures ∙ order-within _) c.if-is_order-relation-2.false) c.in_err-inner.ensures
 
-pub term-returns-in-Parsed : goal.term-returns-in-Parsed
-term-returns-in-Parsed t c =
+pub term-returns : goal.term-returns
+term-returns t c =
     term_not_row _ _ _ c.peek-here.ensures c.if-here-ne-NOT.false c.peek-after.ensures
-    (no_short _ _ _ _ (c.is_order-2.ensures ∙ order-within _) c.if-is_order-relation-2.false) c.requires c.in-Parsed.ensures
-    (rw (c.verdict.ensures, c.verdict-in-Parsed.ensures) at c.retarget.ensures)
+    (no_short _ _ _ _ (c.is_order-2.ensures ∙ order-within _) c.if-is_order-relation-2.false) c.requires c.in_ok-inner.ensures
+    (rw (c.verdict.ensures, c.verdict-2.ensures) at c.retarget.ensures)
