@@ -99,7 +99,7 @@ pub fn write_expanded(tokens: &[u32], out: &mut [u32]) -> usize
         subject: 0,
         relation: 0,
     };
-    // The step depends on what is read.
+    // The next place depends on what is read.
     while at < tokens.len() {
         let Ok(single) = read_part(tokens, at, carry) else {
             return written;

@@ -45,6 +45,7 @@ pub fn run_rows<'a>(
 {
     let mut target = Target::later(0);
     let mut count: usize = 0;
+    // The next row depends on what is judged.
     while target.number < Target::FALSE {
         let at = target.number as usize;
         let row = plan_row(plan, at);

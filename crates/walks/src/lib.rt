@@ -56,6 +56,7 @@ pub fn mark_reached<'a>(
     ensures { marks.new ≡ marked marks.old (footprint (lend_names items.now literals.now bytes.now names.now) (run_visits (outcome (lend_names items.now literals.now bytes.now names.now) «record».now switches) plan.now)) }
 {
     let mut at: usize = 0;
+    // The next row depends on what is judged.
     while at < Target::FALSE as usize {
         let row = plan_row(plan, at);
         mark_condition(names, row.subject, row.relation, row.object, marks);
