@@ -89,7 +89,7 @@ partly {level = level} {at = at} {tokens = tokens} {s = s} room h =
       since = h.fits.0;
       few = h.fits.1;
       most = omega (arith, h.fits, h.upto, room.short);
-      front = rows_front _ next _ _ _ h.fits.0 (row_room room) t.rows;
+      front = rows_front _ s.row _ _ _ h.fits.0 (row_room room) t.rows;
       rest = t.rest;
     }
 
