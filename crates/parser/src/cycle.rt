@@ -67,7 +67,13 @@ fn chain(
 
 // NOT before > < = belongs to the relation, where one is carried; any other NOT is logical.
 #[cycle(body_chain_condition_term)]
-fn term(tokens: &[u32], at: usize, carry: Carried, row: usize, rows: &mut [u32]) -> Result<Part, usize>
+fn term(
+    tokens: &[u32],
+    at: usize,
+    carry: Carried,
+    row: usize,
+    rows: &mut [u32],
+) -> Result<Part, usize>
     requires { Room tokens.now at row rows.old }
     ensures { Plans parse_term 1 tokens.now at carry row rows.old result rows.new }
 {
@@ -103,7 +109,13 @@ fn term(tokens: &[u32], at: usize, carry: Carried, row: usize, rows: &mut [u32])
 }
 
 #[cycle(body_chain_condition_term)]
-fn body(tokens: &[u32], at: usize, carry: Carried, row: usize, rows: &mut [u32]) -> Result<Part, usize>
+fn body(
+    tokens: &[u32],
+    at: usize,
+    carry: Carried,
+    row: usize,
+    rows: &mut [u32],
+) -> Result<Part, usize>
     requires { Room tokens.now at row rows.old }
     ensures { Plans parse_body 0 tokens.now at carry row rows.old result rows.new }
 {
@@ -126,11 +138,7 @@ fn body(tokens: &[u32], at: usize, carry: Carried, row: usize, rows: &mut [u32])
 }
 
 // The row of a simple condition that was read.
-fn put_single(
-    single: Result<Single, usize>,
-    row: usize,
-    rows: &mut [u32],
-) -> Result<Part, usize>
+fn put_single(single: Result<Single, usize>, row: usize, rows: &mut [u32]) -> Result<Part, usize>
     requires { Placeable single row × (640 ≤ length rows.old) }
     ensures { Placed single row rows.old result rows.new }
 {

@@ -42,7 +42,10 @@ pub fn mark_condition(names: &[u32], subject: u32, relation: u32, object: u32, m
     match test {
         Test::Alone => {
             if subject / SPAN == NAME {
-                mark(number_at(names, (subject % SPAN) as usize * NAME_WIDTH), marks);
+                mark(
+                    number_at(names, (subject % SPAN) as usize * NAME_WIDTH),
+                    marks,
+                );
             }
         }
         Test::Relation { word, negated } => {

@@ -1,6 +1,7 @@
 -- Tokens are passed one at a time.
-use mathlib.Core.Path.{sym, ◌∙◌}
+use mathlib.Core.Path.{◌≡◌, sym, ◌∙◌}
 use native.Mathlib.Omega.{arith}
+use lib.ListN.{length}
 use Rattle.positions.proofs.Stepping.{starts, passed, no_more}
 use Rattle.positions.proofs.numbering.condition_token.Goals as goal
 
@@ -15,4 +16,7 @@ loop-i-preserved c =
     rw c.left_after-left.ensures (passed c.args.tokens.now l.i l.left (omega arith) (sym c.starts_here.ensures ∙ c.if-starts_here.false)) ∙ l.invariant
 
 pub returns : goal.returns
-returns c = let l = c.loop-i in sym (no_more c.args.tokens.now l.i l.left (omega arith)) ∙ l.invariant
+returns c =
+    let l = c.loop-i in
+    let e : length c.args.tokens.now ≡ l.i = omega arith in
+    e ∙ sym (no_more c.args.tokens.now l.i l.left (omega arith)) ∙ l.invariant
