@@ -20,8 +20,7 @@ fn on_word(token: u32) -> u32
 fn leads_not(waits: bool, token: u32) -> bool
     ensures { result ≡ leads waits token }
 {
-    let off = token / SPAN == SWITCH_OFF;
-    if off {
+    if token / SPAN == SWITCH_OFF {
         return !waits;
     }
     waits
@@ -51,14 +50,11 @@ fn step_width(waits: bool, token: u32) -> usize
 pub fn converted_length(tokens: &[u32]) -> usize
     ensures { result ≡ length (converted_tokens tokens.now) }
 {
-    let mut at: usize = 0;
-    let mut count: usize = 0;
+    let mut count = 0;
     let mut waits = false;
-    while at < tokens.len() {
-        let token = tokens[at];
-        count += step_width(waits, token);
-        waits = token == NOT;
-        at += 1;
+    for token in tokens {
+        count += step_width(waits, *token);
+        waits = *token == NOT;
     }
     count + not_width(waits)
 }
@@ -96,14 +92,11 @@ pub fn write_converted(tokens: &[u32], out: &mut [u32]) -> usize
     ensures value { result ≡ length (converted_tokens tokens.now) }
     ensures out_after { out.new ≡ converted_tokens tokens.now ++ drop result out.old }
 {
-    let mut at: usize = 0;
-    let mut written: usize = 0;
+    let mut written = 0;
     let mut waits = false;
-    while at < tokens.len() {
-        let token = tokens[at];
-        written += write_step(&mut out[written..], waits, token);
-        waits = token == NOT;
-        at += 1;
+    for token in tokens {
+        written += write_step(&mut out[written..], waits, *token);
+        waits = *token == NOT;
     }
     written + write_not(&mut out[written..], waits)
 }

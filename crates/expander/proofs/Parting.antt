@@ -9,7 +9,7 @@ use borrow.Author.Tests.{eqb-true, eqb-false, eq-eqb, ne_eqb}
 use lib.ListN.{drop}
 use lib.Dec.{eqb}
 use Rattle.simples.specs.declared.Carried.{Carried}
-use Rattle.simples.specs.declared.Single.TheVariants.{Row}
+use Rattle.std.proofs.Common.{Ok}
 use Rattle.grammar.specs.Grammar.{Class, opening, closing, not, and, or, other, Is, Carry, nothing, simple}
 use Rattle.grammar.specs.Parser.{parsed, object, short_ordered, parse_simple}
 use Rattle.simples.specs.Reads.{tok, carry_of, Reads}
@@ -37,17 +37,17 @@ neither x a b h =
 module _ (tokens : List ℕ) (at : ℕ) {x : ℕ} (e : x ≡ tok tokens at) (c : Carried) where
   -- a word that stays
   stays : {k : Class} {d : Carried} (kept : Carry) → Is k x → Differ k other → carry_of d ≡ kept →
-      part (carry_of c) (drop at tokens) ≡ parsed (simple x 0 0) kept (drop (at + 1) tokens) → Reads (part (carry_of c)) 1 tokens at (Row x 0 0 (at + 1) d)
+      part (carry_of c) (drop at tokens) ≡ parsed (simple x 0 0) kept (drop (at + 1) tokens) → Reads (part (carry_of c)) 1 tokens at (Ok (record { subject = x; relation = 0; object = 0; next = at + 1; carry = d }))
   stays kept i s g q = reads_row (part (carry_of c)) 1 tokens at kept q g (omega arith) (omega (arith, stands tokens at e i s))
 
-  pub reads_bracket : (eqb x 262144 || eqb x 262145) ≡ true → Reads (part (carry_of c)) 1 tokens at (Row x 0 0 (at + 1) (record { subject = 0; relation = 0 }))
+  pub reads_bracket : (eqb x 262144 || eqb x 262145) ≡ true → Reads (part (carry_of c)) 1 tokens at (Ok (record { subject = x; relation = 0; object = 0; next = at + 1; carry = record { subject = 0; relation = 0 } }))
   reads_bracket h =
       elim (ℕ_discrete x 262144) [
         | yes g ↦ let i = is_opening x g in stays nothing i tt (carries_none _ refl) (simp (look tokens at e i tt))
         | no g ↦ let i = is_closing x (second x 262144 262145 h g) in stays nothing i tt (carries_none _ refl) (simp (look tokens at e i tt))
       ]
 
-  pub reads_joint : (eqb x 262147 || eqb x 262148) ≡ true → Reads (part (carry_of c)) 1 tokens at (Row x 0 0 (at + 1) c)
+  pub reads_joint : (eqb x 262147 || eqb x 262148) ≡ true → Reads (part (carry_of c)) 1 tokens at (Ok (record { subject = x; relation = 0; object = 0; next = at + 1; carry = c }))
   reads_joint h =
       elim (ℕ_discrete x 262147) [
         | yes g ↦ let i = is_and x g in stays (carry_of c) i tt refl (simp (look tokens at e i tt))
@@ -56,7 +56,7 @@ module _ (tokens : List ℕ) (at : ℕ) {x : ℕ} (e : x ≡ tok tokens at) (c :
 
   -- NOT, by the token after it
   module _ {y : ℕ} (f : y ≡ tok tokens (at + 1)) (g : x ≡ 262146) where
-    pub reads_logical : ((c.relation ≡ 0 → ⊥) → 262149 ≤ y → 262151 < y) → Reads (part (carry_of c)) 1 tokens at (Row x 0 0 (at + 1) c)
+    pub reads_logical : ((c.relation ≡ 0 → ⊥) → 262149 ≤ y → 262151 < y) → Reads (part (carry_of c)) 1 tokens at (Ok (record { subject = x; relation = 0; object = 0; next = at + 1; carry = c }))
     reads_logical far =
         let i = is_not x g in
         stays (carry_of c) i tt refl (simp (look tokens at e i tt) (at_no_short tokens (at + 1) f c (λ n. n + 32) _ far))

@@ -6,10 +6,10 @@ use native.Mathlib.Omega.{arith}
 use lib.ListN.{length, drop, length-append, drop_of_length-le}
 use Rattle.simples.specs.declared.Carried.{Carried}
 use Rattle.simples.specs.declared.Single.{Single}
-use Rattle.simples.specs.declared.Single.TheVariants.{Row, Stuck}
+use Rattle.std.proofs.Common.{Result, Ok, Err}
 use Rattle.grammar.specs.Grammar.{Class, operand, switch, opening, closing, not, and, or, order, bound, test, name, Class-discrete, class, Is}
 use Rattle.grammar.specs.Grammar.{Carry, nothing, carried, simple}
-use Rattle.grammar.specs.Parser.{Result, parsed, stuck, Parser, on, object, alone, short_bounded, short_ordered, parse_simple}
+use Rattle.grammar.specs.Parser.{Result as Parsing, parsed, stuck, Parser, on, object, alone, short_bounded, short_ordered, parse_simple}
 use Rattle.simples.specs.Reads.{carry_of, Found, Reads}
 use Rattle.grammar.specs.Expanded.{full_form, expanded}
 use Rattle.expander.specs.Spelled.{part, parts_spelled, spelled}
@@ -23,7 +23,7 @@ abbrev Low : Carry → Type 0
 Low nothing = Unit {0}
 Low (carried a m) = m < 64
 
-data Low-result : Result → Type 0 where
+data Low-result : Parsing → Type 0 where
   low : {a n b : ℕ} {c : Carry} {rest : List ℕ} → n < 64 → Low c → Low-result (parsed (simple a n b) c rest)
   none : {rest : List ℕ} → Low-result (stuck rest)
 
@@ -35,7 +35,7 @@ unfolding on
 lows_on k hp hq [] = hq []
 lows_on k {p} {q} hp hq (x ∷ ts) = go (Class-discrete (class x) k)
   where
-    go : (d : Dec (class x ≡ k)) → Low-result (elim d as (λ _. Result) [ yes _ ↦ p x ts | no _ ↦ q (x ∷ ts) ])
+    go : (d : Dec (class x ≡ k)) → Low-result (elim d as (λ _. Parsing) [ yes _ ↦ p x ts | no _ ↦ q (x ∷ ts) ])
     go (yes e) = hp x (record { is = e }) ts
     go (no n) = hq (x ∷ ts)
 
@@ -77,7 +77,7 @@ lows_part c l =
     (lows_on not (λ x i. lows_ordered c (λ n. n + 32) (λ n h. omega arith) (λ ts. low (omega arith) l))
     (lows_ordered c (λ n. n) (λ n h. omega arith) (lows_simple c l))))))
 
-low_row : {a n b : ℕ} {c : Carry} {rest : List ℕ} {r : Result} → r ≡ parsed (simple a n b) c rest → Low-result r → (n < 64) × Low c
+low_row : {a n b : ℕ} {c : Carry} {rest : List ℕ} {r : Parsing} → r ≡ parsed (simple a n b) c rest → Low-result r → (n < 64) × Low c
 low_row {a} {n} {b} {c} {rest} e h = go (rw e at h)
   where
     go : Low-result (parsed (simple a n b) c rest) → (n < 64) × Low c
@@ -114,40 +114,44 @@ module _ {tokens w : List ℕ} {at count : ℕ} {carry : Carried} (p : Progress 
   pub ended : length tokens ≤ at → spelled tokens ≡ w
   ended l = rw (p.says, drop_of_length-le tokens l, none_left, append-nil)
 
-  pub halted : {r : Single} {place : ℕ} → Reads (part (carry_of carry)) 1 tokens at r → r ≡ Stuck place → spelled tokens ≡ w
+  pub halted : (r : Result Single ℕ) → Reads (part (carry_of carry)) 1 tokens at r → ((s : Single) → r ≡ Ok s → ⊥) → spelled tokens ≡ w
   unfolding parts_spelled
-  halted {place = place} h e = go p.parts p.says
+  halted (Ok s) h n = absurd (n s refl)
+  halted (Err place) h n = go p.parts p.says
     where
       go : (parts : ℕ) → spelled tokens ≡ w ++ parts_spelled parts (carry_of carry) (drop at tokens) → spelled tokens ≡ w
       go zero q = rw append-nil at q
       go (suc parts) q =
-          let g : part (carry_of carry) (drop at tokens) ≡ stuck (drop place tokens) = rw e at h.found in
+          let g : part (carry_of carry) (drop at tokens) ≡ stuck (drop place tokens) = h.found in
           rw (g, append-nil) at q
 
-  pub further : {r : Single} {a n b next : ℕ} {c : Carried} → at < length tokens → Reads (part (carry_of carry)) 1 tokens at r →
-      r ≡ Row a n b next c →
-      Progress tokens (w ++ full_form a n b) next (count + length (full_form a n b)) c × (n < 64) × (at < next)
+  pub further : {r : Result Single ℕ} {s : Single} → at < length tokens → Reads (part (carry_of carry)) 1 tokens at r → r ≡ Ok s →
+      let form = full_form s.subject s.relation s.object in
+      Progress tokens (w ++ form) s.next (count + length form) s.carry × (s.relation < 64) × (at < s.next)
   unfolding parts_spelled expanded
-  further {a = a} {n = n} {b = b} {next = next} {c = c} l h e = go p.parts p.enough p.says
+  further {s = s} l h e = go p.parts p.enough p.says
     where
-      read : Reads (part (carry_of carry)) 1 tokens at (Row a n b next c)
+      form : List ℕ
+      form = full_form s.subject s.relation s.object
+
+      read : Reads (part (carry_of carry)) 1 tokens at (Ok s)
       read = rw e at h
 
       go : (parts : ℕ) → length tokens - at ≤ parts → spelled tokens ≡ w ++ parts_spelled parts (carry_of carry) (drop at tokens) →
-          Progress tokens (w ++ full_form a n b) next (count + length (full_form a n b)) c × (n < 64) × (at < next)
+          Progress tokens (w ++ form) s.next (count + length form) s.carry × (s.relation < 64) × (at < s.next)
       go zero k q = absurd (omega arith)
       go (suc parts) k q =
-          let g : part (carry_of carry) (drop at tokens) ≡ parsed (simple a n b) (carry_of c) (drop next tokens) = read.found in
+          let g : part (carry_of carry) (drop at tokens) ≡ parsed (simple s.subject s.relation s.object) (carry_of s.carry) (drop s.next tokens) = read.found in
           let (below, kept) = low_row g (lows_part (carry_of carry) p.small (drop at tokens)) in
-          let wide : length (full_form a n b) ≤ 4 = omega (arith, full_width a n b, stated_width n) in (
+          let wide : length form ≤ 4 = omega (arith, full_width s.subject s.relation s.object, stated_width s.relation) in (
             record {
               within = read.upto;
-              size = omega (arith, p.size, length-append w (full_form a n b));
+              size = omega (arith, p.size, length-append w form);
               short = omega (arith, p.short, read.from);
               small = kept;
               parts = parts;
               enough = omega (arith, read.from);
-              says = rw g at q ∙ sym (append_assoc w (full_form a n b) _);
+              says = rw g at q ∙ sym (append_assoc w form _);
             },
             below,
             omega (arith, read.from),

@@ -46,9 +46,9 @@ fn write_simple(out: &mut [u32], subject: u32, relation: u32, object: u32) -> us
 
 // A word that stays as it is: a token alone, with the carry that it leaves.
 fn copied(token: u32, next: usize, carry: Carried) -> Single
-    ensures { result ≡ Single.Row token 0 0 next carry }
+    ensures { result ≡ record { subject = token; relation = 0; object = 0; next = next; carry = carry } }
 {
-    Single::Row {
+    Single {
         subject: token,
         relation: 0,
         object: 0,
@@ -58,7 +58,7 @@ fn copied(token: u32, next: usize, carry: Carried) -> Single
 }
 
 // The next part. NOT before > < = belongs to the relation, where one is carried; any other NOT here is logical.
-fn read_part(tokens: &[u32], at: usize, carry: Carried) -> Single
+fn read_part(tokens: &[u32], at: usize, carry: Carried) -> Result<Single, usize>
     requires { at ≤ length tokens.now }
     ensures { Reads (part (carry_of carry)) 1 tokens.now at result }
 {
@@ -68,10 +68,10 @@ fn read_part(tokens: &[u32], at: usize, carry: Carried) -> Single
             subject: 0,
             relation: 0,
         };
-        return copied(here, at + 1, nothing);
+        return Ok(copied(here, at + 1, nothing));
     }
     if (here == AND) | (here == OR) {
-        return copied(here, at + 1, carry);
+        return Ok(copied(here, at + 1, carry));
     }
     let relation = carry.relation;
     if here == NOT {
@@ -79,7 +79,7 @@ fn read_part(tokens: &[u32], at: usize, carry: Carried) -> Single
         if is_order(after) & (relation != 0) {
             return read_object(tokens, at + 2, carry.subject, after - FIRST_WORD + NEGATED);
         }
-        return copied(here, at + 1, carry);
+        return Ok(copied(here, at + 1, carry));
     }
     if is_order(here) & (relation != 0) {
         return read_object(tokens, at + 1, carry.subject, here - FIRST_WORD);
@@ -99,22 +99,19 @@ pub fn write_expanded(tokens: &[u32], out: &mut [u32]) -> usize
         subject: 0,
         relation: 0,
     };
+    // The next place depends on what is read.
     while at < tokens.len() {
-        let single = read_part(tokens, at, carry);
-        match single {
-            Single::Stuck(_) => return written,
-            Single::Row {
-                subject,
-                relation,
-                object,
-                next,
-                carry: kept,
-            } => {
-                written += write_simple(&mut out[written..], subject, relation, object);
-                at = next;
-                carry = kept;
-            }
-        }
+        let Ok(single) = read_part(tokens, at, carry) else {
+            return written;
+        };
+        written += write_simple(
+            &mut out[written..],
+            single.subject,
+            single.relation,
+            single.object,
+        );
+        at = single.next;
+        carry = single.carry;
     }
     written
 }

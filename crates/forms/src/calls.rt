@@ -36,11 +36,7 @@ fn copy(numbers: &[u32], output: &mut [u32])
     requires { length numbers.now ≤ length output.old }
     ensures { output.new ≡ numbers.now ++ drop (length numbers.now) output.old }
 {
-    let mut i: usize = 0;
-    while i < numbers.len() {
-        output[i] = numbers[i];
-        i += 1;
-    }
+    output[..numbers.len()].copy_from_slice(numbers);
 }
 
 // The plan of a condition, five numbers for each simple condition, written from the start of the output.

@@ -2,7 +2,7 @@
 #![tactic(auto)]
 
 // A row of a plan: a simple condition, its target if true and its target if false.
-#[derive(Clone, Copy)]
+#[derive(Debug, Clone, Copy, PartialEq, Eq)]
 pub struct PlanRow {
     pub subject: u32,
     pub relation: u32,

@@ -5,7 +5,7 @@ ghost use Rattle.std.specs.Prelude.{◌≤◌, length};
 ghost use Rattle.grammar.specs.Parser.{parse_condition, parse_chain, parse_term, parse_body};
 ghost use Rattle.parser.specs.Parses.{Room, Plans, Placeable, Placed, Parses};
 
-use crate::{Answer, Parse};
+use crate::Part;
 use content::relations::NEGATED;
 use plans::Target;
 use plans::rows::{put_row, retarget};
@@ -22,28 +22,21 @@ fn condition(
     mut carry: Carried,
     mut row: usize,
     rows: &mut [u32],
-) -> Answer
+) -> Result<Part, usize>
     requires { Room tokens.now at row rows.old }
     ensures { Plans parse_condition 3 tokens.now at carry row rows.old result rows.new }
 {
     loop {
-        let part = chain(tokens, at, carry, row, rows);
-        match part {
-            Answer::Stuck(place) => {
-                return Answer::Stuck(place);
-            }
-            Answer::Parsed(place, kept, next) => {
-                if peek(tokens, place) != OR {
-                    return Answer::Parsed(place, kept, next);
-                }
-                let rest = Target::later(next);
-                let done = Target::verdict(true);
-                retarget(rows, row, next, done, rest);
-                at = place + 1;
-                carry = kept;
-                row = next;
-            }
+        let part = chain(tokens, at, carry, row, rows)?;
+        if peek(tokens, part.next) != OR {
+            return Ok(part);
         }
+        let rest = Target::later(part.row);
+        let done = Target::verdict(true);
+        retarget(rows, row, part.row, done, rest);
+        at = part.next + 1;
+        carry = part.carry;
+        row = part.row;
     }
 }
 
@@ -54,34 +47,33 @@ fn chain(
     mut carry: Carried,
     mut row: usize,
     rows: &mut [u32],
-) -> Answer
+) -> Result<Part, usize>
     requires { Room tokens.now at row rows.old }
     ensures { Plans parse_chain 2 tokens.now at carry row rows.old result rows.new }
 {
     loop {
-        let part = term(tokens, at, carry, row, rows);
-        match part {
-            Answer::Stuck(place) => {
-                return Answer::Stuck(place);
-            }
-            Answer::Parsed(place, kept, next) => {
-                if peek(tokens, place) != AND {
-                    return Answer::Parsed(place, kept, next);
-                }
-                let rest = Target::later(next);
-                let done = Target::verdict(false);
-                retarget(rows, row, next, rest, done);
-                at = place + 1;
-                carry = kept;
-                row = next;
-            }
+        let part = term(tokens, at, carry, row, rows)?;
+        if peek(tokens, part.next) != AND {
+            return Ok(part);
         }
+        let rest = Target::later(part.row);
+        let done = Target::verdict(false);
+        retarget(rows, row, part.row, rest, done);
+        at = part.next + 1;
+        carry = part.carry;
+        row = part.row;
     }
 }
 
 // NOT before > < = belongs to the relation, where one is carried; any other NOT is logical.
 #[cycle(body_chain_condition_term)]
-fn term(tokens: &[u32], at: usize, carry: Carried, row: usize, rows: &mut [u32]) -> Answer
+fn term(
+    tokens: &[u32],
+    at: usize,
+    carry: Carried,
+    row: usize,
+    rows: &mut [u32],
+) -> Result<Part, usize>
     requires { Room tokens.now at row rows.old }
     ensures { Plans parse_term 1 tokens.now at carry row rows.old result rows.new }
 {
@@ -105,24 +97,25 @@ fn term(tokens: &[u32], at: usize, carry: Carried, row: usize, rows: &mut [u32])
             rows,
         );
     }
-    let inner = body(tokens, at + 1, carry, row, rows);
-    match inner {
-        Answer::Stuck(place) => Answer::Stuck(place),
-        Answer::Parsed(place, left, next) => {
-            retarget(
-                rows,
-                row,
-                next,
-                Target::verdict(false),
-                Target::verdict(true),
-            );
-            Answer::Parsed(place, left, next)
-        }
-    }
+    let inner = body(tokens, at + 1, carry, row, rows)?;
+    retarget(
+        rows,
+        row,
+        inner.row,
+        Target::verdict(false),
+        Target::verdict(true),
+    );
+    Ok(inner)
 }
 
 #[cycle(body_chain_condition_term)]
-fn body(tokens: &[u32], at: usize, carry: Carried, row: usize, rows: &mut [u32]) -> Answer
+fn body(
+    tokens: &[u32],
+    at: usize,
+    carry: Carried,
+    row: usize,
+    rows: &mut [u32],
+) -> Result<Part, usize>
     requires { Room tokens.now at row rows.old }
     ensures { Plans parse_body 0 tokens.now at carry row rows.old result rows.new }
 {
@@ -133,41 +126,33 @@ fn body(tokens: &[u32], at: usize, carry: Carried, row: usize, rows: &mut [u32])
         subject: 0,
         relation: 0,
     };
-    let inner = condition(tokens, at + 1, nothing, row, rows);
-    match inner {
-        Answer::Stuck(place) => Answer::Stuck(place),
-        Answer::Parsed(place, _, next) => {
-            if peek(tokens, place) == CLOSE {
-                Answer::Parsed(place + 1, nothing, next)
-            } else {
-                Answer::Stuck(place)
-            }
-        }
+    let inner = condition(tokens, at + 1, nothing, row, rows)?;
+    if peek(tokens, inner.next) != CLOSE {
+        return Err(inner.next);
     }
+    Ok(Part {
+        next: inner.next + 1,
+        carry: nothing,
+        row: inner.row,
+    })
 }
 
 // The row of a simple condition that was read.
-fn put_single(single: Single, row: usize, rows: &mut [u32]) -> Answer
+fn put_single(single: Result<Single, usize>, row: usize, rows: &mut [u32]) -> Result<Part, usize>
     requires { Placeable single row × (640 ≤ length rows.old) }
     ensures { Placed single row rows.old result rows.new }
 {
-    match single {
-        Single::Stuck(place) => Answer::Stuck(place),
-        Single::Row {
-            subject,
-            relation,
-            object,
-            next,
-            carry,
-        } => {
-            put_row(rows, row, subject, relation, object);
-            Answer::Parsed(next, carry, row + 1)
-        }
-    }
+    let read = single?;
+    put_row(rows, row, read.subject, read.relation, read.object);
+    Ok(Part {
+        next: read.next,
+        carry: read.carry,
+        row: row + 1,
+    })
 }
 
-// The plan's rows of a whole sequence, from the start of the buffer, or refusal 7's place.
-pub fn parse(tokens: &[u32], rows: &mut [u32]) -> Parse
+// The plan's rows of a whole sequence, from the start of the buffer, and how many they are; or refusal 7's place.
+pub fn parse(tokens: &[u32], rows: &mut [u32]) -> Result<usize, usize>
     requires { (length tokens.now ≤ 256) × (640 ≤ length rows.old) }
     ensures { Parses tokens.now result rows.old rows.new }
 {
@@ -175,15 +160,9 @@ pub fn parse(tokens: &[u32], rows: &mut [u32]) -> Parse
         subject: 0,
         relation: 0,
     };
-    let whole = condition(tokens, 0, nothing, 0, rows);
-    match whole {
-        Answer::Stuck(place) => Parse::Refused(place),
-        Answer::Parsed(place, _, count) => {
-            if place == tokens.len() {
-                Parse::Accepted(count)
-            } else {
-                Parse::Refused(place)
-            }
-        }
+    let whole = condition(tokens, 0, nothing, 0, rows)?;
+    if whole.next != tokens.len() {
+        return Err(whole.next);
     }
+    Ok(whole.row)
 }

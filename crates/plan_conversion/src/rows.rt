@@ -40,12 +40,8 @@ pub fn write_plan(plan: &[u32], out: &mut [u32])
     requires { length (converted_plan plan.now) ≤ length out.old }
     ensures { out.new ≡ converted_plan plan.now ++ drop (length (converted_plan plan.now)) out.old }
 {
-    let rows = plan.len() / 5;
-    let mut k: usize = 0;
-    while k < rows {
+    for k in 0..plan.len() / 5 {
         let row = on_row(plan_row(plan, k));
-        let at = k * 5;
-        write_row(&mut out[at..], row);
-        k += 1;
+        write_row(&mut out[k * 5..], row);
     }
 }

@@ -35,14 +35,10 @@ pub fn retarget(rows: &mut [u32], from: usize, end: usize, holds: Target, fails:
     requires { (from ≤ end) × (end * 5 ≤ length rows.old) }
     ensures { Turned holds.number fails.number end rows.new rows.old from }
 {
-    let mut i = from;
-    while i < end {
+    for i in from..end {
         let t = i * 5 + 3;
-        let x = rows[t];
-        rows[t] = aimed(x, holds, fails);
+        rows[t] = aimed(rows[t], holds, fails);
         let f = i * 5 + 4;
-        let y = rows[f];
-        rows[f] = aimed(y, holds, fails);
-        i += 1;
+        rows[f] = aimed(rows[f], holds, fails);
     }
 }

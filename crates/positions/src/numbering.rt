@@ -46,14 +46,11 @@ pub(crate) fn condition_token(tokens: &[u32], k: usize) -> usize
     ensures { result ≡ condition_token k tokens.now }
 {
     let mut left = k;
-    let mut i: usize = 0;
-    while i < tokens.len() {
-        let token = tokens[i];
-        if starts_here(left, token) {
+    for (i, token) in tokens.iter().enumerate() {
+        if starts_here(left, *token) {
             return i;
         }
-        left = left_after(left, token);
-        i += 1;
+        left = left_after(left, *token);
     }
-    i
+    tokens.len()
 }

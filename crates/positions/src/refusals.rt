@@ -19,9 +19,10 @@ pub fn refusal_place(
     requires { Listed items places.now }
     ensures { result ≡ refusal_place (known_at description.now items places.now) text.now tokens.now number place }
 {
-    if number == 9 {
-        let token = condition_token(tokens, place);
-        return token_place(description, places, items, text, token);
-    }
-    token_place(description, places, items, text, place)
+    let token = if number == 9 {
+        condition_token(tokens, place)
+    } else {
+        place
+    };
+    token_place(description, places, items, text, token)
 }

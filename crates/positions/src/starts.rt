@@ -12,13 +12,11 @@ use text_bytes::bytes::is_blank;
 fn text_end(text: &[u8]) -> usize
     ensures { result ≡ text_end text.now }
 {
-    let mut end: usize = 0;
-    let mut i: usize = 0;
-    while i < text.len() {
-        if !is_blank(text[i]) {
+    let mut end = 0;
+    for (i, byte) in text.iter().enumerate() {
+        if !is_blank(*byte) {
             end = i + 1;
         }
-        i += 1;
     }
     end
 }

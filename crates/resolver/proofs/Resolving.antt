@@ -13,8 +13,7 @@ use Rattle.tables.specs.declared.Refusal.TheVariants.{Grammar}
 use Rattle.tables.specs.Operands.{Lent, lend, lend_names, under}
 use Rattle.tables.specs.Refusals.{place, first_of, Check}
 use Rattle.tables.proofs.Lines.{line_sound, line_refused, line_last}
-use Rattle.parser.specs.declared.Parse.{Parse}
-use Rattle.parser.specs.declared.Parse.TheVariants.{Accepted}
+use Rattle.std.proofs.Common.{Result}
 use Rattle.grammar.specs.Parser.{Reading, accepted, refused, read}
 use Rattle.grammar.specs.Depth.{depth_check}
 use Rattle.grammar.specs.Judging.{simple_count}
@@ -46,7 +45,7 @@ seven r before after (accepted t) w = ap parse_check w.0
 seven r before after (refused at) w = ap parse_check w.0
 
 -- the rows of an accepted sequence
-lies : (count : ℕ) (before after : List ℕ) (reading : Reading) → Whole (Accepted count) before after reading → RowsStand reading count before after
+lies : (count : ℕ) (before after : List ℕ) (reading : Reading) → Whole (Ok count) before after reading → RowsStand reading count before after
 unfolding Whole
 lies count before after (accepted t) w =
     let e : count ≡ simple_count t = cc w.0 in
@@ -78,7 +77,7 @@ parsed_enough tokens (Ok _) d = rw (take_all (length tokens) tokens (omega arith
 parsed_enough tokens (Err eight) d = deep_enough tokens eight (sym d)
 
 -- 7 to 9, of a sequence of which 1 to 6 refuse nothing
-module _ (lent : Lent) (tokens before after : List ℕ) (parsed : Parse) {depth : Check} {end : ℕ} (d : depth ≡ depth_check tokens)
+module _ (lent : Lent) (tokens before after : List ℕ) (parsed : Result ℕ ℕ) {depth : Check} {end : ℕ} (d : depth ≡ depth_check tokens)
     (n : end ≡ parsed_tokens tokens depth) (parses : Parses (take end tokens) parsed before after) where
   -- the line of 7 and 8, as the code has tried it
   first-line : {r : Check} → r ≡ earlier (parse_check parsed) depth → earlier (grammar_check (read tokens)) (depth_check tokens) ≡ r
@@ -103,18 +102,18 @@ unparsed_refused (Err eight) r at e f = pick (leb at (place eight)) (sym e ∙ f
     pick false k = let z : ◌≡◌ {A = ℕ} 0 1 = cc in omega arith
 
 -- where neither 7 nor 8 refuses, all tokens are parsed
-all_parsed : (tokens before after : List ℕ) (p : Parse) (depth : Check) → depth ≡ Ok tt → Parses (take (parsed_tokens tokens depth) tokens) p before after →
+all_parsed : (tokens before after : List ℕ) (p : Result ℕ ℕ) (depth : Check) → depth ≡ Ok tt → Parses (take (parsed_tokens tokens depth) tokens) p before after →
     Parses tokens p before after
 all_parsed tokens before after p depth e h = rw (e, take_all (length tokens) tokens (omega arith)) at h
 
 module _ (items literals tokens before after : List ℕ) (count : ℕ) {depth : Check} {end : ℕ} (d : depth ≡ depth_check tokens)
-    (n : end ≡ parsed_tokens tokens depth) (parsed : Parses (take end tokens) (Accepted count) before after) {r : Check}
-    (e : r ≡ earlier (parse_check (Accepted count)) depth) (f : r ≡ Ok tt) (there : There items literals tokens) where
+    (n : end ≡ parsed_tokens tokens depth) (parsed : Parses (take end tokens) (Ok count) before after) {r : Check}
+    (e : r ≡ earlier (parse_check (Ok count)) depth) (f : r ≡ Ok tt) (there : There items literals tokens) where
   abbrev lent : Lent
   lent = lend items literals []
 
-  parses : Parses tokens (Accepted count) before after
-  parses = all_parsed tokens before after (Accepted count) depth (sym e ∙ f) (rw n at parsed)
+  parses : Parses tokens (Ok count) before after
+  parses = all_parsed tokens before after (Ok count) depth (sym e ∙ f) (rw n at parsed)
 
   -- 9 is tried of the rows in the buffer
   typing_of : (reading : Reading) → RowsStand reading count before after → typing_check lent reading ≡ typed_rows lent after count
@@ -133,14 +132,14 @@ module _ (items literals tokens before after : List ℕ) (count : ℕ) {depth : 
 
   last_line : {typing : Check} → typing ≡ typed_rows lent after count → first_of (grammar_lines lent tokens) ≡ typing
   last_line g =
-      line_sound _ (first-line lent tokens before after (Accepted count) d n parsed e ∙ f)
+      line_sound _ (first-line lent tokens before after (Ok count) d n parsed e ∙ f)
       ∙ line_last _
       ∙ typing_of (read tokens) (lies count before after (read tokens) parses)
       ∙ sym g
 
   pub typing_refused : length tokens ≤ 256 → {typing : Check} → typing ≡ typed_rows lent after count → {refusal : Refusal} → typing ≡ Err refusal →
       Resolves lent tokens (Err refusal) before after
-  typing_refused l g h = record { readied = (last_line g ∙ h, spared tokens (Accepted count) before after l parses) }
+  typing_refused l g h = record { readied = (last_line g ∙ h, spared tokens (Ok count) before after l parses) }
 
   pub resolved : {typing : Check} → typing ≡ typed_rows lent after count → typing ≡ Ok tt → Resolves lent tokens (Ok count) before after
   resolved g h = record { readied = (last_line g ∙ h, lies count before after (read tokens) parses) }

@@ -5,8 +5,6 @@ use Rattle.tables.specs.declared.Refusal.TheVariants.{Grammar}
 use Rattle.tables.specs.Operands.{Lent, lend_names, under}
 use Rattle.tables.specs.Tables.{token_check}
 use Rattle.tables.specs.Refusals.{place, first_of, Check}
-use Rattle.parser.specs.declared.Parse.{Parse}
-use Rattle.parser.specs.declared.Parse.TheVariants.{Accepted, Refused as Unparsed}
 use Rattle.grammar.specs.Grammar.{Tree}
 use Rattle.grammar.specs.Parser.{Reading, accepted, read}
 use Rattle.grammar.specs.Judging.{simple_count}
@@ -20,9 +18,9 @@ pub record There (items literals tokens : List ℕ) : Type 0 where
   pub exist : token_check (under off (lend_names items literals [] names)) tokens ≡ Ok tt
 
 -- 7, of what was parsed
-abbrev pub parse_check : Parse → Check
-parse_check (Accepted n) = Ok tt
-parse_check (Unparsed at) = Err (Grammar at)
+abbrev pub parse_check : Result ℕ ℕ → Check
+parse_check (Ok n) = Ok tt
+parse_check (Err at) = Err (Grammar at)
 
 -- how many tokens 7 is looked for in: up to the "(" at which 8 refuses
 abbrev pub parsed_tokens : List ℕ → Check → ℕ

@@ -8,19 +8,18 @@ ghost use Rattle.rules.specs.Calls.{earlier};
 ghost use Rattle.resolver.specs.Resolved.{parse_check, parsed_tokens, There, Resolves};
 
 use brackets::check_depth;
-use parser::Parse;
 use parser::cycle::parse;
 use refusal_numbers::place_of;
 use row_typing::rows::check_typing;
 use tables::Refusal;
 
 // Of 7 and 8 the one at the smaller place, and 7 on a tie.
-fn earlier_of(parsed: Parse, depth: Result<(), Refusal>) -> Result<(), Refusal>
+fn earlier_of(parsed: Result<usize, usize>, depth: Result<(), Refusal>) -> Result<(), Refusal>
     ensures { result ≡ earlier (parse_check parsed) depth }
 {
     match parsed {
-        Parse::Accepted(_) => depth,
-        Parse::Refused(seven) => match depth {
+        Ok(_) => depth,
+        Err(seven) => match depth {
             Ok(()) => Err(Refusal::Grammar(seven)),
             Err(eight) => {
                 if seven <= place_of(eight) {
@@ -60,8 +59,8 @@ pub fn resolve(
     let parsed = parse(&tokens[..end], rows);
     earlier_of(parsed, depth)?;
     match parsed {
-        Parse::Refused(at) => Err(Refusal::Grammar(at)),
-        Parse::Accepted(count) => {
+        Err(at) => Err(Refusal::Grammar(at)),
+        Ok(count) => {
             check_typing(items, literals, rows, count)?;
             Ok(count)
         }

@@ -14,12 +14,6 @@ use plans::Target;
 use tables::{Judged, Outcome, Refusal, Stop, Verdict};
 use truth::conditions::truth_of;
 
-fn wide(x: u32) -> usize
-    ensures { result ≡ x }
-{
-    x as usize
-}
-
 // The refusal of a row that stops.
 fn refusal_of(row: usize, stop: Stop) -> Refusal
     ensures { result ≡ stopped row stop }
@@ -51,8 +45,9 @@ pub fn run_rows<'a>(
 {
     let mut target = Target::later(0);
     let mut count: usize = 0;
+    // The next row depends on what is judged.
     while target.number < Target::FALSE {
-        let at = wide(target.number);
+        let at = target.number as usize;
         let row = plan_row(plan, at);
         let found = truth_of(
             items,
@@ -65,7 +60,7 @@ pub fn run_rows<'a>(
             row.relation,
             row.object,
         );
-        count = count + 1;
+        count += 1;
         match found {
             Outcome::True => {
                 target = Target { number: row.holds };

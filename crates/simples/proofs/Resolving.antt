@@ -11,7 +11,7 @@ use lib.Dec.{eqb}
 use Rattle.typing.specs.Tests.{within}
 use Rattle.simples.specs.declared.Carried.{Carried}
 use Rattle.simples.specs.declared.Single.{Single}
-use Rattle.simples.specs.declared.Single.TheVariants.{Row, Stuck}
+use Rattle.std.proofs.Common.{Result, Ok, Err}
 use Rattle.grammar.specs.Grammar.{operand, switch, not, order, bound, test, name, Is, Carry, nothing, carried, simple}
 use Rattle.grammar.specs.Parser.{Parser, parsed, stuck, object, alone, short_bounded, short_ordered, after_operand, parse_simple}
 use Rattle.simples.specs.Reads.{tok, carry_of, Reads}
@@ -71,17 +71,17 @@ carries_none c e = rw (eq-eqb c.relation 0 e)
 -- A reader's answer, from what its parser comes to.
 module _ (q : Parser) (least : ℕ) (tokens : List ℕ) (at : ℕ) where
   pub reads_row : {a n b next : ℕ} {c : Carried} (d : Carry) → q (drop at tokens) ≡ parsed (simple a n b) d (drop next tokens) → carry_of c ≡ d →
-      least + at ≤ next → next ≤ length tokens → Reads q least tokens at (Row a n b next c)
+      least + at ≤ next → next ≤ length tokens → Reads q least tokens at (Ok (record { subject = a; relation = n; object = b; next = next; carry = c }))
   reads_row d e k l h = record { found = e ∙ rw k; from = omega arith; upto = omega arith }
 
-  pub reads_stuck : {place : ℕ} → q (drop at tokens) ≡ stuck (drop place tokens) → at ≤ place → place ≤ length tokens → Reads q least tokens at (Stuck place)
+  pub reads_stuck : {place : ℕ} → q (drop at tokens) ≡ stuck (drop place tokens) → at ≤ place → place ≤ length tokens → Reads q least tokens at (Err place)
   reads_stuck e l h = record { found = e; from = omega arith; upto = omega arith }
 
   -- the parser goes on as another from a later place
-  pub reads_on : (p : Parser) (most from : ℕ) (r : Single) → q (drop at tokens) ≡ p (drop from tokens) → least + at ≤ most + from → at ≤ from →
+  pub reads_on : (p : Parser) (most from : ℕ) (r : Result Single ℕ) → q (drop at tokens) ≡ p (drop from tokens) → least + at ≤ most + from → at ≤ from →
       Reads p most tokens from r → Reads q least tokens at r
-  reads_on p most from (Row a n b next c) e l h g = record { found = rw e g.found; from = omega arith; upto = omega arith }
-  reads_on p most from (Stuck place) e l h g = record { found = rw e g.found; from = omega arith; upto = omega arith }
+  reads_on p most from (Ok s) e l h g = record { found = rw e g.found; from = omega arith; upto = omega arith }
+  reads_on p most from (Err place) e l h g = record { found = rw e g.found; from = omega arith; upto = omega arith }
 
 module _ (tokens : List ℕ) (at : ℕ) {x : ℕ} (e : x ≡ tok tokens at) where
   -- the object of a relation

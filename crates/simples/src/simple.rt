@@ -10,29 +10,29 @@ use tables::tokens::FIRST_WORD;
 use tables::words::NOT;
 
 // The object of a relation that has been read: the full relation, or the one that is stated, is carried on.
-pub fn read_object(tokens: &[u32], at: usize, subject: u32, relation: u32) -> Single
+pub fn read_object(tokens: &[u32], at: usize, subject: u32, relation: u32) -> Result<Single, usize>
     requires { (at ≤ length tokens.now) × (0 < relation) }
     ensures reads { Reads (object subject relation) 1 tokens.now at result }
     ensures settled { Settled result }
 {
     let token = peek(tokens, at);
     if is_operand(token) {
-        return Single::Row {
+        return Ok(Single {
             subject,
             relation,
             object: token,
             next: at + 1,
             carry: Carried { subject, relation },
-        };
+        });
     }
-    Single::Stuck(at)
+    Err(at)
 }
 
 // A class or sign word, a switch or a condition-name has been read: it drops the carry.
 fn tested(subject: u32, relation: u32, next: usize) -> Single
-    ensures { result ≡ Single.Row subject relation 0 next (record { subject = 0; relation = 0 }) }
+    ensures { result ≡ record { subject = subject; relation = relation; object = 0; next = next; carry = record { subject = 0; relation = 0 } } }
 {
-    Single::Row {
+    Single {
         subject,
         relation,
         object: 0,
@@ -45,7 +45,7 @@ fn tested(subject: u32, relation: u32, next: usize) -> Single
 }
 
 // What follows an operand, which is a subject if a relation or a class or sign word follows, else an object.
-fn after_operand(tokens: &[u32], at: usize, carry: Carried, operand: u32) -> Single
+fn after_operand(tokens: &[u32], at: usize, carry: Carried, operand: u32) -> Result<Single, usize>
     requires { at ≤ length tokens.now }
     ensures reads { Reads (after_operand (carry_of carry) operand) 0 tokens.now at result }
     ensures settled { Settled result }
@@ -55,7 +55,7 @@ fn after_operand(tokens: &[u32], at: usize, carry: Carried, operand: u32) -> Sin
         return read_object(tokens, at + 1, operand, word - FIRST_WORD);
     }
     if is_test(word) {
-        return tested(operand, word - FIRST_WORD, at + 1);
+        return Ok(tested(operand, word - FIRST_WORD, at + 1));
     }
     if word == NOT {
         let stated = peek(tokens, at + 1);
@@ -63,25 +63,25 @@ fn after_operand(tokens: &[u32], at: usize, carry: Carried, operand: u32) -> Sin
             return read_object(tokens, at + 2, operand, stated - FIRST_WORD + NEGATED);
         }
         if is_test(stated) {
-            return tested(operand, stated - FIRST_WORD + NEGATED, at + 2);
+            return Ok(tested(operand, stated - FIRST_WORD + NEGATED, at + 2));
         }
-        return Single::Stuck(at + 1);
+        return Err(at + 1);
     }
     let relation = carry.relation;
     if relation == 0 {
-        return Single::Stuck(at);
+        return Err(at);
     }
-    Single::Row {
+    Ok(Single {
         subject: carry.subject,
         relation,
         object: operand,
         next: at,
         carry,
-    }
+    })
 }
 
 // A simple condition, but for one that begins with > < = or with NOT before these.
-pub fn read_simple(tokens: &[u32], at: usize, carry: Carried) -> Single
+pub fn read_simple(tokens: &[u32], at: usize, carry: Carried) -> Result<Single, usize>
     requires { at ≤ length tokens.now }
     ensures reads { Reads (parse_simple (carry_of carry)) 1 tokens.now at result }
     ensures settled { Settled result }
@@ -91,14 +91,14 @@ pub fn read_simple(tokens: &[u32], at: usize, carry: Carried) -> Single
         return after_operand(tokens, at + 1, carry, token);
     }
     if is_switch(token) {
-        return tested(token, 0, at + 1);
+        return Ok(tested(token, 0, at + 1));
     }
     if is_name(token) {
-        return tested(token, 0, at + 1);
+        return Ok(tested(token, 0, at + 1));
     }
     let relation = carry.relation;
     if is_bound(token) & (relation != 0) {
         return read_object(tokens, at + 1, carry.subject, token - FIRST_WORD);
     }
-    Single::Stuck(at)
+    Err(at)
 }

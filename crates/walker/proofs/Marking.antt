@@ -1,13 +1,17 @@
 -- Laws of marks, of a loop over the rows of a plan that sets them, and of one that follows a run.
 use mathlib.Core.Path.{◌≡◌, refl, sym, ap, ◌∙◌}
-use mathlib.Core.Bool.{Bool, true, false, cond}
+use mathlib.Core.Bool.{Bool, true, false, cond, not}
 use mathlib.Core.List.Memᴰ
 use mathlib.Core.List.{List, [], ◌∷◌, ◌++◌}
 use Prim.Native.Nat.{ℕ, zero, suc, ◌+◌, ◌-◌, ◌*◌, ◌<◌, ◌≤◌}
 use native.Mathlib.Omega.{arith}
 use native.Mathlib.Decide.{ℕ_discrete}
 use native.Mathlib.Nat.{add-zero}
-use lib.ListN.{length, get_or, set, drop, length-set}
+use lib.ListN.{length, get_or, set, take, drop, length-set}
+use lib.Dec.{eqb}
+use native.Mathlib.Numerals.{add-one}
+use Rattle.std.specs.List.{count_by}
+use Rattle.std.proofs.lemmas.List.Sums.{count_by_more_yes, count_by_more_no}
 use lib.Seq.{sets}
 use borrow.Author.Tests.{ne_eqb}
 use Rattle.tables.specs.declared.Outcome.{Outcome}
@@ -78,6 +82,18 @@ module _ (marks : List ℕ) (v : ℕ) where
 
   pub count_one : ¬ (get_or marks v 0 ≡ 0) → length (listed (marked_row marks) (v + 1)) ≡ length (listed (marked_row marks) v) + 1
   count_one n = let l = ap length (entry_one n) in omega (arith, count_more (marked_row marks) v)
+
+-- as many of the first marks are set as rows are listed
+pub count_marks : (marks : List ℕ) (n : ℕ) → n ≤ length marks → count_by (λ x. not (eqb x 0)) (take n marks) ≡ length (listed (marked_row marks) n)
+count_marks marks zero h = sym (ap length (listed_none (marked_row marks)))
+count_marks marks (suc n) h =
+    let before : count_by (λ x. not (eqb x 0)) (take n marks) ≡ length (listed (marked_row marks) n) = count_marks marks n (omega arith) in
+    let more : count_by (λ x. not (eqb x 0)) (take (n + 1) marks) ≡ length (listed (marked_row marks) (n + 1)) =
+    elim (ℕ_discrete (get_or marks n 0) 0) [
+      | yes e ↦ count_by_more_no _ marks n 0 (omega arith) (rw e) ∙ before ∙ sym (count_none marks n e)
+      | no e ↦ count_by_more_yes _ marks n 0 (omega arith) (rw (ne_eqb _ 0 e)) ∙ ap (λ k. k + 1) before ∙ sym (count_one marks n e)
+    ] in
+    rw add-one at more
 
 -- numbers that are given where the output has room for them
 module _ (numbers output : List ℕ) {needed : ℕ} (n : needed ≡ length numbers) {line : Check} (r : line ≡ room_by needed (length output)) where

@@ -16,12 +16,6 @@ use tables::tokens::{NAME, SPAN};
 use typing::Test;
 use typing::sides::test_of;
 
-fn wide(x: u32) -> usize
-    ensures { result ≡ x }
-{
-    x as usize
-}
-
 fn mark(row: usize, marks: &mut [u32])
     requires { row < length marks.old }
     ensures { marks.new ≡ set marks.old row 1 }
@@ -35,7 +29,7 @@ fn mark_operand(token: u32, marks: &mut [u32])
     ensures { marks.new ≡ marked marks.old (items_among (token ∷ [])) }
 {
     if is_item(token) {
-        mark(wide(token % SPAN), marks);
+        mark((token % SPAN) as usize, marks);
     }
 }
 
@@ -48,7 +42,10 @@ pub fn mark_condition(names: &[u32], subject: u32, relation: u32, object: u32, m
     match test {
         Test::Alone => {
             if subject / SPAN == NAME {
-                mark(number_at(names, wide(subject % SPAN) * NAME_WIDTH), marks);
+                mark(
+                    number_at(names, (subject % SPAN) as usize * NAME_WIDTH),
+                    marks,
+                );
             }
         }
         Test::Relation { word, negated } => {
@@ -66,15 +63,7 @@ fn count_marked(marks: &[u32], rows: usize) -> usize
     requires { rows ≤ length marks.now }
     ensures { result ≡ length (listed (marked_row marks.now) rows) }
 {
-    let mut count: usize = 0;
-    let mut v: usize = 0;
-    while v < rows {
-        if marks[v] != 0 {
-            count += 1;
-        }
-        v += 1;
-    }
-    count
+    marks[..rows].iter().filter(|mark| **mark != 0).count()
 }
 
 // Row v listed behind so many numbers, where it is marked; and how many there are then.
@@ -95,11 +84,9 @@ fn write_marked(marks: &[u32], rows: usize, list: &mut [u32])
     requires { (rows ≤ length marks.now) × (rows ≤ 64) × (length (listed (marked_row marks.now) rows) ≤ length list.old) }
     ensures { list.new ≡ listed (marked_row marks.now) rows ++ drop (length (listed (marked_row marks.now) rows)) list.old }
 {
-    let mut count: usize = 0;
-    let mut v: usize = 0;
-    while v < rows {
+    let mut count = 0;
+    for v in 0..rows {
         count = list_row(marks, v, list, count);
-        v += 1;
     }
 }
 

@@ -18,23 +18,14 @@ use tables::Outcome;
 use truth::conditions::truth_of;
 use walker::marks::mark_condition;
 
-fn wide(x: u32) -> usize
-    ensures { result ≡ x }
-{
-    x as usize
-}
-
 // Every row of a plan, whether a run would come to it or not.
 pub fn mark_named(names: &[u32], plan: &[u32], marks: &mut [u32])
     requires { AllMarkable names.now (length marks.old) plan.now }
     ensures { marks.new ≡ marked marks.old (listed (rows_at (lent_names names.now) plan.now) (plan_rows plan.now)) }
 {
-    let rows = plan.len() / 5;
-    let mut k: usize = 0;
-    while k < rows {
+    for k in 0..plan.len() / 5 {
         let row = plan_row(plan, k);
         mark_condition(names, row.subject, row.relation, row.object, marks);
-        k += 1;
     }
 }
 
@@ -43,9 +34,9 @@ fn next_row(row: PlanRow, found: Outcome) -> usize
     ensures { result ≡ next row found }
 {
     match found {
-        Outcome::True => wide(row.holds),
-        Outcome::False => wide(row.fails),
-        Outcome::Stopped(_) => wide(Target::FALSE),
+        Outcome::True => row.holds as usize,
+        Outcome::False => row.fails as usize,
+        Outcome::Stopped(_) => Target::FALSE as usize,
     }
 }
 
@@ -65,7 +56,8 @@ pub fn mark_reached<'a>(
     ensures { marks.new ≡ marked marks.old (footprint (lend_names items.now literals.now bytes.now names.now) (run_visits (outcome (lend_names items.now literals.now bytes.now names.now) «record».now switches) plan.now)) }
 {
     let mut at: usize = 0;
-    while at < wide(Target::FALSE) {
+    // The next row depends on what is judged.
+    while at < Target::FALSE as usize {
         let row = plan_row(plan, at);
         mark_condition(names, row.subject, row.relation, row.object, marks);
         let found = truth_of(

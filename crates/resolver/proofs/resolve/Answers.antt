@@ -14,22 +14,22 @@ returns-in_err-earlier_of c =
 
 pub check_typing-requires : goal.check_typing-requires
 check_typing-requires c =
-    let found = c.in-Accepted.is in
+    let found = c.in-Ok.is in
     shaped_rows _ _ _ _ _ _ c.check_depth-depth.ensures c.parsed_tokens-end.ensures.0 (rw found at c.parse-parsed.ensures)
     (rw found at c.earlier_of.ensures) c.in_ok-earlier_of.was
     c.requires.1
 
-pub returns-in_ok-check_typing-in-Accepted : goal.returns-in_ok-check_typing-in-Accepted
-returns-in_ok-check_typing-in-Accepted c =
-    let found = c.in-Accepted.is in
+pub returns-in_ok-check_typing-in-Ok : goal.returns-in_ok-check_typing-in-Ok
+returns-in_ok-check_typing-in-Ok c =
+    let found = c.in-Ok.is in
     resolved _ _ _ _ _ _ c.check_depth-depth.ensures c.parsed_tokens-end.ensures.0 (rw found at c.parse-parsed.ensures)
     (rw found at c.earlier_of.ensures) c.in_ok-earlier_of.was c.requires.1
-    c.check_typing.ensures c.in_ok-check_typing-in-Accepted.was
+    c.check_typing.ensures c.in_ok-check_typing-in-Ok.was
 
-pub returns-in_err-check_typing-in-Accepted : goal.returns-in_err-check_typing-in-Accepted
-returns-in_err-check_typing-in-Accepted c =
-    let e : c.from_residual-in_err-check_typing-in-Accepted.result ≡ Err c.in_err-check_typing-in-Accepted.field-0.0 = grind arith in
-    rw e (let found = c.in-Accepted.is in
+pub returns-in_err-check_typing-in-Ok : goal.returns-in_err-check_typing-in-Ok
+returns-in_err-check_typing-in-Ok c =
+    let e : c.from_residual-in_err-check_typing-in-Ok.result ≡ Err c.in_err-check_typing-in-Ok.field-0.0 = grind arith in
+    rw e (let found = c.in-Ok.is in
     typing_refused _ _ _ _ _ _ c.check_depth-depth.ensures c.parsed_tokens-end.ensures.0 (rw found at c.parse-parsed.ensures)
     (rw found at c.earlier_of.ensures) c.in_ok-earlier_of.was c.requires.1 c.requires.0
-    c.check_typing.ensures c.in_err-check_typing-in-Accepted.was)
+    c.check_typing.ensures c.in_err-check_typing-in-Ok.was)

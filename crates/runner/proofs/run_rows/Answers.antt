@@ -12,7 +12,7 @@ pub truth_of-found-requires : goal.truth_of-found-requires
 truth_of-found-requires c =
     let k = c in
     let p = k.requires in
-    rw (c.plan_row-row.ensures, c.wide-at.ensures) (readable _ _ _ p k.loop-target.target.number (k.loop-target.invariant.inside (omega arith)))
+    rw c.plan_row-row.ensures (readable _ _ _ p k.loop-target.target.number (k.loop-target.invariant.inside (omega arith)))
 
 pub overflow_add-count : goal.overflow_add-count
 overflow_add-count c =
@@ -24,15 +24,15 @@ loop-target-smaller-in-True c =
     let r = c in
     let k = r in
     let s = certain _ _ _ k.requires k.loop-target.target.number (k.loop-target.invariant.inside (omega arith)) in
-    rw (r.plan_row-row.ensures, r.wide-at.ensures) (omega (arith, s.holds.after))
+    rw r.plan_row-row.ensures (omega (arith, s.holds.after))
 
 pub loop-target-preserved-in-True : goal.loop-target-preserved-in-True
 loop-target-preserved-in-True c =
     let r = c in
     let k = r in
-    let found = rw (r.plan_row-row.ensures, r.wide-at.ensures) at c.truth_of-found.ensures in
+    let found = rw r.plan_row-row.ensures at c.truth_of-found.ensures in
     let p = k.requires in
-    rw (r.plan_row-row.ensures, r.wide-at.ensures) (goes_true _ _ _ p _ k.loop-target.target.number k.loop-target.count k.loop-target.invariant (omega arith)
+    rw r.plan_row-row.ensures (goes_true _ _ _ p _ k.loop-target.target.number k.loop-target.count k.loop-target.invariant (omega arith)
     (sym found ∙ c.in-True.is))
 
 pub loop-target-smaller : goal.loop-target-smaller
@@ -40,25 +40,25 @@ loop-target-smaller c =
     let r = c in
     let k = r in
     let s = certain _ _ _ k.requires k.loop-target.target.number (k.loop-target.invariant.inside (omega arith)) in
-    rw (r.plan_row-row.ensures, r.wide-at.ensures) (omega (arith, s.fails.after))
+    rw r.plan_row-row.ensures (omega (arith, s.fails.after))
 
 pub loop-target-preserved : goal.loop-target-preserved
 loop-target-preserved c =
     let r = c in
     let k = r in
-    let found = rw (r.plan_row-row.ensures, r.wide-at.ensures) at c.truth_of-found.ensures in
+    let found = rw r.plan_row-row.ensures at c.truth_of-found.ensures in
     let p = k.requires in
-    rw (r.plan_row-row.ensures, r.wide-at.ensures) (goes_false _ _ _ p _ k.loop-target.target.number k.loop-target.count k.loop-target.invariant (omega arith)
+    rw r.plan_row-row.ensures (goes_false _ _ _ p _ k.loop-target.target.number k.loop-target.count k.loop-target.invariant (omega arith)
     (sym found ∙ c.in-False.is))
 
 pub returns-in-Stopped : goal.returns-in-Stopped
 returns-in-Stopped c =
     let r = c in
     let k = r in
-    let found = rw (r.plan_row-row.ensures, r.wide-at.ensures) at c.truth_of-found.ensures in
+    let found = rw r.plan_row-row.ensures at c.truth_of-found.ensures in
     let p = k.requires in
     rw c.refusal_of.ensures
-    (rw (← r.wide-at.ensures) at (stops _ _ _ p _ k.loop-target.target.number k.loop-target.count k.loop-target.invariant (omega arith) (sym found ∙ c.in-Stopped.is)))
+    (stops _ _ _ p _ k.loop-target.target.number k.loop-target.count k.loop-target.invariant (omega arith) (sym found ∙ c.in-Stopped.is))
 
 pub returns-then-target-eq-TRUE : goal.returns-then-target-eq-TRUE
 returns-then-target-eq-TRUE c =

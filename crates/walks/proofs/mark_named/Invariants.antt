@@ -1,12 +1,8 @@
 -- The invariant: the rows passed are marked.
 use mathlib.Core.Path.{◌≡◌}
-use Prim.Native.Nat.{◌-◌, ◌≤◌}
 use Rattle.items.specs.Items.{listed}
 use Rattle.walker.specs.Marks.{marked, lent_names, rows_at}
 use Rattle.walks.proofs.mark_named.Given as goal
 
 abbrev pub invariant-loop-k : goal.invariant-loop-k
-invariant-loop-k l = (l.k ≤ l.rows) × (l.marks ≡ marked l.initial.marks (listed (rows_at (lent_names l.names) l.plan) l.k))
-
-abbrev pub decreases-loop-k : goal.decreases-loop-k
-decreases-loop-k l = l.rows - l.k
+invariant-loop-k l = l.marks ≡ marked l.initial.marks (listed (rows_at (lent_names l.names) l.plan) l.k)

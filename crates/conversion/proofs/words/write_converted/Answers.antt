@@ -10,29 +10,29 @@ use Rattle.conversion.specs.Steps.{step}
 use Rattle.conversion.proofs.Progress.{Progress, start, upto, further, ended}
 use Rattle.conversion.proofs.words.write_converted.Goals as goal
 
-pub loop-at-init : goal.loop-at-init
-loop-at-init c = ([], start _, front_none _)
+pub loop-token-init : goal.loop-token-init
+loop-token-init c = ([], start _, front_none _)
 
 pub write_step-written-requires : goal.write_step-written-requires
 write_step-written-requires c =
-    let next : (let l = c.loop-at in
-    let x = get_or c.args.tokens.now l.at 0 in
-    Progress c.args.tokens.now (l.invariant.0 ++ step l.waits x) (l.at + 1) (l.written + length (step l.waits x)) (eqb x 262146)) = (further c.loop-at.invariant.1 c.loop-at-test.true) in
-    let room : (let l = c.loop-at in
-    l.written + length (step l.waits (get_or c.args.tokens.now l.at 0)) ≤ length c.args.out.now) = (omega (arith, upto next, c.requires)) in
-    let l = c.loop-at in
+    let next : (let l = c.loop-token in
+    let x = get_or c.args.tokens.now l.token-index 0 in
+    Progress c.args.tokens.now (l.invariant.0 ++ step l.waits x) (l.token-index + 1) (l.written + length (step l.waits x)) (eqb x 262146)) = (further c.loop-token.invariant.1 (omega arith)) in
+    let room : (let l = c.loop-token in
+    l.written + length (step l.waits (get_or c.args.tokens.now l.token-index 0)) ≤ length c.args.out.now) = (omega (arith, upto next, c.requires)) in
+    let l = c.loop-token in
     rw (front_rest l.invariant.2) (omega (arith, room, length-drop l.written c.args.out.now))
 
-pub loop-at-preserved : goal.loop-at-preserved
-loop-at-preserved c =
-    let next : (let l = c.loop-at in
-    let x = get_or c.args.tokens.now l.at 0 in
-    Progress c.args.tokens.now (l.invariant.0 ++ step l.waits x) (l.at + 1) (l.written + length (step l.waits x)) (eqb x 262146)) = (further c.loop-at.invariant.1 c.loop-at-test.true) in
-    let room : (let l = c.loop-at in
-    l.written + length (step l.waits (get_or c.args.tokens.now l.at 0)) ≤ length c.args.out.now) = (omega (arith, upto next, c.requires)) in
-    let l = c.loop-at in
+pub loop-token-preserved : goal.loop-token-preserved
+loop-token-preserved c =
+    let next : (let l = c.loop-token in
+    let x = get_or c.args.tokens.now l.token-index 0 in
+    Progress c.args.tokens.now (l.invariant.0 ++ step l.waits x) (l.token-index + 1) (l.written + length (step l.waits x)) (eqb x 262146)) = (further c.loop-token.invariant.1 (omega arith)) in
+    let room : (let l = c.loop-token in
+    l.written + length (step l.waits (get_or c.args.tokens.now l.token-index 0)) ≤ length c.args.out.now) = (omega (arith, upto next, c.requires)) in
+    let l = c.loop-token in
     let w = l.invariant.0 in let p = l.invariant.1 in let f = l.invariant.2 in
-    let x = get_or c.args.tokens.now l.at 0 in
+    let x = get_or c.args.tokens.now l.token-index 0 in
     let s = c.write_step-written in
     let e = s.ensures.value in let g = s.ensures.out_after in
     let h = room in
@@ -40,24 +40,24 @@ loop-at-preserved c =
 
 pub write_not-requires : goal.write_not-requires
 write_not-requires c =
-    let last_room : (let l = c.loop-at in l.written + length (not_if l.waits) ≤ length c.args.out.now) = (let w = c.loop-at.invariant.0 in let p = c.loop-at.invariant.1 in let f = c.loop-at.invariant.2 in
-    let h = rw (ended p c.loop-at-test.false) at c.requires in
-    omega (arith, h, p.size, length-append w (not_if c.loop-at.waits))) in
-    let l = c.loop-at in
+    let last_room : (let l = c.loop-token in l.written + length (not_if l.waits) ≤ length c.args.out.now) = (let w = c.loop-token.invariant.0 in let p = c.loop-token.invariant.1 in let f = c.loop-token.invariant.2 in
+    let h = rw (ended p (omega arith)) at c.requires in
+    omega (arith, h, p.size, length-append w (not_if c.loop-token.waits))) in
+    let l = c.loop-token in
     rw (front_rest l.invariant.2) (omega (arith, last_room, length-drop l.written c.args.out.now))
 
 pub returns : goal.returns
 returns c =
-    let last_room : (let l = c.loop-at in l.written + length (not_if l.waits) ≤ length c.args.out.now) = (let w = c.loop-at.invariant.0 in let p = c.loop-at.invariant.1 in let f = c.loop-at.invariant.2 in
-    let h = rw (ended p c.loop-at-test.false) at c.requires in
-    omega (arith, h, p.size, length-append w (not_if c.loop-at.waits))) in
-    let l = c.loop-at in
+    let last_room : (let l = c.loop-token in l.written + length (not_if l.waits) ≤ length c.args.out.now) = (let w = c.loop-token.invariant.0 in let p = c.loop-token.invariant.1 in let f = c.loop-token.invariant.2 in
+    let h = rw (ended p (omega arith)) at c.requires in
+    omega (arith, h, p.size, length-append w (not_if c.loop-token.waits))) in
+    let l = c.loop-token in
     let w = l.invariant.0 in let p = l.invariant.1 in let f = l.invariant.2 in
     let s = c.write_not in
     let e = s.ensures.value in let g = s.ensures.out_after in
     let h = last_room in
     let whole = front_part f (not_if l.waits) s.new.out s.result e (omega arith) g in
-    rw (ended p c.loop-at-test.false) record {
+    rw (ended p (omega arith)) record {
       value = whole.size;
       out_after = whole.holds;
     }

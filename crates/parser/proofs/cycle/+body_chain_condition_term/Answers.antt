@@ -2,6 +2,7 @@
 use mathlib.Core.Path.{◌≡◌, ◌∙◌}
 use Prim.Native.Nat.{◌+◌}
 use native.Mathlib.Omega.{arith}
+use Rattle.std.proofs.lemmas.Result.{err_from_is_err_and}
 use Rattle.simples.proofs.Looking.{inside}
 use Rattle.simples.proofs.Classes.{order-within}
 use Rattle.simples.proofs.Resolving.{Here, short_here, no_short}
@@ -14,64 +15,64 @@ body-returns-then-peek-ne-OPEN t c =
     single c.read_simple.result c.requires c.read_simple.ensures.reads c.put_single.ensures (omega arith)
     (body_simple _ _ _ c.peek.ensures c.if-peek-ne-OPEN.true)
 
-pub body-condition-inner-requires : goal.body-condition-inner-requires
-body-condition-inner-requires t c = omega (arith, inside _ _ c.peek.ensures (omega arith))
+pub body-condition-requires : goal.body-condition-requires
+body-condition-requires t c = omega (arith, inside _ _ c.peek.ensures (omega arith))
 
-pub body-returns-in-Stuck : goal.body-returns-in-Stuck
-body-returns-in-Stuck t c = body_stuck _ _ _ c.peek.ensures c.if-peek-ne-OPEN.false c.in-Stuck.ensures
+pub body-returns-in_err-inner : goal.body-returns-in_err-inner
+body-returns-in_err-inner t c = let q = err_from_is_err_and c.from_residual.result c.from_residual.ensures.1 in rw (q.1, q.2) (body_stuck _ _ _ c.peek.ensures c.if-peek-ne-OPEN.false c.in_err-inner.ensures)
 
-pub body-returns-then-peek-eq-CLOSE : goal.body-returns-then-peek-eq-CLOSE
-body-returns-then-peek-eq-CLOSE t c =
-    body_shut _ _ _ c.peek.ensures c.if-peek-ne-OPEN.false c.in-Parsed.ensures c.peek-in-Parsed.ensures c.if-peek-eq-CLOSE.true
+pub body-returns : goal.body-returns
+body-returns t c =
+    body_shut _ _ _ c.peek.ensures c.if-peek-ne-OPEN.false c.in_ok-inner.ensures c.peek-2.ensures c.if-peek-ne-CLOSE.false
 
-pub body-returns-else-peek-eq-CLOSE : goal.body-returns-else-peek-eq-CLOSE
-body-returns-else-peek-eq-CLOSE t c =
-    body_not_shut _ _ _ c.peek.ensures c.if-peek-ne-OPEN.false c.in-Parsed.ensures c.peek-in-Parsed.ensures c.requires
-    c.if-peek-eq-CLOSE.false
+pub body-returns-then-peek-ne-CLOSE : goal.body-returns-then-peek-ne-CLOSE
+body-returns-then-peek-ne-CLOSE t c =
+    body_not_shut _ _ _ c.peek.ensures c.if-peek-ne-OPEN.false c.in_ok-inner.ensures c.peek-2.ensures c.requires
+    c.if-peek-ne-CLOSE.true
 
-pub chain-returns-in-Stuck : goal.chain-returns-in-Stuck
-chain-returns-in-Stuck t c = c.loop-place.invariant.whole _ _ (joins_stuck chains c.in-Stuck.ensures)
+pub chain-returns-in_err-part : goal.chain-returns-in_err-part
+chain-returns-in_err-part t c = let q = err_from_is_err_and c.from_residual.result c.from_residual.ensures.1 in rw (q.1, q.2) (c.loop-part.invariant.whole _ _ (joins_stuck chains c.in_err-part.ensures))
 
 pub chain-returns-then-peek-ne-AND : goal.chain-returns-then-peek-ne-AND
 chain-returns-then-peek-ne-AND t c =
-    c.loop-place.invariant.whole _ _ (joins_part chains c.in-Parsed.ensures c.peek.ensures c.if-peek-ne-AND.true)
+    c.loop-part.invariant.whole _ _ (joins_part chains c.in_ok-part.ensures c.peek.ensures c.if-peek-ne-AND.true)
 
-pub chain-loop-place-smaller : goal.chain-loop-place-smaller
-chain-loop-place-smaller t c =
+pub chain-loop-part-smaller : goal.chain-loop-part-smaller
+chain-loop-part-smaller t c =
     omega (
       arith,
       inside _ _ c.peek.ensures (omega (arith, c.if-peek-ne-AND.false)),
-      c.in-Parsed.ensures,
-      c.loop-place.invariant,
+      c.in_ok-part.ensures,
+      c.loop-part.invariant,
     )
 
-pub chain-loop-place-preserved : goal.chain-loop-place-preserved
-chain-loop-place-preserved t c =
-    joins_on chains c.loop-place.invariant c.in-Parsed.ensures c.peek.ensures c.if-peek-ne-AND.false
+pub chain-loop-part-preserved : goal.chain-loop-part-preserved
+chain-loop-part-preserved t c =
+    joins_on chains c.loop-part.invariant c.in_ok-part.ensures c.peek.ensures c.if-peek-ne-AND.false
     (rw (c.later-rest.ensures, c.verdict-done.ensures) at c.retarget.ensures)
-    (omega (arith, c.retarget.auto, c.term-part.auto))
+    (omega (arith, c.retarget.auto, c.term.auto))
 
-pub condition-returns-in-Stuck : goal.condition-returns-in-Stuck
-condition-returns-in-Stuck t c = c.loop-place.invariant.whole _ _ (joins_stuck conditions c.in-Stuck.ensures)
+pub condition-returns-in_err-part : goal.condition-returns-in_err-part
+condition-returns-in_err-part t c = let q = err_from_is_err_and c.from_residual.result c.from_residual.ensures.1 in rw (q.1, q.2) (c.loop-part.invariant.whole _ _ (joins_stuck conditions c.in_err-part.ensures))
 
 pub condition-returns-then-peek-ne-OR : goal.condition-returns-then-peek-ne-OR
 condition-returns-then-peek-ne-OR t c =
-    c.loop-place.invariant.whole _ _ (joins_part conditions c.in-Parsed.ensures c.peek.ensures c.if-peek-ne-OR.true)
+    c.loop-part.invariant.whole _ _ (joins_part conditions c.in_ok-part.ensures c.peek.ensures c.if-peek-ne-OR.true)
 
-pub condition-loop-place-smaller : goal.condition-loop-place-smaller
-condition-loop-place-smaller t c =
+pub condition-loop-part-smaller : goal.condition-loop-part-smaller
+condition-loop-part-smaller t c =
     omega (
       arith,
       inside _ _ c.peek.ensures (omega (arith, c.if-peek-ne-OR.false)),
-      c.in-Parsed.ensures,
-      c.loop-place.invariant,
+      c.in_ok-part.ensures,
+      c.loop-part.invariant,
     )
 
-pub condition-loop-place-preserved : goal.condition-loop-place-preserved
-condition-loop-place-preserved t c =
-    joins_on conditions c.loop-place.invariant c.in-Parsed.ensures c.peek.ensures c.if-peek-ne-OR.false
+pub condition-loop-part-preserved : goal.condition-loop-part-preserved
+condition-loop-part-preserved t c =
+    joins_on conditions c.loop-part.invariant c.in_ok-part.ensures c.peek.ensures c.if-peek-ne-OR.false
     (rw (c.later-rest.ensures, c.verdict-done.ensures) at c.retarget.ensures)
-    (omega (arith, c.retarget.auto, c.chain-part.auto))
+    (omega (arith, c.retarget.auto, c.chain.auto))
 
 -- > < = where a relation is carried, at the place
 pub term-overflow_sub-here : goal.term-overflow_sub-here
@@ -119,16 +120,17 @@ term-returns-then-is_order-relation-2 t c =
     single read.result c.requires read.ensures.reads c.put_single-then-is_order-relation-2.ensures (omega arith)
     (term_not_order _ _ _ c.peek-here.ensures c.if-here-ne-NOT.false c.peek-after.ensures order_after.1 order_after.0.0 order_after.0.1)
 
-pub term-body-inner-requires : goal.term-body-inner-requires
-term-body-inner-requires t c = omega (arith, inside _ _ c.peek-here.ensures (omega (arith, c.if-here-ne-NOT.false)))
+pub term-body-requires-2 : goal.term-body-requires-2
+term-body-requires-2 t c = omega (arith, inside _ _ c.peek-here.ensures (omega (arith, c.if-here-ne-NOT.false)))
 
-pub term-returns-in-Stuck : goal.term-returns-in-Stuck
-term-returns-in-Stuck t c =
-    term_not_stuck _ _ _ c.peek-here.ensures c.if-here-ne-NOT.false c.peek-after.ensures
-    (no_short _ _ _ _ (c.is_order-2.ensures ∙ order-within _) c.if-is_order-relation-2.false) c.in-Stuck.ensures
+pub term-returns-in_err-inner : goal.term-returns-in_err-inner
+term-returns-in_err-inner t c =
+    let q = err_from_is_err_and c.from_residual.result c.from_residual.ensures.1 in rw (q.1, q.2)
+    (term_not_stuck _ _ _ c.peek-here.ensures c.if-here-ne-NOT.false c.peek-after.ensures
+    (no_short _ _ _ _ (c.is_order-2.ensures ∙ order-within _) c.if-is_order-relation-2.false) c.in_err-inner.ensures)
 
-pub term-returns-in-Parsed : goal.term-returns-in-Parsed
-term-returns-in-Parsed t c =
+pub term-returns : goal.term-returns
+term-returns t c =
     term_not_row _ _ _ c.peek-here.ensures c.if-here-ne-NOT.false c.peek-after.ensures
-    (no_short _ _ _ _ (c.is_order-2.ensures ∙ order-within _) c.if-is_order-relation-2.false) c.requires c.in-Parsed.ensures
-    (rw (c.verdict.ensures, c.verdict-in-Parsed.ensures) at c.retarget.ensures)
+    (no_short _ _ _ _ (c.is_order-2.ensures ∙ order-within _) c.if-is_order-relation-2.false) c.requires c.in_ok-inner.ensures
+    (rw (c.verdict.ensures, c.verdict-2.ensures) at c.retarget.ensures)

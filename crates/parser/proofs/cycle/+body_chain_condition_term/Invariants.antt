@@ -18,15 +18,15 @@ decreases-condition l = 4 * (length l.tokens.now - l.at) + 3
 abbrev pub decreases-term : goal.decreases-term
 decreases-term l = 4 * (length l.tokens.now - l.at) + 1
 
-abbrev pub invariant-chain-loop-place : goal.invariant-chain-loop-place
-invariant-chain-loop-place l = Continues parse_chain 2 l.tokens l.initial.at l.initial.carry l.initial.row l.initial.rows l.at l.carry l.row l.rows
+abbrev pub invariant-chain-loop-part : goal.invariant-chain-loop-part
+invariant-chain-loop-part l = Continues parse_chain 2 l.tokens l.initial.at l.initial.carry l.initial.row l.initial.rows l.at l.carry l.row l.rows
 
-abbrev pub decreases-chain-loop-place : goal.decreases-chain-loop-place
-decreases-chain-loop-place l = length l.tokens - l.at
+abbrev pub decreases-chain-loop-part : goal.decreases-chain-loop-part
+decreases-chain-loop-part l = length l.tokens - l.at
 
-abbrev pub invariant-condition-loop-place : goal.invariant-condition-loop-place
-invariant-condition-loop-place l =
+abbrev pub invariant-condition-loop-part : goal.invariant-condition-loop-part
+invariant-condition-loop-part l =
     Continues parse_condition 3 l.tokens l.initial.at l.initial.carry l.initial.row l.initial.rows l.at l.carry l.row l.rows
 
-abbrev pub decreases-condition-loop-place : goal.decreases-condition-loop-place
-decreases-condition-loop-place l = length l.tokens - l.at
+abbrev pub decreases-condition-loop-part : goal.decreases-condition-loop-part
+decreases-condition-loop-part l = length l.tokens - l.at

@@ -17,18 +17,18 @@ unfolding flat
 five r = refl
 
 pub loop-k-init : goal.loop-k-init
-loop-k-init c = (omega arith, rw (begun_none c.args.plan.now) (front_none _))
+loop-k-init c = rw (begun_none c.args.plan.now) (front_none _)
 
 pub write_row-requires : goal.write_row-requires
 write_row-requires c =
-    let room : (c.loop-k.k * 5 + 5 ≤ length c.args.out.now) = (let start = c in omega (arith, c.loop-k-test.true, start.requires, converted_length start.args.plan.now)) in
+    let room : (c.loop-k.k * 5 + 5 ≤ length c.args.out.now) = (let start = c in omega (arith, start.requires, converted_length start.args.plan.now)) in
     let l = c.loop-k in
     let out = c.args.out.now in
-    rw (front_rest l.invariant.1) (omega (arith, room, length-drop (l.k * 5) out))
+    rw (front_rest l.invariant) (omega (arith, room, length-drop (l.k * 5) out))
 
 pub loop-k-preserved : goal.loop-k-preserved
 loop-k-preserved c =
-    let room : (c.loop-k.k * 5 + 5 ≤ length c.args.out.now) = (let start = c in omega (arith, c.loop-k-test.true, start.requires, converted_length start.args.plan.now)) in
+    let room : (c.loop-k.k * 5 + 5 ≤ length c.args.out.now) = (let start = c in omega (arith, start.requires, converted_length start.args.plan.now)) in
     let t = c in
     let l = t.loop-k in
     let plan = t.args.plan.now in
@@ -36,14 +36,14 @@ loop-k-preserved c =
     let row : t.on_row-row.result ≡ r = t.on_row-row.ensures ∙ ap on_row t.plan_row.ensures in
     let z : (l.k + 1) * 5 ≡ l.k * 5 + 5 = omega arith in
     let w = c.write_row in
-    let more = front_part l.invariant.1 (flat (r ∷ [])) w.new.out 5 (five r) room (rw row at w.ensures) in
-    (omega arith, rw (begun_more plan l.k, z) more)
+    let more = front_part l.invariant (flat (r ∷ [])) w.new.out 5 (five r) room (rw row at w.ensures) in
+    rw (begun_more plan l.k, z) more
 
 pub returns : goal.returns
 returns c =
     let l = c.loop-k in
     let plan = c.args.plan.now in
     let z : l.k ≡ length plan / 5 = omega arith in
-    let h = rw (z, begun_all plan) at l.invariant.1.holds in
+    let h = rw (z, begun_all plan) at l.invariant.holds in
     let s = converted_length plan in
     rw s h

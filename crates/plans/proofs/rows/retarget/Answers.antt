@@ -10,15 +10,14 @@ pub loop-i-preserved : goal.loop-i-preserved
 loop-i-preserved c =
     let s = c.args in
     let l = c.loop-i in (
-      omega arith,
-      simp length-set l.invariant.1,
+      simp length-set l.invariant.0,
       turned_more s.holds.number s.fails.number l.rows s.end l.i c.aimed.result c.aimed-in-loop-i.result
-          c.loop-i-test.true (omega arith) c.aimed.ensures c.aimed-in-loop-i.ensures
-          ∙ l.invariant.2,
+          (omega arith) (omega arith) c.aimed.ensures c.aimed-in-loop-i.ensures
+          ∙ l.invariant.1,
     )
 
 pub returns : goal.returns
 returns c =
     let s = c.args in
     let l = c.loop-i in
-    sym (turned_end s.holds.number s.fails.number l.rows s.end l.i (omega arith)) ∙ l.invariant.2
+    sym (turned_end s.holds.number s.fails.number l.rows s.end l.i (omega arith)) ∙ l.invariant.1

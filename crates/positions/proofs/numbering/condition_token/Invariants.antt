@@ -1,12 +1,9 @@
 -- Tokens are passed one at a time.
 use mathlib.Core.Path.{◌≡◌}
-use Prim.Native.Nat.{◌+◌, ◌-◌, ◌≤◌}
-use lib.ListN.{length, drop}
+use Prim.Native.Nat.{◌+◌}
+use lib.ListN.{drop}
 use Rattle.positions.specs.Positions.{condition_token}
 use Rattle.positions.proofs.numbering.condition_token.Given as goal
 
 abbrev pub invariant-loop-i : goal.invariant-loop-i
-invariant-loop-i l = (l.i ≤ length l.tokens) × (l.i + condition_token l.left (drop l.i l.tokens) ≡ condition_token l.k l.tokens)
-
-abbrev pub decreases-loop-i : goal.decreases-loop-i
-decreases-loop-i l = length l.tokens - l.i
+invariant-loop-i l = l.i + condition_token l.left (drop l.i l.tokens) ≡ condition_token l.k l.tokens

@@ -2,7 +2,6 @@
 use mathlib.Core.Path.{sym, ◌∙◌}
 use mathlib.Core.Bool.{true, false}
 use mathlib.Core.Logic.{⊎_elim}
-use Prim.Native.Nat.{◌-◌}
 use native.Mathlib.Omega.{arith}
 use Rattle.std.proofs.lemmas.Grind.{common_steps}
 use Rattle.positions.proofs.Stepping.{turned, word_byte, blank_byte, all-bytes}
@@ -12,4 +11,4 @@ pub loop-i-preserved : goal.loop-i-preserved
 loop-i-preserved c = grind (arith, common_steps, turned, word_byte, blank_byte)
 
 pub returns : goal.returns
-returns c = let l = c.loop-i in sym (all-bytes c.args.text.now l.i l.end c.loop-i-test.false) ∙ l.invariant.1
+returns c = let l = c.loop-i in sym (all-bytes c.args.text.now l.i l.end (omega arith)) ∙ l.invariant

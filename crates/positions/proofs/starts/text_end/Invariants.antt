@@ -1,12 +1,8 @@
 -- Each byte that is no blank ends the text anew.
 use mathlib.Core.Path.{◌≡◌}
-use Prim.Native.Nat.{◌-◌, ◌≤◌}
-use lib.ListN.{length, drop}
+use lib.ListN.{drop}
 use Rattle.positions.specs.Positions.{end_from}
 use Rattle.positions.proofs.starts.text_end.Given as goal
 
 abbrev pub invariant-loop-i : goal.invariant-loop-i
-invariant-loop-i l = (l.i ≤ length l.text) × (end_from l.end l.i (drop l.i l.text) ≡ end_from 0 0 l.text)
-
-abbrev pub decreases-loop-i : goal.decreases-loop-i
-decreases-loop-i l = length l.text - l.i
+invariant-loop-i l = end_from l.end l.i (drop l.i l.text) ≡ end_from 0 0 l.text

@@ -10,68 +10,38 @@ use Rattle.walker.proofs.marks.mark_condition.Goals as goal
 
 pub mark-requires : goal.mark-requires
 mark-requires c =
-    let at-number-at = c in
-    let at_wide = at-number-at in
-    let at-if = at_wide in
-    let at-enum-told = at-if in
-    let at-test-of = at-enum-told in
-    let start = at-test-of in
-    rw (at-number-at.number_at.ensures, at_wide.wide.ensures)
-    (name_below start.requires (sym at-test-of.test_of-test.ensures ∙ at-enum-told.in-Alone.is) (eq-eqb _ 5 at-if.if-subject-eq-NAME.true))
+    rw c.number_at.ensures
+    (name_below c.requires (sym c.test_of-test.ensures ∙ c.in-Alone.is) (eq-eqb _ 5 c.if-subject-eq-NAME.true))
 
 pub mark_operand-requires : goal.mark_operand-requires
 mark_operand-requires c =
-    let at_test = c in
-    let at-test-of = at_test in
-    let start = at-test-of in
-    (relation_below start.requires (sym at-test-of.test_of-test.ensures ∙ at_test.in-Relation.is)).0
+    (relation_below c.requires (sym c.test_of-test.ensures ∙ c.in-Relation.is)).0
 
 pub mark_operand-requires-in-Relation : goal.mark_operand-requires-in-Relation
 mark_operand-requires-in-Relation c =
-    let at-mark-operand = c in
-    let at_test = at-mark-operand in
-    let at-test-of = at_test in
-    let start = at-test-of in
-    rw (ap length at-mark-operand.mark_operand.ensures ∙ marked-length _ _) (relation_below start.requires (sym at-test-of.test_of-test.ensures ∙ at_test.in-Relation.is)).1
+    rw (ap length c.mark_operand.ensures ∙ marked-length _ _) (relation_below c.requires (sym c.test_of-test.ensures ∙ c.in-Relation.is)).1
 
 pub mark_operand-requires-in-Class : goal.mark_operand-requires-in-Class
 mark_operand-requires-in-Class c =
-    let at_test = c in
-    let at-test-of = at_test in
-    let start = at-test-of in
-    class-below start.requires (sym at-test-of.test_of-test.ensures ∙ at_test.in-Class.is)
+    class-below c.requires (sym c.test_of-test.ensures ∙ c.in-Class.is)
 
 pub mark_operand-requires-in-Sign : goal.mark_operand-requires-in-Sign
 mark_operand-requires-in-Sign c =
-    let at_test = c in
-    let at-test-of = at_test in
-    let start = at-test-of in
-    sign_below start.requires (sym at-test-of.test_of-test.ensures ∙ at_test.in-Sign.is)
+    sign_below c.requires (sym c.test_of-test.ensures ∙ c.in-Sign.is)
 
 pub returns-then-subject-eq-NAME : goal.returns-then-subject-eq-NAME
 returns-then-subject-eq-NAME c =
-    let at_mark = c in
-    let at-number-at = at_mark in
-    let at_wide = at-number-at in
-    let at-if = at_wide in
-    let at-enum-told = at-if in
-    let at-test-of = at-enum-told in
-    rw (sym at-test-of.test_of-test.ensures ∙ at-enum-told.in-Alone.is, eq-eqb _ 5 at-if.if-subject-eq-NAME.true)
-    (rw (at-number-at.number_at.ensures, at_wide.wide.ensures) at at_mark.mark.ensures ∙ sym (marked_one _ _))
+    rw (sym c.test_of-test.ensures ∙ c.in-Alone.is, eq-eqb _ 5 c.if-subject-eq-NAME.true)
+    (rw c.number_at.ensures at c.mark.ensures ∙ sym (marked_one _ _))
 
 pub returns-else-subject-eq-NAME : goal.returns-else-subject-eq-NAME
 returns-else-subject-eq-NAME c = rw (sym c.test_of-test.ensures ∙ c.in-Alone.is, ne_eqb _ 5 c.if-subject-eq-NAME.false) (sym (marked_none _))
 
 pub returns-in-Relation : goal.returns-in-Relation
 returns-in-Relation c =
-    let at-mark-operand = c in
-    let at-mark-operand2 = at-mark-operand in
-    let at_test = at-mark-operand2 in
-    let at-test-of = at_test in
-    let start = at-test-of in
-    let a = start.args in
-    rw (sym at-test-of.test_of-test.ensures ∙ at_test.in-Relation.is)
-    (at-mark-operand.mark_operand-in-Relation.ensures ∙ ap (λ m. marked m (items_among (a.object ∷ []))) at-mark-operand2.mark_operand.ensures ∙ two_marked _ _ _)
+    let a = c.args in
+    rw (sym c.test_of-test.ensures ∙ c.in-Relation.is)
+    (c.mark_operand-in-Relation.ensures ∙ ap (λ m. marked m (items_among (a.object ∷ []))) c.mark_operand.ensures ∙ two_marked _ _ _)
 
 pub returns-in-Unknown : goal.returns-in-Unknown
 returns-in-Unknown c = rw (sym c.test_of-test.ensures ∙ c.in-Unknown.is) (sym (marked_none _))

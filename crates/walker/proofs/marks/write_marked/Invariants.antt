@@ -1,11 +1,7 @@
 -- The laws of a loop that lists.
-use Prim.Native.Nat.{◌-◌}
 use Rattle.items.proofs.Listing.{Listing}
 use Rattle.walker.specs.Marks.{marked_row}
 use Rattle.walker.proofs.marks.write_marked.Given as goal
 
 abbrev pub invariant-loop-v : goal.invariant-loop-v
 invariant-loop-v l = Listing (marked_row l.marks) l.rows l.initial.list l.list l.count l.v
-
-abbrev pub decreases-loop-v : goal.decreases-loop-v
-decreases-loop-v l = l.rows - l.v
