@@ -39,7 +39,7 @@ pub eight_first : (seven : ℕ) (eight : Refusal) → place eight < seven → Er
 eight_first seven eight h = rw (lt-leb seven (place eight) h)
 
 -- what was parsed is what is read
-seven : (r : Parse) (before after : List ℕ) (reading : Reading) → Whole r before after reading → parse_check r ≡ grammar_check reading
+seven : (r : Result ℕ ℕ) (before after : List ℕ) (reading : Reading) → Whole r before after reading → parse_check r ≡ grammar_check reading
 unfolding Whole
 seven r before after (accepted t) w = ap parse_check w.0
 seven r before after (refused at) w = ap parse_check w.0
@@ -57,7 +57,7 @@ stands_rows {count = count} {before = before} s =
     rw s.rows (take_at (planned s.tree) (drop (count * 5) before) (count * 5) (planned-length s.tree ∙ ap (λ n. n * 5) (sym s.counted)))
 
 -- what is parsed of at most 256 tokens leaves the buffer as it was from its 128th row on
-spared : (tokens : List ℕ) (r : Parse) (before after : List ℕ) → length tokens ≤ 256 → Parses tokens r before after → drop 640 after ≡ drop 640 before
+spared : (tokens : List ℕ) (r : Result ℕ ℕ) (before after : List ℕ) → length tokens ≤ 256 → Parses tokens r before after → drop 640 after ≡ drop 640 before
 unfolding Whole
 spared tokens r before after l w = go (read tokens) refl w
   where
