@@ -9,13 +9,12 @@ use Rattle.description.specs.declared.Clauses.{Clauses}
 use Rattle.description.specs.declared.Clauses.TheVariants as Clauses
 use Rattle.description.specs.declared.Leveled.{Leveled}
 use Rattle.description.specs.declared.Leveled.TheVariants as Leveled
-use Rattle.levels.specs.declared.Entered.{Entered}
-use Rattle.levels.specs.declared.Entered.TheVariants.{Depth, Not}
 use Rattle.levels.specs.Stack.{groups_of, entered_by}
 use Rattle.entries.specs.declared.Noted.{Noted}
 use Rattle.entries.specs.declared.EntryRead.{EntryRead}
 use Rattle.entries.specs.declared.EntryRead.TheVariants.{Whole, Name, Fault}
 use Rattle.content.specs.Kinds.{kind_group}
+use Rattle.std.specs.Prelude.{None, Option, Some}
 
 abbrev pub cap : ℕ → ℕ
 cap n = min n 65536
@@ -53,9 +52,9 @@ called_of text l d p (Called.Fault k) = Fault k
 abbrev pub named_at : List ℕ → ℕ → ℕ → ℕ → EntryRead
 named_at text l d p = called_of text l d p (name_at l text (p + 2))
 
-abbrev pub entered_at : List ℕ → ℕ → ℕ → Entered → EntryRead
-entered_at text l p (Depth d) = named_at text l d p
-entered_at text l p Not = Fault p
+abbrev pub entered_at : List ℕ → ℕ → ℕ → Option ℕ → EntryRead
+entered_at text l p (Some d) = named_at text l d p
+entered_at text l p None = Fault p
 
 abbrev pub leveled_at : List ℕ → ℕ → ℕ → List ℕ → ℕ → Leveled → EntryRead
 leveled_at stack depth waiting text p (Leveled.Level l) = entered_at text l p (entered_by stack depth waiting l)
