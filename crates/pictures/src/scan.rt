@@ -15,10 +15,10 @@ fn sketched(rest: &[u8]) -> Sketch
 {
     let mut d = Drawn::Nothing;
     for (k, b) in rest.iter().enumerate() {
-        let Some(e) = draw_byte(d, *b) else {
-            return Sketch { len: k, drawn: d };
-        };
-        d = e;
+        match draw_byte(d, *b) {
+            Some(e) => d = e,
+            None => return Sketch { len: k, drawn: d },
+        }
     }
     Sketch {
         len: rest.len(),

@@ -6,7 +6,7 @@ pub mod weights; // whether a value is barred
 use content::Row;
 
 // A value that is barred, or the rows of its ends, their bytes laid at offset 0.
-#[derive(Debug, Clone, Copy, PartialEq, Eq)]
+#[derive(Clone, Copy)]
 pub enum Weighed {
     Barred,
     Single(Row),
