@@ -23,8 +23,6 @@ use Rattle.entries.specs.declared.Noted.{Noted}
 use Rattle.entries.specs.declared.EntryRead.{EntryRead}
 use Rattle.entries.specs.declared.EntryRead.TheVariants.{Whole, Name}
 use Rattle.entries.specs.Entries.{noted, cap_noted, cap_entry, item_of, called_of, entered_at, leveled_at, entry_at, entry_of}
-use Rattle.levels.specs.declared.Entered.{Entered}
-use Rattle.levels.specs.declared.Entered.TheVariants.{Depth, Not}
 use Rattle.description.specs.declared.Clauses.{Clauses}
 use Rattle.description.specs.declared.Called.{Called}
 use Rattle.description.specs.declared.Called.TheVariants as Called
@@ -40,7 +38,7 @@ use Rattle.storing.proofs.Stored.{stored_alike}
 use Rattle.describer.proofs.Labels.{none_kept, kept_item, kept_more, literals_more}
 use Rattle.describer.proofs.Past.{found, beyond_item, beyond_step}
 use Rattle.noting.proofs.Flat.{kept, held_there, noted-same, noted_snoc}
-use Rattle.std.specs.Prelude.{Result, Ok, Err}
+use Rattle.std.specs.Prelude.{Result, Ok, Err, Option, Some, None}
 
 -- Without an item before it no entry is one of level 88.
 no_item : (l d p n : ℕ) (x : Result Clauses ℕ) → item_of l d p n x ≡ Ok Name → ⊥
@@ -52,9 +50,9 @@ no_called text l d p (Ok (Called.Item k)) e = no_item l d p (inked text (p + 2))
 no_called text l d p (Ok (Called.Group k)) e = let z : ◌≡◌ {A = ℕ} 0 1 = cc in omega arith
 no_called text l d p (Err k) e = let z : ◌≡◌ {A = ℕ} 0 1 = cc in omega arith
 
-no_entered : (text : List ℕ) (l p : ℕ) (x : Entered) → entered_at text l p x ≡ Ok Name → ⊥
-no_entered text l p (Depth d) e = no_called text l d p (name_at l text (p + 2)) e
-no_entered text l p Not e = let z : ◌≡◌ {A = ℕ} 0 1 = cc in omega arith
+no_entered : (text : List ℕ) (l p : ℕ) (x : Option ℕ) → entered_at text l p x ≡ Ok Name → ⊥
+no_entered text l p (Some d) e = no_called text l d p (name_at l text (p + 2)) e
+no_entered text l p None e = let z : ◌≡◌ {A = ℕ} 0 1 = cc in omega arith
 
 no_name : (stack : List ℕ) (depth waiting : ℕ) (text : List ℕ) (p : ℕ) → entry_at stack depth waiting false text p ≡ Ok Name → ⊥
 no_name stack depth waiting text p e =

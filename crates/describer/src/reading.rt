@@ -61,6 +61,7 @@ pub fn read_entries(
         literals: 0,
         bytes: 0,
     };
+    // Where the next entry begins depends on what is read.
     loop {
         let p = next_ink(text, at);
         if p == text.len() {

@@ -12,8 +12,6 @@ use Rattle.storing.specs.declared.Names.{Names}
 use Rattle.noting.specs.Stored.{noted_from, Scaled}
 use Rattle.storing.specs.Naming.{name_numbers, name_of, limit_of, Stores}
 use Rattle.storing.specs.Reads.{reading_of}
-use Rattle.layouts.specs.declared.Laid.{Laid}
-use Rattle.layouts.specs.declared.Laid.TheVariants.{Fine}
 use Rattle.layouts.specs.Layouts.{row_numbers, over_place}
 use Rattle.outputs.specs.Noted.{named_of, rows_from, bytes_from, Words}
 use Rattle.describing.specs.declared.Sizes.{Sizes}
@@ -21,6 +19,7 @@ use Rattle.describing.specs.declared.Described.{Described}
 use Rattle.describing.specs.declared.Described.TheVariants.{Counts, Faulty, Room}
 use Rattle.tables.specs.Rows.{name_width}
 use Rattle.content.specs.Kinds.{row_width}
+use Rattle.std.specs.Prelude.{None, Option}
 
 -- "Numbers from 14 join 01's table": the number and the place of a refusal
 abbrev pub number : Described → ℕ
@@ -128,9 +127,9 @@ pub record ReadsWithin (text flat named spots notes : List ℕ) (r : Found) : Ty
   pub stores : r.whole ≡ true → r.names.over ≡ false → Stores text conditions r.names named spots notes
 
 -- The smaller of two places over a limit.
-pub record SoonerBy (laid : Laid) (s : Names) (r : Laid) : Type 0 where
+pub record SoonerBy (laid : Option ℕ) (s : Names) (r : Option ℕ) : Type 0 where
   pub is : over_place r ≡ sooner (over_place laid) (limit_of s)
-  pub fine : r ≡ Fine → laid ≡ Fine
+  pub fine : r ≡ None → laid ≡ None
 
 -- the same by the outputs' lengths
 abbrev pub room_for : Sizes → Sizes → Described

@@ -26,8 +26,6 @@ use Rattle.noting.specs.Stored.{noted_from}
 use Rattle.storing.specs.Naming.{limit_of, Stores}
 use Rattle.storing.specs.Reads.{reading_of, ReadBy}
 use Rattle.storing.proofs.Stored.{all_stored}
-use Rattle.layouts.specs.declared.Laid.{Laid}
-use Rattle.layouts.specs.declared.Laid.TheVariants.{Over, Fine}
 use Rattle.layouts.specs.Layouts.{first_over, entries_in, row_numbers, over_place, LaidOut}
 use Rattle.layouts.proofs.Laying.{all_laid}
 use Rattle.layouts.proofs.Capping.{first_caps, rows_same, first_marks}
@@ -40,6 +38,7 @@ use Rattle.describing.specs.Calls as Calls
 use Rattle.describing.specs.Calls.{rows_of, place_of_name, places_of, names_of, name_places_of, DescribedBy, ReadsWithin, SoonerBy, Ready, Given}
 use Rattle.describing.specs.declared.Described.{Described}
 use Rattle.describing.specs.declared.Described.TheVariants.{Faulty}
+use Rattle.std.specs.Prelude.{None, Option, Some}
 
 -- Byte 4,096.
 rises : (text : List ℕ) (w : Bool) (d : Parts) (p : ℕ) → read_text text ≡ reading_of w d p → (n : ℕ) × Rise d n
@@ -132,21 +131,21 @@ module _ (text flat named spots notes : List ℕ) (r : Found) where
             within_long l (rw k at R) (left r.whole (ltb e (length text)) (lt-ltb e (length text) (omega arith)) g)
 
 -- The smaller of two places.
-pub sooner_none : (x : Laid) (s : Names) → s.over ≡ false → SoonerBy x s x
+pub sooner_none : (x : Option ℕ) (s : Names) → s.over ≡ false → SoonerBy x s x
 sooner_none x s e = record { is = by x; fine = λ q. q }
   where
-    by : (x : Laid) → over_place x ≡ sooner (over_place x) (limit_of s)
-    by (Over p) = rw e
-    by Fine = rw e
+    by : (x : Option ℕ) → over_place x ≡ sooner (over_place x) (limit_of s)
+    by (Some p) = rw e
+    by None = rw e
 
 module _ (s : Names) (e : s.over ≡ true) where
-  pub sooner_item : {x : Laid} {p : ℕ} → x ≡ Over p → p ≤ s.place → SoonerBy x s (Over p)
+  pub sooner_item : {x : Option ℕ} {p : ℕ} → x ≡ Some p → p ≤ s.place → SoonerBy x s (Some p)
   sooner_item q l = record { is = rw (q, e, leb_so l); fine = λ i. let z : ◌≡◌ {A = ℕ} 0 1 = cc in absurd (omega arith) }
 
-  pub sooner_name : {x : Laid} {p : ℕ} → x ≡ Over p → s.place < p → SoonerBy x s (Over s.place)
+  pub sooner_name : {x : Option ℕ} {p : ℕ} → x ≡ Some p → s.place < p → SoonerBy x s (Some s.place)
   sooner_name {p = p} q l = record { is = rw (q, e, leb_no p s.place l); fine = λ i. let z : ◌≡◌ {A = ℕ} 0 1 = cc in absurd (omega arith) }
 
-  pub sooner_only : {x : Laid} → x ≡ Fine → SoonerBy x s (Over s.place)
+  pub sooner_only : {x : Option ℕ} → x ≡ None → SoonerBy x s (Some s.place)
   sooner_only q = record { is = rw (q, e); fine = λ i. let z : ◌≡◌ {A = ℕ} 0 1 = cc in absurd (omega arith) }
 
 judged_whole : (w : Bool) (d : Parts) (p : ℕ) → w ≡ true → least (marks d) ≡ none → judged (reading_of w d p) ≡ table (table_of d)
@@ -156,7 +155,7 @@ judged_faulty : (w : Bool) (d : Parts) (p : ℕ) → w ≡ false → least (mark
 judged_faulty w d p h k = rw (h, k)
 
 -- The answer.
-module _ (text flat named spots notes laid : List ℕ) (r : Found) (R : ReadsWithin text flat named spots notes r) {x z : Laid} {before : List ℕ} (L : LaidOut flat r.count x before laid)
+module _ (text flat named spots notes laid : List ℕ) (r : Found) (R : ReadsWithin text flat named spots notes r) {x z : Option ℕ} {before : List ℕ} (L : LaidOut flat r.count x before laid)
     (B : SoonerBy x r.names z) where
   abbrev ys : List Noted
   ys = R.exact
@@ -187,7 +186,7 @@ module _ (text flat named spots notes laid : List ℕ) (r : Found) (R : ReadsWit
           bytes_written = refl;
         }
 
-    pub answers-over : {p : ℕ} → z ≡ Over p → DescribedBy text rows places names name-places literals bytes (Faulty p) rows places names name-places literals bytes
+    pub answers-over : {p : ℕ} → z ≡ Some p → DescribedBy text rows places names name-places literals bytes (Faulty p) rows places names name-places literals bytes
     answers-over {p} e = faulty_answer (ap judged R.reading ∙ by r.whole)
       where
         i : least (marks d) ≡ some p
@@ -197,21 +196,21 @@ module _ (text flat named spots notes laid : List ℕ) (r : Found) (R : ReadsWit
         by true = rw i
         by false = rw i
 
-    pub answers_faulty : z ≡ Fine → r.whole ≡ false →
+    pub answers_faulty : z ≡ None → r.whole ≡ false →
         DescribedBy text rows places names name-places literals bytes (Faulty r.place) rows places names name-places literals bytes
     answers_faulty e w =
         let i : least (marks d) ≡ none = least_is ∙ ap over_place e in
         faulty_answer (ap judged R.reading ∙ judged_faulty r.whole d r.place w i)
 
-  module _ (e : z ≡ Fine) (w : r.whole ≡ true) where
-    item_fine : x ≡ Fine
+  module _ (e : z ≡ None) (w : r.whole ≡ true) where
+    item_fine : x ≡ None
     item_fine = B.fine e
 
     none_over : first_over 0 (map entry_of ys) (layout 0 (map entry_of ys)) ≡ none
     none_over = limit_is ∙ ap over_place item_fine
 
     name_fine : r.names.over ≡ false
-    name_fine = by r.names.over (sym (B.is ∙ ap (λ (y : Laid). sooner (over_place y) (limit_of r.names)) item_fine) ∙ ap over_place e)
+    name_fine = by r.names.over (sym (B.is ∙ ap (λ (y : Option ℕ). sooner (over_place y) (limit_of r.names)) item_fine) ∙ ap over_place e)
       where
         by : (t : Bool) → cond t (some r.names.place) none ≡ none → t ≡ false
         by true i = let z : ◌≡◌ {A = ℕ} 0 1 = cc in absurd (omega arith)

@@ -8,7 +8,6 @@ use content::Row;
 use describer::reading::read_entries;
 use describing::Described;
 use describing::giving::give;
-use layouts::Laid;
 use layouts::rows::lay_rows;
 use storing::{Found, Names};
 use tables::rows::{NAME_TABLE, NAME_WIDTH};
@@ -56,20 +55,20 @@ fn read_within(
 }
 
 // The smallest place over a limit, of items and of names.
-fn sooner_of(laid: Laid, names: Names) -> Laid
+fn sooner_of(laid: Option<usize>, names: Names) -> Option<usize>
     ensures { SoonerBy laid names result }
 {
     if !names.over {
         return laid;
     }
     match laid {
-        Laid::Over(p) => {
+        Some(p) => {
             if p <= names.place {
-                return Laid::Over(p);
+                return Some(p);
             }
-            Laid::Over(names.place)
+            Some(names.place)
         }
-        Laid::Fine => Laid::Over(names.place),
+        None => Some(names.place),
     }
 }
 
@@ -122,8 +121,8 @@ pub fn describe(
     let found = parsed.found;
     let over = parsed.laid;
     match over {
-        Laid::Over(p) => Described::Faulty(p),
-        Laid::Fine => {
+        Some(p) => Described::Faulty(p),
+        None => {
             if !found.whole {
                 return Described::Faulty(found.place);
             }

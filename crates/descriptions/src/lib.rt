@@ -3,12 +3,11 @@
 
 pub mod calls; // the call that users make
 
-use layouts::Laid;
 use storing::Found;
 
 // What was read of a text, and the smallest place over a limit.
 #[derive(Clone, Copy)]
 pub struct Parsed {
     pub found: Found,
-    pub laid: Laid,
+    pub laid: Option<usize>,
 }

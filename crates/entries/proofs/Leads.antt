@@ -1,7 +1,7 @@
 -- An entry as the code reads it leads on as the reader does.
 use mathlib.Core.Path.{◌≡◌, refl, sym, ap, ◌∙◌}
 use mathlib.Core.Bool.{Bool, true, false, cond}
-use mathlib.Core.Option.{Option, none, some}
+use mathlib.Core.Option.{none, some}
 use mathlib.Core.List.{List, [], ◌∷◌, ◌++◌}
 use Prim.Native.Nat.{ℕ, zero, suc, ◌+◌, ◌≤◌, ◌<◌}
 use native.Mathlib.Omega.{arith}
@@ -19,8 +19,6 @@ use Rattle.description.proofs.Bytes.{eqb_no}
 use Rattle.description.proofs.Takes.{started, naming}
 use Rattle.description.proofs.Ended.{on_called, name_leads}
 use Rattle.description.proofs.Opening.{on_clauses, clauses_lead, on_leveled, started_at, level_leads}
-use Rattle.levels.specs.declared.Entered.{Entered}
-use Rattle.levels.specs.declared.Entered.TheVariants.{Depth, Not}
 use Rattle.levels.specs.Stack.{groups_of, entered_by, topped, topped_by}
 use Rattle.levels.proofs.Stack.{enter_is, AtMost, entered_le}
 use Rattle.entries.specs.Entries.{content_of, entry_of, noted, item_of, item_at, called_of, named_at, entered_at, leveled_at, entry_at}
@@ -29,6 +27,7 @@ use Rattle.entries.specs.declared.Noted.{Noted}
 use Rattle.entries.specs.declared.EntryRead.{EntryRead}
 use Rattle.entries.specs.declared.EntryRead.TheVariants.{Whole, Name}
 use Rattle.entries.proofs.Bounds.{Ends, Names, Wholes, clauses_end, name_reaches, named_whole, level_inside, name_inside, level_small, leveled_le}
+use Rattle.std.specs.Prelude.{None, Option, Some}
 
 -- The groups that are open after it.
 abbrev pub groups_after : List ℕ → Noted → ℕ → Groups
@@ -57,9 +56,9 @@ module _ (stack : List ℕ) (g : Groups) (text : List ℕ) (es : Parts) where
       name_leads text (p + 2) (started (topped stack l d) l p es)
       ∙ called-leads l d p (name_at l text (p + 2)) (name_reaches text (p + 2) h l)
 
-  entered_leads : (l p : ℕ) → p + 2 ≤ length text → (x : Entered) → started_at text es p l (topped_by stack l x) ≡ on_entry stack g p text es (entered_at text l p x)
-  entered_leads l p h (Depth d) = named-leads l d p h
-  entered_leads l p h Not = refl
+  entered_leads : (l p : ℕ) → p + 2 ≤ length text → (x : Option ℕ) → started_at text es p l (topped_by stack l x) ≡ on_entry stack g p text es (entered_at text l p x)
+  entered_leads l p h (Some d) = named-leads l d p h
+  entered_leads l p h None = refl
 
 module _ (stack text : List ℕ) (es : Parts) (depth waiting : ℕ) (named : Bool) (named-is : named ≡ has_item es) where
   abbrev groups : Groups
@@ -78,9 +77,9 @@ module _ (stack text : List ℕ) (es : Parts) (depth waiting : ℕ) (named : Boo
       level_leads text n groups es l ∙ rw (← named-is) (leveled-leads (inked text n) (level_at groups named text (inked text n)) refl)
 
   -- It ends within the text, five bytes on at least.
-  entered_whole : (l p : ℕ) → p + 2 ≤ length text → p < length text → (x : Entered) → Wholes text p (entered_at text l p x)
-  entered_whole l p h k (Depth d) = named_whole text l d p h
-  entered_whole l p h k Not = omega arith
+  entered_whole : (l p : ℕ) → p + 2 ≤ length text → p < length text → (x : Option ℕ) → Wholes text p (entered_at text l p x)
+  entered_whole l p h k (Some d) = named_whole text l d p h
+  entered_whole l p h k None = omega arith
 
   leveled_whole : (p : ℕ) → p < length text → (x : Result Leveled ℕ) → level_at groups named text p ≡ x → Wholes text p (leveled_at stack depth waiting text p x)
   leveled_whole p k (Ok (Leveled.Level l)) h = entered_whole l p (level_inside groups named text p l h) k (entered_by stack depth waiting l)
@@ -105,9 +104,9 @@ module _ (stack text : List ℕ) (es : Parts) (depth waiting : ℕ) (named : Boo
   called_deep l d p h (Ok (Called.Group k)) = h
   called_deep l d p h (Err k) = tt
 
-  entered_deep : (l p : ℕ) → l ≤ 99 → (x : Entered) → AtMost (depth + 1) x → Deep (entered_at text l p x)
-  entered_deep l p g (Depth d) h = called_deep l d p (h, g) (name_at l text (p + 2))
-  entered_deep l p g Not h = tt
+  entered_deep : (l p : ℕ) → l ≤ 99 → (x : Option ℕ) → AtMost (depth + 1) x → Deep (entered_at text l p x)
+  entered_deep l p g (Some d) h = called_deep l d p (h, g) (name_at l text (p + 2))
+  entered_deep l p g None h = tt
 
   leveled_deep : (p : ℕ) (x : Result Leveled ℕ) → level_at groups named text p ≡ x → Deep (leveled_at stack depth waiting text p x)
   leveled_deep p (Ok (Leveled.Level l)) h =

@@ -8,13 +8,12 @@ use Rattle.description.specs.declared.Called.TheVariants as Called
 use Rattle.description.specs.declared.Clauses.{Clauses}
 use Rattle.description.specs.declared.Leveled.{Leveled}
 use Rattle.description.specs.declared.Leveled.TheVariants as Leveled
-use Rattle.levels.specs.declared.Entered.{Entered}
-use Rattle.levels.specs.declared.Entered.TheVariants.{Depth, Not}
 use Rattle.levels.specs.Stack.{groups_of, entered_by}
 use Rattle.entries.specs.declared.Noted.{Noted}
 use Rattle.entries.specs.declared.EntryRead.{EntryRead}
 use Rattle.entries.specs.declared.EntryRead.TheVariants.{Whole, Name}
 use Rattle.content.specs.Kinds.{kind_group}
+use Rattle.std.specs.Prelude.{None, Option, Some}
 
 abbrev pub cap : ℕ → ℕ
 cap n = min n 65536
@@ -55,9 +54,9 @@ called_of text l d p (Err k) = Err k
 abbrev pub named_at : List ℕ → ℕ → ℕ → ℕ → Result EntryRead ℕ
 named_at text l d p = called_of text l d p (name_at l text (p + 2))
 
-abbrev pub entered_at : List ℕ → ℕ → ℕ → Entered → Result EntryRead ℕ
-entered_at text l p (Depth d) = named_at text l d p
-entered_at text l p Not = Err p
+abbrev pub entered_at : List ℕ → ℕ → ℕ → Option ℕ → Result EntryRead ℕ
+entered_at text l p (Some d) = named_at text l d p
+entered_at text l p None = Err p
 
 abbrev pub leveled_at : List ℕ → ℕ → ℕ → List ℕ → ℕ → Result Leveled ℕ → Result EntryRead ℕ
 leveled_at stack depth waiting text p (Ok (Leveled.Level l)) = entered_at text l p (entered_by stack depth waiting l)

@@ -6,7 +6,6 @@ use crate::clauses::clauses_at;
 use crate::{EntryRead, Noted};
 use content::Row;
 use description::{Called, Leveled};
-use levels::Entered;
 use levels::level::level_at;
 use levels::open::enter;
 use text_bytes::blanks::next_ink;
@@ -86,8 +85,8 @@ pub fn entry_at(
 {
     match level_at(stack, depth, waiting, named, text, p)? {
         Leveled::Level(level) => match enter(stack, depth, waiting, level) {
-            Entered::Depth(d) => named_at(text, level, d, p),
-            Entered::Not => Err(p),
+            Some(d) => named_at(text, level, d, p),
+            None => Err(p),
         },
         Leveled::Name => Ok(EntryRead::Name),
     }

@@ -8,17 +8,7 @@ ghost use Rattle.keywords.specs.Initials.{beginning};
 pub fn same_bytes(a: &[u8], b: &[u8]) -> bool
     ensures { result ≡ same a.now b.now }
 {
-    if a.len() != b.len() {
-        return false;
-    }
-    let mut k: usize = 0;
-    while k < a.len() {
-        if a[k] != b[k] {
-            return false;
-        }
-        k += 1;
-    }
-    true
+    a == b
 }
 
 fn either(w: &[u8], a: &[u8], b: &[u8]) -> bool

@@ -1,7 +1,7 @@
 -- Rows of the entries in a buffer, one by one.
 use mathlib.Core.Path.{◌≡◌, refl, sym, ap, ◌∙◌}
 use mathlib.Core.Bool.{Bool, true, false, cond, not, ◌&&◌, ◌||◌, or_assoc, or-false}
-use mathlib.Core.Option.{Option, none, some}
+use mathlib.Core.Option.{none, some}
 use mathlib.Core.List.{List, [], ◌∷◌, ◌++◌, map, append_assoc, append-nil}
 use Prim.Native.Nat.{ℕ, zero, suc, ◌+◌, ◌*◌, ◌-◌, ◌≤◌, ◌<◌}
 use native.Mathlib.Omega.{arith}
@@ -21,8 +21,7 @@ use Rattle.noting.specs.Stored.{noted_at, noted_from}
 use Rattle.noting.proofs.Flat.{noted-length}
 use Rattle.layouts.specs.Layouts.{first_over, rows_within, written_rows, shown_row, entries_in, Sized, Signed, Summed, row_in, numbers_of, row_numbers, over_place, LaidOut}
 use Rattle.layouts.specs.declared.ItemRow.{ItemRow}
-use Rattle.layouts.specs.declared.Laid.{Laid}
-use Rattle.layouts.specs.declared.Laid.TheVariants.{Over, Fine}
+use Rattle.std.specs.Prelude.{None, Option, Some}
 
 -- Limits.
 pub most-group : (k : ℕ) → eqb k 0 || eqb k 7 ≡ true → 65535 ≡ most k
@@ -211,7 +210,7 @@ module _ (flat : List ℕ) (n : ℕ) where
         rw (k, L.counted) L.front.holds
 
     module _ (l : i < n) {r : Row} (e : r ≡ row_in flat i n o) where
-      pub lay_over : {p : ℕ} → over i r ≡ true → p ≡ get_or flat (i * 7 + 1) 0 → LaidOut flat n (Over p) before rows
+      pub lay_over : {p : ℕ} → over i r ≡ true → p ≡ get_or flat (i * 7 + 1) 0 → LaidOut flat n (Some p) before rows
       unfolding first_over layout rows_within
       lay_over h f =
           let k : over i (row_in flat i n o) ≡ true = rw (← e) h in
@@ -238,7 +237,7 @@ module _ (flat : List ℕ) (n : ℕ) where
             low = omega (arith, L.low, z.small);
           }
 
-    pub lay_end : n ≤ i → LaidOut flat n Fine before rows
+    pub lay_end : n ≤ i → LaidOut flat n None before rows
     unfolding first_over layout rows_within
     lay_end l =
         record {
@@ -259,7 +258,7 @@ all-within n (x ∷ xs) (r ∷ rs) h e = by (over n r) e (all-within (suc n) xs 
     by true e f = let z : ◌≡◌ {A = ℕ} 0 1 = cc in absurd (omega arith)
     by false e f = ap (λ (l : List Row). r ∷ l) (f e)
 
-pub all_laid : (flat : List ℕ) (n : ℕ) {r : Laid} {before after : List ℕ} → LaidOut flat n r before after → r ≡ Fine →
+pub all_laid : (flat : List ℕ) (n : ℕ) {r : Option ℕ} {before after : List ℕ} → LaidOut flat n r before after → r ≡ None →
     take (n * 5) after ≡ row_numbers (layout 0 (entries_in flat 0 n))
 all_laid flat n L e =
     let xs = entries_in flat 0 n in

@@ -1,14 +1,13 @@
 -- Rows of the entries in a buffer.
-use Rattle.std.specs.Prelude.{◌≡◌, Bool, cond, List, [], ◌∷◌, ◌++◌, map, ℕ, suc, ◌+◌, ◌*◌, ◌-◌, ◌≤◌, length, drop}
-use Rattle.std.proofs.Math.Option.{Option, none, some}
+use Rattle.std.specs.Prelude.{◌≡◌, Bool, cond, List, [], ◌∷◌, ◌++◌, map, Option, Some, None, ℕ, suc, ◌+◌, ◌*◌, ◌-◌, ◌≤◌, length, drop}
+use Rattle.std.proofs.Math.Option as maybe
+use Rattle.std.proofs.Math.Option.{none, some}
 use Rattle.description.specs.Grammar.{Row, row, Entry, is_signed}
 use Rattle.description.specs.Reader.{size_of, below, signed_below, row_of, layout}
 use Rattle.description.specs.Limits.{over}
 use Rattle.entries.specs.Entries.{entry_of}
 use Rattle.noting.specs.Stored.{noted_at, noted_from}
 use Rattle.layouts.specs.declared.ItemRow.{ItemRow}
-use Rattle.layouts.specs.declared.Laid.{Laid}
-use Rattle.layouts.specs.declared.Laid.TheVariants.{Over, Fine}
 use Rattle.content.specs.Kinds.{row_width}
 
 abbrev pub shown_row : ItemRow → Row
@@ -45,12 +44,12 @@ unfoldable pub row_numbers : List Row → List ℕ
 row_numbers [] = []
 row_numbers (r ∷ rs) = numbers_of r ++ row_numbers rs
 
-abbrev pub over_place : Laid → Option ℕ
-over_place (Over p) = some p
-over_place Fine = none
+abbrev pub over_place : Option ℕ → maybe.Option ℕ
+over_place (Some p) = some p
+over_place None = none
 
 -- the place of the first entry over a limit, with n rows before these
-unfoldable pub first_over : ℕ → List Entry → List Row → Option ℕ
+unfoldable pub first_over : ℕ → List Entry → List Row → maybe.Option ℕ
 first_over n [] rs = none
 first_over n (e ∷ es) [] = none
 first_over n (e ∷ es) (r ∷ rs) = cond (over n r) (some e.place) (first_over (suc n) es rs)
@@ -65,7 +64,7 @@ abbrev pub written_rows : List ℕ → ℕ → List Row
 written_rows flat n = rows_within 0 (layout 0 (entries_in flat 0 n))
 
 -- The place of the first entry over a limit; the rows before it, and the rest of the buffer as it was.
-pub record LaidOut (flat : List ℕ) (n : ℕ) (r : Laid) (before after : List ℕ) : Type 0 where
+pub record LaidOut (flat : List ℕ) (n : ℕ) (r : Option ℕ) (before after : List ℕ) : Type 0 where
   pub limit : first_over 0 (entries_in flat 0 n) (layout 0 (entries_in flat 0 n)) ≡ over_place r
   pub written : after ≡ row_numbers (written_rows flat n) ++ drop (length (written_rows flat n) * row_width) before
-  pub few : r ≡ Fine → n ≤ 64
+  pub few : r ≡ None → n ≤ 64

@@ -5,7 +5,7 @@ mod limits; // whether a row passes a limit
 pub mod rows; // the rows of the entries that were read
 
 // A row of the item table, before it is known to keep the limits.
-#[derive(Clone, Copy)]
+#[derive(Debug, Clone, Copy, PartialEq, Eq)]
 pub struct ItemRow {
     pub kind: u32,
     pub offset: usize,
@@ -15,15 +15,8 @@ pub struct ItemRow {
 }
 
 // What the entries of a group come to: its bytes, and whether a picture has an S.
-#[derive(Clone, Copy)]
+#[derive(Debug, Clone, Copy, PartialEq, Eq)]
 pub struct Below {
     pub size: usize,
     pub signed: bool,
-}
-
-// The place of the first entry whose row passes a limit, or none does.
-#[derive(Clone, Copy)]
-pub enum Laid {
-    Over(usize),
-    Fine,
 }

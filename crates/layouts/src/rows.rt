@@ -6,14 +6,8 @@ ghost use Rattle.layouts.specs.Layouts.{Sized, Signed, Summed, shown_row, entrie
 ghost use Rattle.content.specs.Kinds.{row_width};
 
 use crate::limits::is_over;
-use crate::{Below, ItemRow, Laid};
+use crate::{Below, ItemRow};
 use content::Row;
-
-fn wide(n: u32) -> usize
-    ensures { result ≡ n }
-{
-    n as usize
-}
 
 // How many bytes entry i takes by itself: a group, none.
 fn size_at(entries: &[u32], i: usize) -> usize
@@ -24,7 +18,7 @@ fn size_at(entries: &[u32], i: usize) -> usize
     if entries[at + 3] == Row::GROUP {
         return 0;
     }
-    wide(entries[at + 4])
+    entries[at + 4] as usize
 }
 
 // Whether entry i is an item whose picture has an S.
@@ -47,15 +41,13 @@ fn sum_below(entries: &[u32], i: usize, n: usize, level: u32) -> Below
 {
     let mut size: usize = 0;
     let mut signed = false;
-    let mut k = i;
-    while k < n {
+    for k in i..n {
         let l = entries[k * 7];
         if !((level < l) & (l <= 49)) {
             return Below { size, signed };
         }
         size += size_at(entries, k);
         signed = signed | signed_at(entries, k);
-        k += 1;
     }
     Below { size, signed }
 }
@@ -91,7 +83,7 @@ fn row_of(entries: &[u32], i: usize, n: usize, offset: usize) -> ItemRow
     ItemRow {
         kind,
         offset,
-        size: wide(entries[at + 4]),
+        size: entries[at + 4] as usize,
         scale: entries[at + 5],
         digits: entries[at + 6],
     }
@@ -109,22 +101,21 @@ fn store_row(rows: &mut [u32], i: usize, row: ItemRow)
     rows[at + 4] = row.digits;
 }
 
-// The rows of n entries, up to the first that passes a limit; beyond them `rows` stays as it was.
-pub fn lay_rows(entries: &[u32], n: usize, rows: &mut [u32]) -> Laid
+// The rows of n entries, up to the first that passes a limit, whose place is the answer; beyond them `rows` stays
+// as it was.
+pub fn lay_rows(entries: &[u32], n: usize, rows: &mut [u32]) -> Option<usize>
     requires { (n ≤ 820) × ((n * 7 ≤ length entries.now) × (320 ≤ length rows.old)) }
     ensures { LaidOut entries.now n result rows.old rows.new }
 {
     let mut offset: usize = 0;
-    let mut i: usize = 0;
-    while i < n {
+    for i in 0..n {
         let row = row_of(entries, i, n, offset);
         if is_over(i, row) {
             let at = i * 7;
-            return Laid::Over(wide(entries[at + 1]));
+            return Some(entries[at + 1] as usize);
         }
         store_row(rows, i, row);
         offset += size_at(entries, i);
-        i += 1;
     }
-    Laid::Fine
+    None
 }

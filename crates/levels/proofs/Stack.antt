@@ -1,7 +1,7 @@
 -- The stack of open groups is the definition's list of them.
 use mathlib.Core.Path.{◌≡◌, refl, sym, ap, subst, ◌∙◌}
 use mathlib.Core.Bool.{Bool, true, false, not, cond, ◌&&◌, ◌||◌}
-use mathlib.Core.Option.{Option, none, some}
+use mathlib.Core.Option.{none, some}
 use mathlib.Core.List.{List, [], ◌∷◌}
 use Prim.Native.Nat.{ℕ, zero, suc, ◌+◌, ◌*◌, ◌-◌, ◌≤◌, ◌<◌}
 use native.Mathlib.Omega.{arith}
@@ -18,9 +18,7 @@ use Rattle.description.specs.declared.Leveled.{Leveled}
 use Rattle.description.specs.declared.Leveled.TheVariants as Leveled
 use Rattle.description.proofs.Bytes.{apart, and_both, eqb_no, eqb_same}
 use Rattle.levels.specs.Stack.{opened, groups_of, back_depth, backed, entered_by, topped, topped_by}
-use Rattle.levels.specs.declared.Entered.{Entered}
-use Rattle.levels.specs.declared.Entered.TheVariants.{Depth, Not}
-use Rattle.std.specs.Prelude.{Ok, Err}
+use Rattle.std.specs.Prelude.{Ok, Err, None, Option, Some, is_some as has_some}
 
 -- The walk back.
 pub back_here : (stack : List ℕ) (d l n : ℕ) → 0 < d → get_or stack (d - 1) 0 ≡ l → n ≡ back_depth stack d l → d ≡ n
@@ -56,34 +54,34 @@ pub enter_is : (stack : List ℕ) (depth waiting l : ℕ) → enter (groups_of s
 unfolding enter
 enter_is stack depth waiting l = by (eqb waiting 0)
   where
-    outside : (t : Bool) → cond t (some []) (back (opened stack depth) l) ≡ topped_by stack l (cond t (Depth 0) (backed (back_depth stack depth l)))
+    outside : (t : Bool) → cond t (some []) (back (opened stack depth) l) ≡ topped_by stack l (cond t (Some 0) (backed (back_depth stack depth l)))
     outside true = refl
     outside false = back_is stack depth l
 
-    member : (t : Bool) → given t (l ∷ opened stack depth) ≡ topped_by stack l (cond t (Depth (depth + 1)) Not)
+    member : (t : Bool) → given t (l ∷ opened stack depth) ≡ topped_by stack l (cond t (Some (depth + 1)) None)
     member true = rw add-one
     member false = refl
 
     by : (t : Bool) → enter (cond t (inside (opened stack depth)) (awaiting (waiting - 1) (opened stack depth))) l
-        ≡ topped_by stack l (cond t (cond (eqb l 1 || eqb l 77) (Depth 0) (backed (back_depth stack depth l))) (cond (ltb (waiting - 1) l && leb l 49) (Depth (depth + 1)) Not))
+        ≡ topped_by stack l (cond t (cond (eqb l 1 || eqb l 77) (Some 0) (backed (back_depth stack depth l))) (cond (ltb (waiting - 1) l && leb l 49) (Some (depth + 1)) None))
     by true = outside (eqb l 1 || eqb l 77)
     by false = member (ltb (waiting - 1) l && leb l 49)
 
 -- The branches of entering.
 module _ (stack : List ℕ) (depth waiting l : ℕ) where
-  pub enter_member : ¬ (waiting ≡ 0) → ltb (waiting - 1) l && leb l 49 ≡ true → Depth (depth + 1) ≡ entered_by stack depth waiting l
+  pub enter_member : ¬ (waiting ≡ 0) → ltb (waiting - 1) l && leb l 49 ≡ true → Some (depth + 1) ≡ entered_by stack depth waiting l
   enter_member h e = rw (eqb_no waiting 0 h, e)
 
-  pub enter_no_member : ¬ (waiting ≡ 0) → ltb (waiting - 1) l && leb l 49 ≡ false → Not ≡ entered_by stack depth waiting l
+  pub enter_no_member : ¬ (waiting ≡ 0) → ltb (waiting - 1) l && leb l 49 ≡ false → None ≡ entered_by stack depth waiting l
   enter_no_member h e = rw (eqb_no waiting 0 h, e)
 
-  pub enter_outside : waiting ≡ 0 → eqb l 1 || eqb l 77 ≡ true → Depth 0 ≡ entered_by stack depth waiting l
+  pub enter_outside : waiting ≡ 0 → eqb l 1 || eqb l 77 ≡ true → Some 0 ≡ entered_by stack depth waiting l
   enter_outside h e = rw (h, e)
 
-  pub enter_none : waiting ≡ 0 → eqb l 1 || eqb l 77 ≡ false → {d : ℕ} → d ≡ back_depth stack depth l → d ≡ 0 → Not ≡ entered_by stack depth waiting l
+  pub enter_none : waiting ≡ 0 → eqb l 1 || eqb l 77 ≡ false → {d : ℕ} → d ≡ back_depth stack depth l → d ≡ 0 → None ≡ entered_by stack depth waiting l
   enter_none h e f g = let i : back_depth stack depth l ≡ 0 = sym f ∙ g in rw (h, e, i)
 
-  pub enter-back : waiting ≡ 0 → eqb l 1 || eqb l 77 ≡ false → {d : ℕ} → d ≡ back_depth stack depth l → ¬ (d ≡ 0) → Depth d ≡ entered_by stack depth waiting l
+  pub enter-back : waiting ≡ 0 → eqb l 1 || eqb l 77 ≡ false → {d : ℕ} → d ≡ back_depth stack depth l → ¬ (d ≡ 0) → Some d ≡ entered_by stack depth waiting l
   enter-back h e {d} f g = rw (h, e, ← f, eqb_no d 0 g)
 
 -- Whether a level may stand.
@@ -96,16 +94,17 @@ enters_no_second g a b h k = rw (h, k)
 pub enters_none_88 : (g : Groups) (a b l : ℕ) → is_digit a ≡ true → is_digit b ≡ true → l ≡ 10 * (a - 0x30) + (b - 0x30) → 88 ≤ l → false ≡ enters g (a ∷ b ∷ [])
 enters_none_88 g a b l h k e m = rw (h, k, ← e, le-ltb l 88 m)
 
-module _ (stack : List ℕ) (depth waiting a b l : ℕ) (h : is_digit a ≡ true) (k : is_digit b ≡ true) (e : l ≡ 10 * (a - 0x30) + (b - 0x30)) (m : l < 88) {x : Entered}
+module _ (stack : List ℕ) (depth waiting a b l : ℕ) (h : is_digit a ≡ true) (k : is_digit b ≡ true) (e : l ≡ 10 * (a - 0x30) + (b - 0x30)) (m : l < 88) {x : Option ℕ}
     (f : x ≡ entered_by stack depth waiting l) where
   enters_is : is_some (topped_by stack l x) ≡ enters (groups_of stack depth waiting) (a ∷ b ∷ [])
   enters_is = rw (h, k, ← e, lt-ltb l 88 m, enter_is stack depth waiting l, f)
 
-  pub enters_yes : {d : ℕ} → x ≡ Depth d → true ≡ enters (groups_of stack depth waiting) (a ∷ b ∷ [])
-  enters_yes i = rw i at enters_is
-
-  pub enters_no : x ≡ Not → false ≡ enters (groups_of stack depth waiting) (a ∷ b ∷ [])
-  enters_no i = rw i at enters_is
+  pub enters_some : {r : Bool} → r ≡ has_some x → r ≡ enters (groups_of stack depth waiting) (a ∷ b ∷ [])
+  enters_some i = i ∙ by x ∙ enters_is
+    where
+      by : (y : Option ℕ) → has_some y ≡ is_some (topped_by stack l y)
+      by (Some d) = refl
+      by None = refl
 
 pub digits_of : (g : Groups) (a b : ℕ) → enters g (a ∷ b ∷ []) ≡ true → (is_digit a ≡ true) × (is_digit b ≡ true)
 digits_of g a b h = by (is_digit a && is_digit b && ltb (10 * (a - 0x30) + (b - 0x30)) 88) refl h
@@ -118,27 +117,27 @@ digits_of g a b h = by (is_digit a && is_digit b && ltb (10 * (a - 0x30) + (b - 
 pub digit_range : (b : ℕ) → is_digit b ≡ true → (0x30 ≤ b) × (b ≤ 0x39)
 digit_range b h = let k = and_both (leb 0x30 b) (leb b 0x39) h in (leb-true 0x30 b k.0, leb-true b 0x39 k.1)
 
--- The digits that may come second, from the greatest down.
+-- The digits that may come second, from the least up.
 abbrev pub second_below : Groups → ℕ → ℕ → Bool
 second_below g a n = some_below n (λ d. enters g (a ∷ (0x30 + d) ∷ []))
 
-pub second_yes : (g : Groups) (a n : ℕ) {r : Bool} → 0 < n → r ≡ second_below g a n → enters g (a ∷ (0x30 + (n - 1)) ∷ []) ≡ true → true ≡ r
+below_has : (test : ℕ → Bool) (n m : ℕ) → n < m → test n ≡ true → some_below m test ≡ true
 unfolding some_below
-second_yes g a zero h e f = absurd (omega arith)
-second_yes g a (suc n) h e f = let z : suc n - 1 ≡ n = omega arith in let i : enters g (a ∷ (0x30 + n) ∷ []) ≡ true = rw z at f in sym (e ∙ rw i)
+below_has test n zero h e = absurd (omega arith)
+below_has test n (suc m) h e = by (test m) refl (λ k. below_has test n m k e)
+  where
+    by : (t : Bool) → test m ≡ t → (n < m → some_below m test ≡ true) → t || some_below m test ≡ true
+    by true f g = refl
+    by false f g =
+        let k : ¬ (n ≡ m) = λ q. apart (rw q at e) f in
+        g (omega arith)
 
-pub second_no : (g : Groups) (a n : ℕ) {r : Bool} → 0 < n → r ≡ second_below g a n → enters g (a ∷ (0x30 + (n - 1)) ∷ []) ≡ false → r ≡ second_below g a (n - 1)
-unfolding some_below
-second_no g a zero h e f = absurd (omega arith)
-second_no g a (suc n) h e f =
-    let z : suc n - 1 ≡ n = omega arith in
-    let i : enters g (a ∷ (0x30 + n) ∷ []) ≡ false = rw z at f in
-    e ∙ rw (i, z)
+pub second_yes : (g : Groups) (a n : ℕ) → n < 10 → enters g (a ∷ (0x30 + n) ∷ []) ≡ true → true ≡ second_below g a 10
+second_yes g a n h e = sym (below_has (λ d. enters g (a ∷ (0x30 + d) ∷ [])) n 10 h e)
 
-pub second_none : (g : Groups) (a n : ℕ) {r : Bool} → n ≤ 0 → r ≡ second_below g a n → false ≡ r
+pub second_no : (g : Groups) (a n : ℕ) → second_below g a n ≡ false → enters g (a ∷ (0x30 + n) ∷ []) ≡ false → second_below g a (n + 1) ≡ false
 unfolding some_below
-second_none g a zero h e = sym e
-second_none g a (suc n) h e = absurd (omega arith)
+second_no g a n h e = rw (add-one, e) h
 
 -- A level number.
 module _ (g : Groups) (named : Bool) (text : List ℕ) (p : ℕ) {a b : ℕ} (e : a ≡ get_or text p 0) (f : b ≡ get_or text (p + 1) 0) where
@@ -181,18 +180,18 @@ back_le stack (suc d) l = by (eqb (get_or stack d 0) l) (back_le stack d l)
     by true h = omega arith
     by false h = omega arith
 
-abbrev pub AtMost : ℕ → Entered → Type 0
-AtMost n (Depth d) = d ≤ n
-AtMost n Not = Unit {0}
+abbrev pub AtMost : ℕ → Option ℕ → Type 0
+AtMost n (Some d) = d ≤ n
+AtMost n None = Unit {0}
 
 pub entered_le : (stack : List ℕ) (depth waiting l : ℕ) → AtMost (depth + 1) (entered_by stack depth waiting l)
 entered_le stack depth waiting l = by (eqb waiting 0) (eqb l 1 || eqb l 77) (ltb (waiting - 1) l && leb l 49)
   where
-    walked : (t : Bool) → AtMost (depth + 1) (cond t Not (Depth (back_depth stack depth l)))
+    walked : (t : Bool) → AtMost (depth + 1) (cond t None (Some (back_depth stack depth l)))
     walked true = tt
     walked false = omega (arith, back_le stack depth l)
 
-    by : (s t u : Bool) → AtMost (depth + 1) (cond s (cond t (Depth 0) (backed (back_depth stack depth l))) (cond u (Depth (depth + 1)) Not))
+    by : (s t u : Bool) → AtMost (depth + 1) (cond s (cond t (Some 0) (backed (back_depth stack depth l))) (cond u (Some (depth + 1)) None))
     by true true u = omega arith
     by true false u = walked (eqb (back_depth stack depth l) 0)
     by false t true = omega arith

@@ -5,22 +5,15 @@ ghost use Rattle.description.specs.Reader.{enters, begins_level};
 ghost use Rattle.description.specs.Stages.{level_at};
 ghost use Rattle.levels.specs.Stack.{groups_of};
 
-use crate::Entered;
 use crate::open::enter;
 use description::Leveled;
 use text_bytes::bytes::{byte_at, is_digit};
-
-fn wide(b: u8) -> u32
-    ensures { result ≡ b }
-{
-    b as u32
-}
 
 fn two_digits(a: u8, b: u8) -> u32
     requires { (is_digit a ≡ true) × (is_digit b ≡ true) }
     ensures { result ≡ 10 * (a - 0x30) + (b - 0x30) }
 {
-    10 * (wide(a) - 0x30) + (wide(b) - 0x30)
+    10 * u32::from(a - 0x30) + u32::from(b - 0x30)
 }
 
 // Whether the two bytes are a level number that may stand here.
@@ -38,10 +31,7 @@ fn enters_with(stack: &[u32], depth: usize, waiting: u32, a: u8, b: u8) -> bool
     if 88 <= level {
         return false;
     }
-    match enter(stack, depth, waiting, level) {
-        Entered::Depth(_) => true,
-        Entered::Not => false,
-    }
+    enter(stack, depth, waiting, level).is_some()
 }
 
 // Whether a level number that may stand here begins with this byte.
@@ -49,9 +39,7 @@ fn begins_with(stack: &[u32], depth: usize, waiting: u32, a: u8) -> bool
     requires { depth ≤ length stack.now }
     ensures { result ≡ begins_level (groups_of stack.now depth waiting) (a ∷ []) }
 {
-    let mut n: u8 = 10;
-    while 0 < n {
-        n -= 1;
+    for n in 0..10 {
         if enters_with(stack, depth, waiting, a, 0x30 + n) {
             return true;
         }

@@ -3,10 +3,3 @@
 
 pub mod level; // a level number in a text
 pub mod open; // the groups that are open at an entry
-
-// How many groups are open at an entry, where its level may stand.
-#[derive(Clone, Copy)]
-pub enum Entered {
-    Depth(usize),
-    Not,
-}

@@ -12,8 +12,7 @@ pub fn copy_rows(notes: &[u32], n: usize, to: &mut [u32])
     requires { (n * 7 ≤ length notes.now) × (n * row_width ≤ length to.old) }
     ensures { to.new ≡ rows_from notes.now 0 n ++ drop (n * row_width) to.old }
 {
-    let mut i: usize = 0;
-    while i < n {
+    for i in 0..n {
         let from = i * 7;
         let at = i * Row::WIDTH;
         to[at] = notes[from];
@@ -21,14 +20,7 @@ pub fn copy_rows(notes: &[u32], n: usize, to: &mut [u32])
         to[at + 2] = notes[from + 2];
         to[at + 3] = notes[from + 3];
         to[at + 4] = notes[from + 4];
-        i += 1;
     }
-}
-
-fn wide(x: u32) -> usize
-    ensures { result ≡ x }
-{
-    x as usize
 }
 
 // The row of literal i.
@@ -51,13 +43,11 @@ pub fn copy_words(text: &[u8], notes: &[u32], n: usize, to: &mut [u8])
     requires { Words text.now notes.now n × (length (bytes_from text.now notes.now 0 n) ≤ length to.old) }
     ensures { to.new ≡ written_over (bytes_from text.now notes.now 0 n) to.old }
 {
-    let mut i: usize = 0;
-    while i < n {
+    for i in 0..n {
         let note = i * 7;
-        let at = wide(notes[note + 1]);
-        let from = wide(notes[note + 5]);
-        let until = wide(notes[note + 6]);
+        let at = notes[note + 1] as usize;
+        let from = notes[note + 5] as usize;
+        let until = notes[note + 6] as usize;
         copy_literal(noted_row(notes, i), &text[from..until], &mut to[at..]);
-        i += 1;
     }
 }

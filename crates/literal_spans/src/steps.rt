@@ -67,14 +67,15 @@ pub(crate) fn spell(rest: &[u8]) -> Span
     ensures { (result.length ≡ spelled_far 0 rest.now) × (result.state ≡ spelled_state 0 rest.now) }
 {
     let mut state: u32 = 0;
-    let mut k: usize = 0;
-    while k < rest.len() {
-        let next = step(state, rest[k]);
+    for (k, b) in rest.iter().enumerate() {
+        let next = step(state, *b);
         if next == 8 {
             return Span { length: k, state };
         }
         state = next;
-        k += 1;
     }
-    Span { length: k, state }
+    Span {
+        length: rest.len(),
+        state,
+    }
 }

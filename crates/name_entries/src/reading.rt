@@ -28,6 +28,7 @@ fn read_values(
 {
     let mut tally = start;
     let mut at = n;
+    // Where the next value begins depends on what is read.
     loop {
         match value_at(text, at)? {
             ValueRead::Open { found, end } => {

@@ -7,11 +7,7 @@ pub fn copy_numbers(from: &[u32], n: usize, to: &mut [u32])
     requires { (n ≤ length from.now) × (n ≤ length to.old) }
     ensures { to.new ≡ take n from.now ++ drop n to.old }
 {
-    let mut i: usize = 0;
-    while i < n {
-        to[i] = from[i];
-        i += 1;
-    }
+    to[..n].copy_from_slice(&from[..n]);
 }
 
 // The place of each entry's name or FILLER.
@@ -19,10 +15,7 @@ pub fn copy_named(entries: &[u32], n: usize, to: &mut [u32])
     requires { (n * 7 ≤ length entries.now) × (n ≤ length to.old) }
     ensures { to.new ≡ map named_of (noted_from entries.now 0 n) ++ drop n to.old }
 {
-    let mut i: usize = 0;
-    while i < n {
-        let at = i * 7;
-        to[i] = entries[at + 2];
-        i += 1;
+    for i in 0..n {
+        to[i] = entries[i * 7 + 2];
     }
 }

@@ -1,8 +1,8 @@
 -- The code's step and end of a picture are the definition's, with counts that stop at 131,072.
 use mathlib.Core.Path.{◌≡◌, refl, sym, ap, ◌∙◌}
 use mathlib.Core.Bool.{Bool, true, false, cond}
-use mathlib.Core.Option
-use mathlib.Core.Option.{Option, none, some}
+use mathlib.Core.Option as maybe
+use mathlib.Core.Option.{none, some}
 use mathlib.Core.List.{List, [], ◌∷◌, ◌++◌}
 use Prim.Native.Nat.{ℕ, zero, suc, ◌+◌, ◌-◌, ◌≤◌, ◌<◌, min}
 use native.Mathlib.Omega.{arith}
@@ -25,39 +25,33 @@ use Rattle.pictures.specs.Drawings.{drew, point_after, on_letters, on_pointed, o
 use Rattle.pictures.specs.Drawings.{number_kind, letters_end, end_with, drawn_end, cap_pending, cap_tally, cap_drawn, cap_pictured, draws, sketch}
 use Rattle.pictures.specs.declared.Pending.TheVariants.{Settled, Last, Counting}
 use Rattle.pictures.specs.declared.Tally.{Tally}
-use Rattle.pictures.specs.declared.Tallied.{Tallied}
-use Rattle.pictures.specs.declared.Tallied.TheVariants as Tallied
-use Rattle.pictures.specs.declared.Counted.{Counted}
-use Rattle.pictures.specs.declared.Counted.TheVariants.{Times, Open}
 use Rattle.pictures.specs.declared.Drawn.{Drawn}
 use Rattle.pictures.specs.declared.Drawn.TheVariants.{Nothing, Letters, Whole, Pointed}
-use Rattle.pictures.specs.declared.Drew.{Drew}
-use Rattle.pictures.specs.declared.Drew.TheVariants.{On, Stuck}
 use Rattle.pictures.specs.declared.Sketch.{Sketch}
 use Rattle.pictures.proofs.Saturates.{shown, saturates}
-use Rattle.std.specs.Prelude.{Result, Ok, Err}
+use Rattle.std.specs.Prelude.{Result, Ok, Err, Option, Some, None}
 
-abbrev pub cap_o : Option R.Drawn → Drew
-cap_o none = Stuck
-cap_o (some d) = On (cap_drawn d)
+abbrev pub cap_o : maybe.Option R.Drawn → Option Drawn
+cap_o none = None
+cap_o (some d) = Some (cap_drawn d)
 
-abbrev cap_total : Option ℕ → Counted
-cap_total none = Open
-cap_total (some n) = Times (cap n)
+abbrev cap_total : maybe.Option ℕ → Option ℕ
+cap_total none = None
+cap_total (some n) = Some (cap n)
 
 total_caps : (n : ℕ) (p : R.Pending) → total_of (made (cap n) (cap_pending p)) ≡ cap_total (R.total n p)
 total_caps n R.settled = refl
 total_caps n R.last = let z : cap (cap n + 1) ≡ cap (suc n) = omega arith in rw z
 total_caps n (R.counting v) = refl
 
-drew_caps : (f : R.Tally → R.Drawn) (g : Tally → Drawn) → ((t : R.Tally) → cap_drawn (f t) ≡ g (cap_tally t)) → (o : Option R.Tally) → drew g (shown o) ≡ cap_o (bind o (λ u. some (f u)))
+drew_caps : (f : R.Tally → R.Drawn) (g : Tally → Drawn) → ((t : R.Tally) → cap_drawn (f t) ≡ g (cap_tally t)) → (o : maybe.Option R.Tally) → drew g (shown o) ≡ cap_o (bind o (λ u. some (f u)))
 drew_caps f g h none = refl
-drew_caps f g h (some t) = ap On (sym (h t))
+drew_caps f g h (some t) = ap Some (sym (h t))
 
 number_caps : (s : Bool) (t : R.Tally) (b : ℕ) → on_number s (cap_tally t) b ≡ cap_o (R.draw_number s t b)
 number_caps s t b = rw (saturates 0x39 t.count t.pending b, total_caps t.count t.pending) (by (eqb b 0x56))
   where
-    point : (o : Option ℕ) → point_after s (cap_total o) ≡ cap_o (bind o (λ m. some (R.pointed s m (R.tally 0 R.settled))))
+    point : (o : maybe.Option ℕ) → point_after s (cap_total o) ≡ cap_o (bind o (λ m. some (R.pointed s m (R.tally 0 R.settled))))
     point none = refl
     point (some m) = refl
 
@@ -70,7 +64,7 @@ number_caps s t b = rw (saturates 0x39 t.count t.pending b, total_caps t.count t
 first_caps : (b : ℕ) → on_first b ≡ cap_o (R.draw R.nothing b)
 first_caps b = by (eqb b 0x58) (eqb b 0x41) (eqb b 0x53)
   where
-    by : (x a s : Bool) → cond x (On (Letters 0x58 (made 0 Last))) (cond a (On (Letters 0x41 (made 0 Last))) (cond s (On (Whole true (made 0 Settled))) (on_number false (made 0 Settled) b)))
+    by : (x a s : Bool) → cond x (Some (Letters 0x58 (made 0 Last))) (cond a (Some (Letters 0x41 (made 0 Last))) (cond s (Some (Whole true (made 0 Settled))) (on_number false (made 0 Settled) b)))
         ≡ cap_o (cond x (some (R.letters R.letter_x (R.tally 0 R.last)))
         (cond a (some (R.letters R.letter_a (R.tally 0 R.last))) (cond s (some (R.whole true (R.tally 0 R.settled))) (R.draw_number false (R.tally 0 R.settled) b))))
     by true a s = refl
@@ -113,17 +107,17 @@ pub end_caps : (d : R.Drawn) (k : ℕ) (p : Bool) → drawn_end (cap_drawn d) k 
 end_caps R.nothing k p = refl
 end_caps (R.letters c t) k p = rw (total_caps t.count t.pending) (by (R.total t.count t.pending))
   where
-    by : (o : Option ℕ) → end_with (λ n. letters_end (R.letter_byte c) n k p) k (cap_total o) ≡ cap_pictured (pictured k (bind o (λ n. R.positive n (characters (R.letter_kind c) n))) p)
+    by : (o : maybe.Option ℕ) → end_with (λ n. letters_end (R.letter_byte c) n k p) k (cap_total o) ≡ cap_pictured (pictured k (bind o (λ n. R.positive n (characters (R.letter_kind c) n))) p)
     by none = refl
     by (some n) = letters_caps c n k p
 end_caps (R.whole s t) k p = rw (total_caps t.count t.pending) (by (R.total t.count t.pending))
   where
-    by : (o : Option ℕ) → end_with (λ m. number_end s m 0 k p) k (cap_total o) ≡ cap_pictured (pictured k (bind o (λ m. R.positive m (number s m 0))) p)
+    by : (o : maybe.Option ℕ) → end_with (λ m. number_end s m 0 k p) k (cap_total o) ≡ cap_pictured (pictured k (bind o (λ m. R.positive m (number s m 0))) p)
     by none = refl
     by (some m) = digits_caps s m 0 m k p (omega arith)
 end_caps (R.pointed s m t) k p = rw (total_caps t.count t.pending) (by (R.total t.count t.pending))
   where
-    by : (o : Option ℕ) → end_with (λ n. number_end s (cap m) n k p) k (cap_total o) ≡ cap_pictured (pictured k (bind o (λ n. R.positive (m + n) (number s m n))) p)
+    by : (o : maybe.Option ℕ) → end_with (λ n. number_end s (cap m) n k p) k (cap_total o) ≡ cap_pictured (pictured k (bind o (λ n. R.positive (m + n) (number s m n))) p)
     by none = refl
     by (some n) = digits_caps s m n (m + n) k p refl
 
@@ -140,18 +134,18 @@ small_caps (R.whole s t) = small_pending t.count t.pending
 small_caps (R.pointed s m t) = (omega arith, small_pending t.count t.pending)
 
 -- The state after some bytes, as the code has it.
-on_is : {d : Drawn} (o : Option R.Drawn) → On d ≡ cap_o o → d ≡ cap_drawn (Option.get_or o R.nothing)
+on_is : {d : Drawn} (o : maybe.Option R.Drawn) → Some d ≡ cap_o o → d ≡ cap_drawn (maybe.get_or o R.nothing)
 on_is none e = let z : ◌≡◌ {A = ℕ} 0 1 = cc in absurd (omega arith)
 on_is (some x) e = cc
 
-pub on_small : {d : Drawn} (o : Option R.Drawn) → On d ≡ cap_o o → SmallDrawn d
-on_small o e = rw (on_is o e) (small_caps (Option.get_or o R.nothing))
+pub on_small : {d : Drawn} (o : maybe.Option R.Drawn) → Some d ≡ cap_o o → SmallDrawn d
+on_small o e = rw (on_is o e) (small_caps (maybe.get_or o R.nothing))
 
-on_some : {d : Drawn} (o : Option R.Drawn) → On d ≡ cap_o o → is_some o ≡ true
+on_some : {d : Drawn} (o : maybe.Option R.Drawn) → Some d ≡ cap_o o → is_some o ≡ true
 on_some none e = let z : ◌≡◌ {A = ℕ} 0 1 = cc in absurd (omega arith)
 on_some (some x) e = refl
 
-stuck_none : (o : Option R.Drawn) → Stuck ≡ cap_o o → is_some o ≡ false
+stuck_none : (o : maybe.Option R.Drawn) → None ≡ cap_o o → is_some o ≡ false
 stuck_none none e = refl
 stuck_none (some x) e = let z : ◌≡◌ {A = ℕ} 0 1 = cc in absurd (omega arith)
 
@@ -159,21 +153,21 @@ after_snoc : (s : R.Drawn) (u : List ℕ) (b : ℕ) → after pictures s (u ++ b
 unfolding after
 after_snoc s [] b = by (R.draw s b)
   where
-    by : (o : Option R.Drawn) → bind o (λ t. some t) ≡ o
+    by : (o : maybe.Option R.Drawn) → bind o (λ t. some t) ≡ o
     by none = refl
     by (some t) = refl
 after_snoc s (a ∷ u) b = by (R.draw s a) (λ t. after_snoc t u b)
   where
-    by : (o : Option R.Drawn) → ((t : R.Drawn) → after pictures t (u ++ b ∷ []) ≡ bind (after pictures t u) (λ t. R.draw t b)) →
+    by : (o : maybe.Option R.Drawn) → ((t : R.Drawn) → after pictures t (u ++ b ∷ []) ≡ bind (after pictures t u) (λ t. R.draw t b)) →
         bind o (λ t. after pictures t (u ++ b ∷ [])) ≡ bind (bind o (λ t. after pictures t u)) (λ t. R.draw t b)
     by none f = refl
     by (some t) f = f t
 
-module _ (bs : List ℕ) (k : ℕ) (l : k < length bs) {d : Drawn} {r : Drew} (e : On d ≡ cap_o (after pictures R.nothing (take k bs))) (f : r ≡ on_drawn d (get_or bs k 0)) where
+module _ (bs : List ℕ) (k : ℕ) (l : k < length bs) {d : Drawn} {r : Option Drawn} (e : Some d ≡ cap_o (after pictures R.nothing (take k bs))) (f : r ≡ on_drawn d (get_or bs k 0)) where
   step_caps : r ≡ cap_o (after pictures R.nothing (take (k + 1) bs))
   step_caps = rw (add-one, take-suc bs k 0, after_snoc R.nothing (take k bs) (get_or bs k 0)) (f ∙ by (after pictures R.nothing (take k bs)) e)
     where
-      by : (o : Option R.Drawn) → On d ≡ cap_o o → on_drawn d (get_or bs k 0) ≡ cap_o (bind o (λ t. R.draw t (get_or bs k 0)))
+      by : (o : maybe.Option R.Drawn) → Some d ≡ cap_o o → on_drawn d (get_or bs k 0) ≡ cap_o (bind o (λ t. R.draw t (get_or bs k 0)))
       by none e = let z : ◌≡◌ {A = ℕ} 0 1 = cc in absurd (omega arith)
       by (some x) e = let i : d ≡ cap_drawn x = cc in rw i (draw_caps x (get_or bs k 0))
 
@@ -184,21 +178,21 @@ module _ (bs : List ℕ) (k : ℕ) (l : k < length bs) {d : Drawn} {r : Drew} (e
   snoc_is = rw (add-one, take-suc bs k 0)
 
   -- a byte that goes on
-  pub goes_on : {x : Drawn} → so_far → r ≡ On x → (reach draws [] bs ≡ (k + 1) + reach draws (take (k + 1) bs) (drop (k + 1) bs)) × (On x ≡ cap_o (after pictures R.nothing (take (k + 1) bs)))
+  pub goes_on : {x : Drawn} → so_far → r ≡ Some x → (reach draws [] bs ≡ (k + 1) + reach draws (take (k + 1) bs) (drop (k + 1) bs)) × (Some x ≡ cap_o (after pictures R.nothing (take (k + 1) bs)))
   unfolding reach
   goes_on h g =
       let i = sym g ∙ step_caps in
       (h ∙ rw (drop-cons bs k 0, snoc_is, on_some (after pictures R.nothing (take (k + 1) bs)) i, add-one) (omega arith), i)
 
   -- a byte that does not
-  pub gets_stuck : so_far → r ≡ Stuck → record { len = k; drawn = d } ≡ sketch bs
+  pub gets_stuck : so_far → r ≡ None → record { len = k; drawn = d } ≡ sketch bs
   unfolding reach
   gets_stuck h g =
       let i = sym g ∙ step_caps in
       let j : reach draws [] bs ≡ k = h ∙ rw (drop-cons bs k 0, snoc_is, stuck_none (after pictures R.nothing (take (k + 1) bs)) i) (omega arith) in
       rw (j, on_is (after pictures R.nothing (take k bs)) e)
 
-pub all_read : (bs : List ℕ) (k : ℕ) {d : Drawn} → length bs ≤ k → On d ≡ cap_o (after pictures R.nothing (take k bs)) → reach draws [] bs ≡ k + reach draws (take k bs) (drop k bs) →
+pub all_read : (bs : List ℕ) (k : ℕ) {d : Drawn} → length bs ≤ k → Some d ≡ cap_o (after pictures R.nothing (take k bs)) → reach draws [] bs ≡ k + reach draws (take k bs) (drop k bs) →
     record { len = k; drawn = d } ≡ sketch bs
 unfolding reach
 all_read bs k l e h =
@@ -218,7 +212,7 @@ lives bs = by (reach draws [] bs) (reached draws [] bs)
     by (suc m) f = f (omega arith)
 
 pub sketch_small : (bs : List ℕ) {s : Sketch} → s ≡ sketch bs → SmallDrawn s.drawn
-sketch_small bs e = rw e (small_caps (Option.get_or (after pictures R.nothing (take (reach draws [] bs) bs)) R.nothing))
+sketch_small bs e = rw e (small_caps (maybe.get_or (after pictures R.nothing (take (reach draws [] bs) bs)) R.nothing))
 
 pub sketch_le : (text : List ℕ) (p : ℕ) {s : Sketch} → p ≤ length text → s ≡ sketch (take (length text - p) (drop p text)) → p + s.len ≤ length text
 sketch_le text p {s} l e =
@@ -231,8 +225,8 @@ unfolding result
 picture_some text n p s t e h f g i = rw (← e, eqb_no p n h)
     (i ∙ rw (g, f, part_from text p) (by (after pictures R.nothing (take (reach draws [] (drop p text)) (drop p text))) (lives (drop p text))))
   where
-    by : (o : Option R.Drawn) → is_some o ≡ true →
-        drawn_end (cap_drawn (Option.get_or o R.nothing)) (p + reach draws [] (drop p text)) (is_period text (p + reach draws [] (drop p text)))
+    by : (o : maybe.Option R.Drawn) → is_some o ≡ true →
+        drawn_end (cap_drawn (maybe.get_or o R.nothing)) (p + reach draws [] (drop p text)) (is_period text (p + reach draws [] (drop p text)))
         ≡ cap_pictured (pictured (p + reach draws [] (drop p text)) (bind o R.drawn) (is_period text (p + reach draws [] (drop p text))))
     by none j = apart j refl
     by (some x) j = end_caps x (p + reach draws [] (drop p text)) (is_period text (p + reach draws [] (drop p text)))

@@ -1,4 +1,2 @@
-pub mod Laws
 pub mod Saturates
-pub mod Sketches
 pub mod Caps

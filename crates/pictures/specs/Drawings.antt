@@ -1,6 +1,6 @@
 -- The step of a picture with counts that stop at 131,072, and what a picture is where it ends.
-use Rattle.std.specs.Prelude.{Bool, true, false, cond, List, [], ℕ, ◌+◌, ◌≤◌, eqb, take, Result, Ok, Err}
-use Rattle.std.proofs.Math.Option.{Option, none, some, get_or}
+use Rattle.std.specs.Prelude.{Bool, true, false, cond, List, [], Option, Some, None, ℕ, ◌+◌, ◌≤◌, eqb, take, Result, Ok, Err}
+use Rattle.std.proofs.Math.Option.{get_or}
 use Rattle.description.specs.Machine.{after}
 use Rattle.description.specs.Reader as R
 use Rattle.description.specs.Reader.{is_some, pictures}
@@ -11,43 +11,37 @@ use Rattle.pictures.specs.Steps.{cap, made, on_tally, total_of, Small}
 use Rattle.pictures.specs.declared.Pending.{Pending}
 use Rattle.pictures.specs.declared.Pending.TheVariants.{Settled, Last, Counting}
 use Rattle.pictures.specs.declared.Tally.{Tally}
-use Rattle.pictures.specs.declared.Tallied.{Tallied}
-use Rattle.pictures.specs.declared.Tallied.TheVariants as Tallied
-use Rattle.pictures.specs.declared.Counted.{Counted}
-use Rattle.pictures.specs.declared.Counted.TheVariants.{Times, Open}
 use Rattle.pictures.specs.declared.Drawn.{Drawn}
 use Rattle.pictures.specs.declared.Drawn.TheVariants.{Nothing, Letters, Whole, Pointed}
-use Rattle.pictures.specs.declared.Drew.{Drew}
-use Rattle.pictures.specs.declared.Drew.TheVariants.{On, Stuck}
 use Rattle.pictures.specs.declared.Sketch.{Sketch}
 
-abbrev pub drew : (Tally → Drawn) → Tallied → Drew
-drew f (Tallied.On t) = On (f t)
-drew f Tallied.Stuck = Stuck
+abbrev pub drew : (Tally → Drawn) → Option Tally → Option Drawn
+drew f (Some t) = Some (f t)
+drew f None = None
 
-abbrev pub on_letters : ℕ → Tally → ℕ → Drew
+abbrev pub on_letters : ℕ → Tally → ℕ → Option Drawn
 on_letters c t b = drew (Letters c) (on_tally c t b)
 
-abbrev pub on_pointed : Bool → ℕ → Tally → ℕ → Drew
+abbrev pub on_pointed : Bool → ℕ → Tally → ℕ → Option Drawn
 on_pointed s m t b = drew (Pointed s m) (on_tally 0x39 t b)
 
-abbrev pub point_after : Bool → Counted → Drew
-point_after s (Times m) = On (Pointed s m (made 0 Settled))
-point_after s Open = Stuck
+abbrev pub point_after : Bool → Option ℕ → Option Drawn
+point_after s (Some m) = Some (Pointed s m (made 0 Settled))
+point_after s None = None
 
-abbrev pub on_point : Bool → Tally → Drew
+abbrev pub on_point : Bool → Tally → Option Drawn
 on_point s t = point_after s (total_of t)
 
-abbrev pub on_number : Bool → Tally → ℕ → Drew
+abbrev pub on_number : Bool → Tally → ℕ → Option Drawn
 on_number s t b = cond (eqb b 0x56) (on_point s t) (drew (Whole s) (on_tally 0x39 t b))
 
-abbrev pub on_first : ℕ → Drew
+abbrev pub on_first : ℕ → Option Drawn
 on_first b =
-    cond (eqb b 0x58) (On (Letters 0x58 (made 0 Last)))
-    (cond (eqb b 0x41) (On (Letters 0x41 (made 0 Last)))
-    (cond (eqb b 0x53) (On (Whole true (made 0 Settled))) (on_number false (made 0 Settled) b)))
+    cond (eqb b 0x58) (Some (Letters 0x58 (made 0 Last)))
+    (cond (eqb b 0x41) (Some (Letters 0x41 (made 0 Last)))
+    (cond (eqb b 0x53) (Some (Whole true (made 0 Settled))) (on_number false (made 0 Settled) b)))
 
-abbrev pub on_drawn : Drawn → ℕ → Drew
+abbrev pub on_drawn : Drawn → ℕ → Option Drawn
 on_drawn Nothing b = on_first b
 on_drawn (Letters c t) b = on_letters c t b
 on_drawn (Whole s t) b = on_number s t b
@@ -72,9 +66,9 @@ abbrev pub letters_end : ℕ → ℕ → ℕ → Bool → Result Pictured ℕ
 letters_end c n k period =
     cond (eqb n 0) (Err k) (cond period (Ok (Pictured.Ended (clauses (cond (eqb c 0x58) 2 1) n 0 0 (k + 1)))) (Err k))
 
-abbrev pub end_with : (ℕ → Result Pictured ℕ) → ℕ → Counted → Result Pictured ℕ
-end_with f k (Times n) = f n
-end_with f k Open = Err k
+abbrev pub end_with : (ℕ → Result Pictured ℕ) → ℕ → Option ℕ → Result Pictured ℕ
+end_with f k (Some n) = f n
+end_with f k None = Err k
 
 abbrev pub drawn_end : Drawn → ℕ → Bool → Result Pictured ℕ
 drawn_end Nothing k period = Err k

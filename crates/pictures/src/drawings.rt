@@ -4,77 +4,64 @@ ghost use Rattle.pictures.specs.Steps.{Small, total_of};
 ghost use Rattle.pictures.specs.Drawings.{SmallDrawn, on_letters, on_pointed, on_point, on_number, on_first, on_drawn, number_end, letters_end, drawn_end};
 
 use crate::tallies::{capped, read_byte};
-use crate::{Counted, Drawn, Drew, Pending, Tallied, Tally};
+use crate::{Drawn, Pending, Tally};
 use content::Row;
 use description::{Clauses, Pictured};
 
-fn total(t: Tally) -> Counted
+fn total(t: Tally) -> Option<u32>
     requires { Small t }
     ensures { result ≡ total_of t }
 {
     let n = t.count;
     let p = t.pending;
     match p {
-        Pending::Settled => Counted::Times(n),
-        Pending::Last => {
-            let m = capped(n + 1);
-            Counted::Times(m)
-        }
-        Pending::Counting(_) => Counted::Open,
+        Pending::Settled => Some(n),
+        Pending::Last => Some(capped(n + 1)),
+        Pending::Counting(_) => None,
     }
 }
 
-fn letters(c: u8, t: Tally, b: u8) -> Drew
+fn letters(c: u8, t: Tally, b: u8) -> Option<Drawn>
     requires { Small t }
     ensures { result ≡ on_letters c t b }
 {
-    match read_byte(c, t, b) {
-        Tallied::On(u) => Drew::On(Drawn::Letters(c, u)),
-        Tallied::Stuck => Drew::Stuck,
-    }
+    let u = read_byte(c, t, b)?;
+    Some(Drawn::Letters(c, u))
 }
 
-fn pointed(signed: bool, before: u32, t: Tally, b: u8) -> Drew
+fn pointed(signed: bool, before: u32, t: Tally, b: u8) -> Option<Drawn>
     requires { Small t }
     ensures { result ≡ on_pointed signed before t b }
 {
-    match read_byte(0x39, t, b) {
-        Tallied::On(u) => Drew::On(Drawn::Pointed(signed, before, u)),
-        Tallied::Stuck => Drew::Stuck,
-    }
+    let u = read_byte(0x39, t, b)?;
+    Some(Drawn::Pointed(signed, before, u))
 }
 
 // V after the digits that stand before it.
-fn point(signed: bool, t: Tally) -> Drew
+fn point(signed: bool, t: Tally) -> Option<Drawn>
     requires { Small t }
     ensures { result ≡ on_point signed t }
 {
-    match total(t) {
-        Counted::Times(m) => {
-            let none = Tally {
-                count: 0,
-                pending: Pending::Settled,
-            };
-            Drew::On(Drawn::Pointed(signed, m, none))
-        }
-        Counted::Open => Drew::Stuck,
-    }
+    let m = total(t)?;
+    let none = Tally {
+        count: 0,
+        pending: Pending::Settled,
+    };
+    Some(Drawn::Pointed(signed, m, none))
 }
 
-fn number(signed: bool, t: Tally, b: u8) -> Drew
+fn number(signed: bool, t: Tally, b: u8) -> Option<Drawn>
     requires { Small t }
     ensures { result ≡ on_number signed t b }
 {
     if b == 0x56 {
         return point(signed, t);
     }
-    match read_byte(0x39, t, b) {
-        Tallied::On(u) => Drew::On(Drawn::Whole(signed, u)),
-        Tallied::Stuck => Drew::Stuck,
-    }
+    let u = read_byte(0x39, t, b)?;
+    Some(Drawn::Whole(signed, u))
 }
 
-fn first(b: u8) -> Drew
+fn first(b: u8) -> Option<Drawn>
     ensures { result ≡ on_first b }
 {
     let one = Tally {
@@ -82,23 +69,23 @@ fn first(b: u8) -> Drew
         pending: Pending::Last,
     };
     if b == 0x58 {
-        return Drew::On(Drawn::Letters(0x58, one));
+        return Some(Drawn::Letters(0x58, one));
     }
     if b == 0x41 {
-        return Drew::On(Drawn::Letters(0x41, one));
+        return Some(Drawn::Letters(0x41, one));
     }
     let none = Tally {
         count: 0,
         pending: Pending::Settled,
     };
     if b == 0x53 {
-        return Drew::On(Drawn::Whole(true, none));
+        return Some(Drawn::Whole(true, none));
     }
     number(false, none, b)
 }
 
 // One byte of a picture.
-pub(crate) fn draw_byte(d: Drawn, b: u8) -> Drew
+pub(crate) fn draw_byte(d: Drawn, b: u8) -> Option<Drawn>
     requires { SmallDrawn d }
     ensures { result ≡ on_drawn d b }
 {
@@ -166,16 +153,16 @@ pub(crate) fn drawn_end(d: Drawn, k: usize, period: bool) -> Result<Pictured, us
     match d {
         Drawn::Nothing => Err(k),
         Drawn::Letters(c, t) => match total(t) {
-            Counted::Times(n) => letters_end(c, n, k, period),
-            Counted::Open => Err(k),
+            Some(n) => letters_end(c, n, k, period),
+            None => Err(k),
         },
         Drawn::Whole(s, t) => match total(t) {
-            Counted::Times(m) => number_end(s, m, 0, k, period),
-            Counted::Open => Err(k),
+            Some(m) => number_end(s, m, 0, k, period),
+            None => Err(k),
         },
         Drawn::Pointed(s, m, t) => match total(t) {
-            Counted::Times(n) => number_end(s, m, n, k, period),
-            Counted::Open => Err(k),
+            Some(n) => number_end(s, m, n, k, period),
+            None => Err(k),
         },
     }
 }

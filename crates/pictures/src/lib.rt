@@ -6,35 +6,22 @@ pub mod scan; // a picture in a text
 pub mod tallies; // one byte of a repeated character and its counts
 
 // Of one repeated character: whether the last one stands alone so far, or its count is being read.
-#[derive(Clone, Copy)]
+#[derive(Debug, Clone, Copy, PartialEq, Eq)]
 pub enum Pending {
     Settled,
     Last,
     Counting(u32),
 }
 
-#[derive(Clone, Copy)]
+#[derive(Debug, Clone, Copy, PartialEq, Eq)]
 pub struct Tally {
     pub count: u32,
     pub pending: Pending,
 }
 
-#[derive(Clone, Copy)]
-pub enum Tallied {
-    On(Tally),
-    Stuck,
-}
-
-// How often a repeated character stands, where no count is being read.
-#[derive(Clone, Copy)]
-pub enum Counted {
-    Times(u32),
-    Open,
-}
-
 // What has been read of a picture: nothing; X or A; 9s before V, signed or not; 9s after it, and how many
 // digits stand before.
-#[derive(Clone, Copy)]
+#[derive(Debug, Clone, Copy, PartialEq, Eq)]
 pub enum Drawn {
     Nothing,
     Letters(u8, Tally),
@@ -42,14 +29,8 @@ pub enum Drawn {
     Pointed(bool, u32, Tally),
 }
 
-#[derive(Clone, Copy)]
-pub enum Drew {
-    On(Drawn),
-    Stuck,
-}
-
 // A picture in a text: how many bytes it goes on for, and what has been read of it there.
-#[derive(Clone, Copy)]
+#[derive(Debug, Clone, Copy, PartialEq, Eq)]
 pub struct Sketch {
     pub len: usize,
     pub drawn: Drawn,

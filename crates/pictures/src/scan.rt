@@ -4,7 +4,7 @@ ghost use Rattle.description.specs.Stages.{picture_at};
 ghost use Rattle.pictures.specs.Drawings.{sketch, cap_pictured};
 
 use crate::drawings::{draw_byte, drawn_end};
-use crate::{Drawn, Drew, Sketch};
+use crate::{Drawn, Sketch};
 use description::Pictured;
 use text_bytes::blanks::next_ink;
 use words::names::period_at;
@@ -14,19 +14,16 @@ fn sketched(rest: &[u8]) -> Sketch
     ensures { result ≡ sketch rest.now }
 {
     let mut d = Drawn::Nothing;
-    let mut k: usize = 0;
-    while k < rest.len() {
-        match draw_byte(d, rest[k]) {
-            Drew::On(e) => {
-                d = e;
-                k += 1;
-            }
-            Drew::Stuck => {
-                return Sketch { len: k, drawn: d };
-            }
+    for (k, b) in rest.iter().enumerate() {
+        match draw_byte(d, *b) {
+            Some(e) => d = e,
+            None => return Sketch { len: k, drawn: d },
         }
     }
-    Sketch { len: k, drawn: d }
+    Sketch {
+        len: rest.len(),
+        drawn: d,
+    }
 }
 
 // The picture of an item, after a blank at n. Its counts stop at 131,072.

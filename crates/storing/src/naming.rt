@@ -61,11 +61,7 @@ fn put_row(names: &mut [u32], i: usize, row: &[u32])
     ensures { names.new ≡ sets names.old (i * name_width) row.now }
 {
     let at = i * NAME_WIDTH;
-    let mut k: usize = 0;
-    while k < NAME_WIDTH {
-        names[at + k] = row[k];
-        k += 1;
-    }
+    names[at..at + NAME_WIDTH].copy_from_slice(row);
 }
 
 // The row of a name, whose pairs are in `row`, and the place of the name.

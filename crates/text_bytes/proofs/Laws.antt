@@ -1,10 +1,12 @@
 -- Laws of blanks and places over plain lists.
-use mathlib.Core.Path.{◌≡◌, sym, ◌∙◌}
+use mathlib.Core.Path.{◌≡◌, refl, sym, ◌∙◌}
 use mathlib.Core.Bool.{Bool, true, false, cond}
 use mathlib.Core.List.{List, [], ◌∷◌}
-use Prim.Native.Nat.{ℕ, suc, ◌+◌, ◌-◌, ◌≤◌, ◌<◌}
+use Prim.Native.Nat.{ℕ, suc, ◌+◌, ◌-◌, ◌≤◌, ◌<◌, max}
 use native.Mathlib.Omega.{arith}
 use native.Mathlib.Numerals.{add-one}
+use borrow.Author.Tests.{leb-true, leb-false}
+use lib.Dec.{leb}
 use lib.ListN.{length, get_or, take, drop, length-drop, drop_of_length-le, get_or-eq_default}
 use lib.Seq.{drop-cons, take_all}
 use Rattle.description.specs.Grammar.{is_blank}
@@ -19,9 +21,13 @@ pub blank_stop : (text : List ℕ) (n k : ℕ) → k < length text → is_blank 
 unfolding blanks
 blank_stop text n k l h e = sym (e ∙ rw (drop-cons text k 0 l, h) (omega arith))
 
-pub blank_end : (text : List ℕ) (n k : ℕ) → length text ≤ k → inked text n ≡ inked text k → k ≡ inked text n
+pub blank_end : (text : List ℕ) (n k : ℕ) {m : ℕ} → n ≤ k → (n ≤ length text → k ≤ length text) → length text ≤ k → inked text n ≡ inked text k → m ≡ max n (length text) → m ≡ inked text n
 unfolding blanks
-blank_end text n k l e = sym (e ∙ rw (drop_of_length-le text l) (omega arith))
+blank_end text n k {m} h f l e q = by (leb n (length text)) refl
+  where
+    by : (t : Bool) → leb n (length text) ≡ t → m ≡ inked text n
+    by true g = let i : k ≤ length text = f (leb-true n (length text) g) in sym (e ∙ rw (drop_of_length-le text l) (omega arith))
+    by false g = let i : length text ≤ n = omega (arith, leb-false n (length text) g) in rw (drop_of_length-le text i) (omega arith)
 
 blanks_le : (bs : List ℕ) → blanks bs ≤ length bs
 unfolding blanks

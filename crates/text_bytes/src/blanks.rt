@@ -8,12 +8,10 @@ use crate::bytes::is_blank;
 pub fn next_ink(text: &[u8], n: usize) -> usize
     ensures { result ≡ inked text.now n }
 {
-    let mut k = n;
-    while k < text.len() {
+    for k in n..text.len() {
         if !is_blank(text[k]) {
             return k;
         }
-        k += 1;
     }
-    k
+    n.max(text.len())
 }

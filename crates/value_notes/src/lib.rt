@@ -6,7 +6,7 @@ pub mod taking; // values, until a limit is passed
 
 // What has been taken of an entry's values: whether a limit is passed; if not, how many values, how many
 // literals with those of entries before it, and how many bytes these have.
-#[derive(Clone, Copy)]
+#[derive(Debug, Clone, Copy, PartialEq, Eq)]
 pub struct Tally {
     pub over: bool,
     pub values: usize,

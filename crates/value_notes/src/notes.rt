@@ -33,9 +33,5 @@ pub(crate) fn put_pair(row: &mut [u32], i: usize, low: usize, high: usize)
 pub fn clear(row: &mut [u32])
     ensures { row.new ≡ replicate (length row.old) 0 }
 {
-    let mut i: usize = 0;
-    while i < row.len() {
-        row[i] = 0;
-        i += 1;
-    }
+    row.fill(0);
 }

@@ -12,18 +12,7 @@ use value_weights::Weighed;
 fn passed(tally: Tally) -> Tally
     ensures { result ≡ record { over = true; values = tally.values; literals = tally.literals; bytes = tally.bytes } }
 {
-    Tally {
-        over: true,
-        values: tally.values,
-        literals: tally.literals,
-        bytes: tally.bytes,
-    }
-}
-
-fn wide(n: u32) -> usize
-    ensures { result ≡ n }
-{
-    n as usize
+    Tally { over: true, ..tally }
 }
 
 fn take_single(low: Row, found: Found, tally: Tally, row: &mut [u32], notes: &mut [u32]) -> Tally
@@ -40,7 +29,7 @@ fn take_single(low: Row, found: Found, tally: Tally, row: &mut [u32], notes: &mu
         over: false,
         values: tally.values + 1,
         literals: k + 1,
-        bytes: tally.bytes + wide(low.size),
+        bytes: tally.bytes + low.size as usize,
     }
 }
 
@@ -59,7 +48,7 @@ fn take_range(
         return passed(tally);
     }
     let k = tally.literals;
-    let offset = tally.bytes + wide(low.size);
+    let offset = tally.bytes + low.size as usize;
     put_literal(notes, k, low, tally.bytes, found.low, found.mid);
     put_literal(notes, k + 1, high, offset, found.high, found.end);
     put_pair(row, tally.values, k, k + 1);
@@ -67,7 +56,7 @@ fn take_range(
         over: false,
         values: tally.values + 1,
         literals: k + 2,
-        bytes: offset + wide(high.size),
+        bytes: offset + high.size as usize,
     }
 }
 

@@ -8,17 +8,15 @@ use text_bytes::blanks::next_ink;
 fn common_length(word: &[u8], rest: &[u8]) -> usize
     ensures { result ≡ common word.now rest.now }
 {
-    let mut k: usize = 0;
-    while k < word.len() {
+    for (k, b) in word.iter().enumerate() {
         if rest.len() <= k {
             return k;
         }
-        if rest[k] != word[k] {
+        if rest[k] != *b {
             return k;
         }
-        k += 1;
     }
-    k
+    word.len()
 }
 
 // This word, after a blank at n.

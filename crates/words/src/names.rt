@@ -13,12 +13,10 @@ use text_bytes::bytes::{is_letter, is_name_byte};
 fn all_name_bytes(w: &[u8]) -> bool
     ensures { result ≡ all is_name_byte w.now }
 {
-    let mut k: usize = 0;
-    while k < w.len() {
-        if !is_name_byte(w[k]) {
+    for b in w {
+        if !is_name_byte(*b) {
             return false;
         }
-        k += 1;
     }
     true
 }
@@ -26,12 +24,10 @@ fn all_name_bytes(w: &[u8]) -> bool
 fn any_letter(w: &[u8]) -> bool
     ensures { result ≡ any is_letter w.now }
 {
-    let mut k: usize = 0;
-    while k < w.len() {
-        if is_letter(w[k]) {
+    for b in w {
+        if is_letter(*b) {
             return true;
         }
-        k += 1;
     }
     false
 }
@@ -62,17 +58,15 @@ fn is_called(w: &[u8]) -> bool
 fn name_run(rest: &[u8], most: usize) -> usize
     ensures { result ≡ name_run most rest.now }
 {
-    let mut k: usize = 0;
-    while k < most {
+    for k in 0..most {
         if rest.len() <= k {
             return k;
         }
         if !is_name_byte(rest[k]) {
             return k;
         }
-        k += 1;
     }
-    k
+    most
 }
 
 // How many bytes may begin a name. With 29, one byte more must make it whole.

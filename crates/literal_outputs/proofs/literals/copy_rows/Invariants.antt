@@ -5,7 +5,4 @@ use Rattle.outputs.specs.Noted.{rows_from}
 use Rattle.literal_outputs.proofs.literals.copy_rows.Given as goal
 
 abbrev pub invariant-loop-i : goal.invariant-loop-i
-invariant-loop-i l = (l.i ≤ l.n) × Front (rows_from l.notes 0 l.i) l.initial.to (l.i * 5) l.to
-
-abbrev pub decreases-loop-i : goal.decreases-loop-i
-decreases-loop-i l = l.n - l.i
+invariant-loop-i l = Front (rows_from l.notes 0 l.i) l.initial.to (l.i * 5) l.to

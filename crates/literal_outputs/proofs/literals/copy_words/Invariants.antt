@@ -6,7 +6,4 @@ use Rattle.outputs.specs.Noted.{bytes_from}
 use Rattle.literal_outputs.proofs.literals.copy_words.Given as goal
 
 abbrev pub invariant-loop-i : goal.invariant-loop-i
-invariant-loop-i l = (l.i ≤ l.n) × Front (bytes_from l.text l.notes 0 l.i) l.initial.to (length (bytes_from l.text l.notes 0 l.i)) l.to
-
-abbrev pub decreases-loop-i : goal.decreases-loop-i
-decreases-loop-i l = l.n - l.i
+invariant-loop-i l = Front (bytes_from l.text l.notes 0 l.i) l.initial.to (length (bytes_from l.text l.notes 0 l.i)) l.to

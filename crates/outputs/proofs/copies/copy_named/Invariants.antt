@@ -1,5 +1,4 @@
 -- `copy_named` meets its contract: the first i numbers are written. Assumes nothing.
-use Prim.Native.Nat.{◌-◌, ◌≤◌}
 use mathlib.Core.List.{map}
 use Rattle.noting.specs.Stored.{noted_from}
 use Rattle.outputs.specs.Noted.{named_of}
@@ -7,7 +6,4 @@ use Rattle.tables.proofs.Front.{Front}
 use Rattle.outputs.proofs.copies.copy_named.Given as goal
 
 abbrev pub invariant-loop-i : goal.invariant-loop-i
-invariant-loop-i l = (l.i ≤ l.n) × Front (map named_of (noted_from l.entries 0 l.i)) l.initial.to l.i l.to
-
-abbrev pub decreases-loop-i : goal.decreases-loop-i
-decreases-loop-i l = l.n - l.i
+invariant-loop-i l = Front (map named_of (noted_from l.entries 0 l.i)) l.initial.to l.i l.to

@@ -1,18 +1,15 @@
 -- `sketched` meets its contract: from the laws of proofs/ and what its callees ensure. Assumes nothing.
-use Prim.Native.Nat.{◌-◌, ◌+◌}
+use Prim.Native.Nat.{◌+◌}
 use mathlib.Core.Path.{◌≡◌, ap}
 use mathlib.Core.List.{[]}
-use lib.ListN.{length, take, drop}
+use lib.ListN.{take, drop}
 use Rattle.description.specs.Machine.{after}
 use Rattle.description.specs.Reader.{nothing, pictures}
 use Rattle.description.specs.Stages.{reach}
 use Rattle.pictures.specs.Drawings.{draws}
-use Rattle.pictures.specs.declared.Drew.TheVariants.{On}
 use Rattle.pictures.proofs.Caps.{cap_o}
 use Rattle.pictures.proofs.scan.sketched.Given as goal
+use Rattle.std.specs.Prelude.{Some}
 
 abbrev pub invariant-loop-k : goal.invariant-loop-k
-invariant-loop-k l = (reach draws [] l.rest ≡ l.k + reach draws (take l.k l.rest) (drop l.k l.rest)) × (On l.d ≡ cap_o (after pictures nothing (take l.k l.rest)))
-
-abbrev pub decreases-loop-k : goal.decreases-loop-k
-decreases-loop-k l = length l.rest - l.k
+invariant-loop-k l = (reach draws [] l.rest ≡ l.k + reach draws (take l.k l.rest) (drop l.k l.rest)) × (Some l.d ≡ cap_o (after pictures nothing (take l.k l.rest)))

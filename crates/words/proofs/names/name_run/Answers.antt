@@ -1,5 +1,5 @@
 -- `name_run` meets its contract: from the laws of proofs/ and what its callees ensure. Assumes nothing.
-use Prim.Native.Nat.{◌-◌}
+use native.Mathlib.Omega.{arith}
 use mathlib.Core.Path.{sym, ◌∙◌}
 use Rattle.words.proofs.Reaches.{run_more, run_other, run_short, run_end}
 use Rattle.words.proofs.names.name_run.Goals as goal
@@ -21,4 +21,4 @@ loop-k-preserved c = run_more c.args.rest.now
     c.loop-k.invariant
 
 pub returns : goal.returns
-returns c = run_end c.args.rest.now c.args.most c.loop-k.k c.loop-k-test.false c.loop-k.invariant
+returns c = omega (arith, run_end c.args.rest.now c.args.most c.loop-k.k c.loop-k-test.false c.loop-k.invariant)

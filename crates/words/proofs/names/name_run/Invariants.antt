@@ -7,6 +7,3 @@ use Rattle.words.proofs.names.name_run.Given as goal
 
 abbrev pub invariant-loop-k : goal.invariant-loop-k
 invariant-loop-k l = name_run l.most l.rest ≡ l.k + name_run (l.most - l.k) (drop l.k l.rest)
-
-abbrev pub decreases-loop-k : goal.decreases-loop-k
-decreases-loop-k l = l.most - l.k
