@@ -16,7 +16,8 @@ use Rattle.spelling.specs.Names.{leading, names_at, every_name}
 use Rattle.spelling.specs.Meanings.{count, position}
 use Rattle.spelling.proofs.Cutting.{same_true}
 use Rattle.spelling.proofs.Describing.{length-map}
-use Rattle.naming.specs.declared.Called.TheVariants.{Item, Condition, Not}
+use Rattle.std.specs.Prelude.{Some, None}
+use Rattle.naming.specs.declared.Called.TheVariants.{Item, Condition}
 use Rattle.naming.specs.Named.{known_at, row_by, called_by}
 
 -- how far a name goes
@@ -24,14 +25,14 @@ pub leading-ended : (rest : List ℕ) (k : ℕ) → length rest ≤ k → leadin
 unfolding leading
 leading-ended rest k h = rw (drop_of_length-le rest h)
 
-pub leading-stopped : (rest : List ℕ) (k : ℕ) → k < length rest → is_name_byte (get_or rest k 0) ≡ false → leading (drop k rest) ≡ []
+pub leading_stopped : (rest : List ℕ) (k : ℕ) → k < length rest → is_name_byte (get_or rest k 0) ≡ false → leading (drop k rest) ≡ []
 unfolding leading
-leading-stopped rest k h e = rw (drop-cons rest k 0 h, e)
+leading_stopped rest k h e = rw (drop-cons rest k 0 h, e)
 
 pub leading_on : (rest : List ℕ) (k : ℕ) → k < length rest → is_name_byte (get_or rest k 0) ≡ true
-    → leading (drop k rest) ≡ get_or rest k 0 ∷ leading (drop (suc k) rest)
+    → leading (drop k rest) ≡ get_or rest k 0 ∷ leading (drop (k + 1) rest)
 unfolding leading
-leading_on rest k h e = rw (drop-cons rest k 0 h, e)
+leading_on rest k h e = rw (add-one, drop-cons rest k 0 h, e)
 
 pub leading_short : (rest : List ℕ) → length (leading rest) ≤ length rest
 unfolding leading
@@ -197,10 +198,10 @@ module _ (text places word : List ℕ) (items : ℕ) (few : items ≤ length pla
   at = omega (arith, e)
 
   -- what has the name, by the one list
-  by_names : called_by word (known_at text items places) ≡ cond (eqb (count word names) 1) (row_by items (position word names)) Not
+  by_names : called_by word (known_at text items places) ≡ cond (eqb (count word names) 1) (Some (row_by items (position word names))) None
   by_names = rw (every_name_lem text items places, items-length text items places few)
 
-  pub unknown : first ≡ length places → Not ≡ called_by word (known_at text items places)
+  pub unknown : first ≡ length places → None ≡ called_by word (known_at text items places)
   unknown h =
       let z : count word names ≡ 0 = count_none word names (omega (arith, at, names-length text places)) in
       sym (by_names ∙ rw z)
@@ -215,7 +216,7 @@ module _ (text places word : List ℕ) (items : ℕ) (few : items ≤ length pla
           count-first word names (omega (arith, at, first-within, names-length text places))
           ∙ rw (← at, add-one)
 
-      once : second ≡ length places → called_by word (known_at text items places) ≡ row_by items first
+      once : second ≡ length places → called_by word (known_at text items places) ≡ Some (row_by items first)
       once h =
           let rest : List (List ℕ) = drop (first + 1) names in
           let z : count word rest ≡ 0 =
@@ -223,13 +224,13 @@ module _ (text places word : List ℕ) (items : ℕ) (few : items ≤ length pla
           let n : count word names ≡ 1 = omega (arith, others) in
           by_names ∙ rw (n, at)
 
-      pub once_item : second ≡ length places → first < items → Item first ≡ called_by word (known_at text items places)
+      pub once_item : second ≡ length places → first < items → Some (Item first) ≡ called_by word (known_at text items places)
       once_item h l = sym (once h ∙ rw (lt-ltb first items l))
 
-      pub once_condition : second ≡ length places → items ≤ first → Condition (first - items) ≡ called_by word (known_at text items places)
+      pub once_condition : second ≡ length places → items ≤ first → Some (Condition (first - items)) ≡ called_by word (known_at text items places)
       once_condition h l = sym (once h ∙ rw (le-ltb first items l))
 
-      pub twice : (second ≡ length places → ⊥) → Not ≡ called_by word (known_at text items places)
+      pub twice : (second ≡ length places → ⊥) → None ≡ called_by word (known_at text items places)
       twice h =
           let rest : List (List ℕ) = drop (first + 1) names in
           let l : position word rest < length rest =
