@@ -92,7 +92,7 @@ module _ (word rest : List ℕ) (k : ℕ) (named : all is_name_byte word ≡ tru
   pub name_goes_on : get_or rest k 0 ≡ get_or word k 0 → same (drop k word) (leading (drop k rest)) ≡ same (drop (k + 1) word) (leading (drop (k + 1) rest))
   unfolding same
   name_goes_on e =
-      rw (add-one, drop-cons word k 0 h, leading_on rest k g (ap is_name_byte e ∙ every_at word k named h), eq-eqb (get_or word k 0) (get_or rest k 0) (sym e))
+      rw (drop-cons word k 0 h, leading_on rest k g (ap is_name_byte e ∙ every_at word k named h), eq-eqb (get_or word k 0) (get_or rest k 0) (sym e), add-one)
 
 pub name_ends : (word rest : List ℕ) (k : ℕ) (b : ℕ) (r : Bool) → length word ≤ k → b ≡ get_or rest k 0 → r ≡ is_name_byte b
     → not r ≡ same (drop k word) (leading (drop k rest))
