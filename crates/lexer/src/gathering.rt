@@ -8,6 +8,11 @@ use crate::{Fault, Gathered};
 use senses::pieces::piece_at;
 use splitter::splits::next_word;
 
+const TOO_LONG: Fault = Fault {
+    number: 15,
+    place: 2048,
+};
+
 // The next piece gathered, if there is one.
 fn step(
     description: &[u8],
@@ -48,10 +53,7 @@ fn early(fault: Fault) -> Fault
     if fault.place < 2048 {
         return fault;
     }
-    Fault {
-        number: 15,
-        place: 2048,
-    }
+    TOO_LONG
 }
 
 // The first `literals` rows and `content` bytes are the description's: the text's go on from there.
@@ -79,15 +81,17 @@ pub fn gather(
     while held.past < 2048 {
         match step(description, places, items, text, held, tokens, rows, bytes) {
             Ok(Some(next)) => held = next,
-            Ok(None) => break,
+            Ok(None) => {
+                if text.len() <= 2048 {
+                    return Ok(held);
+                }
+                return Err(TOO_LONG);
+            }
             Err(fault) => return Err(early(fault)),
         }
     }
     if text.len() <= 2048 {
         return Ok(held);
     }
-    Err(Fault {
-        number: 15,
-        place: 2048,
-    })
+    Err(TOO_LONG)
 }

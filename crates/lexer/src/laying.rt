@@ -85,17 +85,19 @@ pub(crate) fn add(
     ensures { Steps (known_at description.now items places.now) text.now held tokens.old rows.old bytes.old result tokens.new rows.new bytes.new }
 {
     match piece.met {
-        Ok(Met::Token(t)) => Ok(Some(add_token(t, held, piece.past, tokens))),
-        Ok(Met::Literal(row)) => {
-            if 64 <= held.literals {
-                return Err(Fault {
-                    number: 15,
-                    place: at,
-                });
+        Ok(met) => match met {
+            Met::Token(t) => Ok(Some(add_token(t, held, piece.past, tokens))),
+            Met::Literal(row) => {
+                if 64 <= held.literals {
+                    return Err(Fault {
+                        number: 15,
+                        place: at,
+                    });
+                }
+                let next = add_literal(row, &text[at..end], held, piece.past, tokens, rows, bytes);
+                Ok(Some(next))
             }
-            let next = add_literal(row, &text[at..end], held, piece.past, tokens, rows, bytes);
-            Ok(Some(next))
-        }
+        },
         Err(number) => Err(Fault { number, place: at }),
     }
 }

@@ -37,7 +37,7 @@ pub(crate) fn token_place(
     let mut past: usize = 0;
     while past < text.len() {
         let Some(word) = next_word(text, past) else {
-            break;
+            return text_end(text);
         };
         if left == 0 {
             return word.at;

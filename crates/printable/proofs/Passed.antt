@@ -9,13 +9,10 @@ use lib.Dec.{eqb, ltb}
 use lib.ListN.{length, get_or, take, drop, length-drop, drop_of_length-le}
 use lib.Seq.{drop-cons, length-take-le, get_or-take, get_or-drop}
 use borrow.Author.Tests.{eq-eqb, ne_eqb}
-use Rattle.description.specs.Grammar.{bytes, same, all, is_name_byte}
+use Rattle.description.specs.Grammar.{all, is_name_byte}
 use Rattle.spelling.specs.Names.{leading, Known, every_name}
-use Rattle.spelling.specs.Meanings.{count, position}
 use Rattle.spelling.specs.Printing.{uniquely, has_name}
-use Rattle.naming.specs.declared.Called.{Called}
-use Rattle.std.specs.Prelude.{Option, Some, None}
-use Rattle.naming.specs.Named.{known_at, Listed, row_by, called_by}
+use Rattle.naming.specs.Named.{known_at, Listed}
 use Rattle.naming.proofs.Finding.{name_at_lem}
 use Rattle.printable.specs.Passing.{passing, There}
 
@@ -42,31 +39,6 @@ leading-bytes (b ∷ rest) = by (is_name_byte b) refl (leading-bytes rest)
     by : (t : Bool) → is_name_byte b ≡ t → all is_name_byte (leading rest) ≡ true → all is_name_byte (cond t (b ∷ leading rest) []) ≡ true
     by true e h = rw (e, h)
     by false e h = refl
-
-module _ (known : Known) (name : List ℕ) where
-  pub filler : same name (bytes "FILLER") ≡ true → false ≡ uniquely known name
-  filler e = rw e
-
-  module _ (other : same name (bytes "FILLER") ≡ false) (r : Option Called) (f : r ≡ called_by name known) where
-    abbrev p : ℕ
-    p = position name (every_name known)
-
-    abbrev n : ℕ
-    n = length known.items
-
-    pub once : {x : Called} → r ≡ Some x → true ≡ uniquely known name
-    once {x} g = rw other (by (eqb (count name (every_name known)) 1) (sym g ∙ f))
-      where
-        by : (t : Bool) → Some x ≡ cond t (Some (row_by n p)) None → true ≡ t
-        by true e = refl
-        by false e = cc
-
-    pub not_once : r ≡ None → false ≡ uniquely known name
-    not_once g = rw other (by (eqb (count name (every_name known)) 1) (sym g ∙ f))
-      where
-        by : (t : Bool) → None ≡ cond t (Some (row_by n p)) None → false ≡ t
-        by true e = cc
-        by false e = refl
 
 -- the name of a token
 module _ (text : List ℕ) (items : ℕ) (places : List ℕ) (t : ℕ) where

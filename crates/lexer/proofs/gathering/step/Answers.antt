@@ -16,3 +16,6 @@ add-requires c = let f = (found-next c.next_word.result
           c.in-Some.word.at c.in-Some.word.end
           c.piece_at-piece.result f.0 f.1 f.3 c.piece_at-piece.ensures;
     }
+
+pub returns-in_default : goal.returns-in_default
+returns-in_default c = no_step c.next_word.result c.next_word.ensures c.in_default.is
