@@ -11,7 +11,12 @@ use tables::rows::NAME_TABLE;
 
 // The places of the names, or FILLER, of a description's rows, those of its conditions after them; and its literals. Beyond what is
 // counted the buffers stay as they were, and where the description is refused.
-pub fn book_of(description: &[u8], places: &mut [u32], rows: &mut [u32], bytes: &mut [u8]) -> Result<Book, usize>
+pub fn book_of(
+    description: &[u8],
+    places: &mut [u32],
+    rows: &mut [u32],
+    bytes: &mut [u8],
+) -> Result<Book, usize>
     requires { (128 ≤ length places.old) × (320 ≤ length rows.old) × (4096 ≤ length bytes.old) }
     ensures { NamedBy description.now places.old rows.old bytes.old result places.new rows.new bytes.new }
 {

@@ -34,7 +34,7 @@ use Rattle.literal_words.specs.Found.{number_found, text_found}
 use Rattle.literal_bytes.specs.Written.{literal_by, written_over}
 use Rattle.literal_words.proofs.Holding.{text_again}
 use Rattle.literal_pairs.specs.Spelling.{literal_of, row_found, held_row, Written}
-use Rattle.std.specs.Prelude.{None, Option, Some}
+use Rattle.std.specs.Prelude.{None, Option as Perhaps, Some}
 
 -- Digits have no point.
 digit_point : (b : ℕ) → is_digit b ≡ true → is_point b ≡ false
@@ -190,7 +190,7 @@ number_found_lem w x n = rw (n.kinds, n.out, n.after, n.content (digit_count x.k
     by true = refl
     by false = refl
 
-abbrev pub text_row : Option ℕ → Option Row
+abbrev pub text_row : Perhaps ℕ → Perhaps Row
 text_row (Some n) = Some (held_row n)
 text_row None = None
 

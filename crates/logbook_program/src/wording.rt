@@ -66,7 +66,10 @@ pub(crate) fn words(
 ) -> usize
     ensures { Words description.now literals.now bytes.now tokens.now out.old result out.new }
 {
-    print(description, literals, bytes, tokens, out).unwrap_or(0)
+    match print(description, literals, bytes, tokens, out) {
+        Ok(n) => n,
+        Err(_) => 0,
+    }
 }
 
 fn holds(row: Row, byte: usize) -> bool

@@ -52,7 +52,12 @@ fn plain(description: &[u8], places: &[u32], items: usize, word: &[u8]) -> Resul
     vocable(word)
 }
 
-pub(crate) fn sense_of(description: &[u8], places: &[u32], items: usize, word: &[u8]) -> Result<Sense, u32>
+pub(crate) fn sense_of(
+    description: &[u8],
+    places: &[u32],
+    items: usize,
+    word: &[u8],
+) -> Result<Sense, u32>
     requires { Listed items places.now }
     ensures { result ≡ sense_of (meaning (known_at description.now items places.now) word.now) }
 {
