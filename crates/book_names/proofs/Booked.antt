@@ -20,7 +20,7 @@ use Rattle.layouts.specs.Layouts.{row_numbers}
 use Rattle.describing.specs.declared.Described.{Described}
 use Rattle.describing.specs.declared.Described.TheVariants.{Counts, Faulty, Room}
 use Rattle.describing.specs.Calls.{rows_of, place_of_name, places_of, names_of, name_places_of, literals_of, DescribedBy}
-use Rattle.books.specs.declared.Named.TheVariants.{Given, Faulty as Unnamed}
+use Rattle.std.specs.Prelude.{Ok, Err}
 use Rattle.books.specs.Calls.{NamedBy}
 use Rattle.books.proofs.Finding.{numbers-length, few_items, few_conditions, few_rows}
 
@@ -135,7 +135,7 @@ module _ {text rows places names others literal-rows bytes : List ℕ} (r : Desc
         (h, g, omega (arith, front_length items_front), omega (arith, ap length T.others_are), omega (arith, ap length (front_rest items_front), length-drop n places))
 
     pub described_book : {back : List ℕ} → back ≡ take k others-after ++ drop k (take (length places-after - n) (drop n places-after))
-        → NamedBy text places literal-rows bytes (Given (record { items = n; places = n + k; literals = v / 5; bytes = b }))
+        → NamedBy text places literal-rows bytes (Ok (record { items = n; places = n + k; literals = v / 5; bytes = b }))
         (put_mid n (length places-after - n) places-after back) literals-after bytes_after
     described_book {back} u =
         let T = told q in
@@ -153,10 +153,10 @@ module _ {text rows places names others literal-rows bytes : List ℕ} (r : Desc
           bytes_written = rw T.e T.bytes_are;
         }
 
-  pub described_faulty : {p : ℕ} → r ≡ Faulty p → NamedBy text places literal-rows bytes (Unnamed p) places-after literals-after bytes_after
+  pub described_faulty : {p : ℕ} → r ≡ Faulty p → NamedBy text places literal-rows bytes (Err p) places-after literals-after bytes_after
   described_faulty {p} q = by (describe text) refl
     where
-      by : (o : Outcome) → describe text ≡ o → NamedBy text places literal-rows bytes (Unnamed p) places-after literals-after bytes_after
+      by : (o : Outcome) → describe text ≡ o → NamedBy text places literal-rows bytes (Err p) places-after literals-after bytes_after
       by (table t) e = let s = whole t e in let z : ◌≡◌ {A = ℕ} 0 1 = cc in absurd (omega arith)
       by (refusal u) e =
           let s = faulty u e in

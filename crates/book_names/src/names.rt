@@ -2,7 +2,7 @@
 ghost use Rattle.std.specs.Prelude.{◌≡◌, ◌≤◌, length};
 ghost use Rattle.books.specs.Calls.{NamedBy};
 
-use books::{Book, Named};
+use books::Book;
 use content::Row;
 use describing::Described;
 use descriptions::calls::describe;
@@ -11,7 +11,12 @@ use tables::rows::NAME_TABLE;
 
 // The places of the names, or FILLER, of a description's rows, those of its conditions after them; and its literals. Beyond what is
 // counted the buffers stay as they were, and where the description is refused.
-pub fn book_of(description: &[u8], places: &mut [u32], rows: &mut [u32], bytes: &mut [u8]) -> Named
+pub fn book_of(
+    description: &[u8],
+    places: &mut [u32],
+    rows: &mut [u32],
+    bytes: &mut [u8],
+) -> Result<Book, usize>
     requires { (128 ≤ length places.old) × (320 ≤ length rows.old) × (4096 ≤ length bytes.old) }
     ensures { NamedBy description.now places.old rows.old bytes.old result places.new rows.new bytes.new }
 {
@@ -30,14 +35,14 @@ pub fn book_of(description: &[u8], places: &mut [u32], rows: &mut [u32], bytes: 
     match described {
         Described::Counts(_, n, _, k, v, b) => {
             copy_numbers(&others, k, &mut places[n..]);
-            Named::Given(Book {
+            Ok(Book {
                 items: n,
                 places: n + k,
                 literals: v / Row::WIDTH,
                 bytes: b,
             })
         }
-        Described::Faulty(place) => Named::Faulty(place),
-        Described::Room(needed) => Named::Faulty(needed),
+        Described::Faulty(place) => Err(place),
+        Described::Room(needed) => Err(needed),
     }
 }

@@ -12,9 +12,8 @@ use Rattle.spelling.specs.Names.{names_at, known_by, known_of, numbers}
 use Rattle.spelling.proofs.Describing.{length-map, few_bytes}
 use Rattle.naming.specs.Named.{Listed, known_at}
 use Rattle.literal_bytes.specs.Written.{written_over}
+use Rattle.std.specs.Prelude.{Result, Ok, Err}
 use Rattle.books.specs.declared.Book.{Book}
-use Rattle.books.specs.declared.Named.{Named}
-use Rattle.books.specs.declared.Named.TheVariants.{Given, Faulty}
 use Rattle.books.specs.Calls.{named_as, NamedBy}
 
 pub numbers-length : (rs : List Row) → length (numbers rs) ≡ length rs * 5
@@ -75,7 +74,7 @@ module _ (text : List ℕ) (t : Table) (e : describe text ≡ table t) where
       let b : drop (length t.entries) (ps ++ cs) ≡ cs = drop_at ps cs (length t.entries) items-counted in
       ap (known_at text (length t.entries)) (take_at (ps ++ cs) rest _ n) ∙ ap₂ (λ (us vs : List ℕ). known_by (names_at text us) (names_at text vs)) a b
 
-  book-given : {places rows bytes : List ℕ} (b : Book) (lent-places lent_rows lent-bytes : List ℕ) → Given b ≡ named_as (table t)
+  book-given : {places rows bytes : List ℕ} (b : Book) (lent-places lent_rows lent-bytes : List ℕ) → Ok b ≡ named_as (table t)
       → places ≡ written_over (ps ++ cs) lent-places → rows ≡ written_over (numbers t.literals) lent_rows → bytes ≡ written_over t.bytes lent-bytes
       → NamesFound text places rows bytes b
   book-given b lent-places lent_rows lent-bytes q w x y =
@@ -102,31 +101,31 @@ module _ (text : List ℕ) (t : Table) (e : describe text ≡ table t) where
       }
 
 -- the description's names and literals are those of its table
-module _ {description lent-places lent_rows lent-bytes : List ℕ} (d : Named) {places rows bytes : List ℕ}
+module _ {description lent-places lent_rows lent-bytes : List ℕ} (d : Result Book ℕ) {places rows bytes : List ℕ}
     (N : NamedBy description lent-places lent_rows lent-bytes d places rows bytes) where
-  pub book-found : {b : Book} → d ≡ Given b → NamesFound description places rows bytes b
+  pub book-found : {b : Book} → d ≡ Ok b → NamesFound description places rows bytes b
   book-found {b} e = by (describe description) refl
     where
       by : (o : Outcome) → describe description ≡ o → NamesFound description places rows bytes b
       by (table t) h =
-          let q : Given b ≡ named_as (table t) = sym e ∙ N.answered ∙ ap named_as h in
+          let q : Ok b ≡ named_as (table t) = sym e ∙ N.answered ∙ ap named_as h in
           book-given description t h b lent-places lent_rows lent-bytes q (N.places_written ∙ rw h) (N.rows_written ∙ rw h) (N.bytes_written ∙ rw h)
       by (refusal p) h =
-          let q : Given b ≡ Faulty p = sym e ∙ N.answered ∙ ap named_as h in
+          let q : ◌≡◌ {A = Result Book ℕ} (Ok b) (Err p) = sym e ∙ N.answered ∙ ap named_as h in
           let z : ◌≡◌ {A = ℕ} 0 1 = cc in absurd (omega arith)
 
-  pub book_refused : {p : ℕ} → d ≡ Faulty p → describe description ≡ refusal p
+  pub book_refused : {p : ℕ} → d ≡ Err p → describe description ≡ refusal p
   book_refused {p} e = by (describe description) refl
     where
       by : (o : Outcome) → describe description ≡ o → describe description ≡ refusal p
       by (table t) h =
-          let q : Faulty p ≡ named_as (table t) = sym e ∙ N.answered ∙ ap named_as h in
+          let q : Err p ≡ named_as (table t) = sym e ∙ N.answered ∙ ap named_as h in
           let z : ◌≡◌ {A = ℕ} 0 1 = cc in absurd (omega arith)
       by (refusal u) h =
-          let q : Faulty p ≡ Faulty u = sym e ∙ N.answered ∙ ap named_as h in
+          let q : ◌≡◌ {A = Result Book ℕ} (Err p) (Err u) = sym e ∙ N.answered ∙ ap named_as h in
           let z : u ≡ p = cc in h ∙ ap refusal z
 
-  pub places-listed : {b : Book} → d ≡ Given b → Listed b.items (take b.places places)
+  pub places-listed : {b : Book} → d ≡ Ok b → Listed b.items (take b.places places)
   places-listed {b} e =
       let F = book-found e in
       let l = length-take-le b.places places F.there in

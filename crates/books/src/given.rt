@@ -1,25 +1,11 @@
 // What is given where there is room.
 ghost use Rattle.std.specs.Prelude.{◌≡◌, ◌*◌, ◌≤◌, length, take};
-ghost use Rattle.literal_bytes.specs.Written.{written_over};
 ghost use Rattle.books.specs.Calls.{Gives};
 ghost use Rattle.content.specs.Kinds.{row_width};
 
-use crate::Recognized;
+use crate::{Counts, ReadRefusal};
 use content::Row;
 use lexer::Gathered;
-use literal_bytes::copies::copy_bytes;
-
-// Numbers over the start of an output.
-fn copy_numbers(from: &[u32], to: &mut [u32])
-    requires { length from.now ≤ length to.old }
-    ensures { to.new ≡ written_over from.now to.old }
-{
-    let mut n: usize = 0;
-    while n < from.len() {
-        to[n] = from[n];
-        n += 1;
-    }
-}
 
 // What was gathered. A refusal changes no output.
 pub fn give(
@@ -30,7 +16,7 @@ pub fn give(
     out: &mut [u32],
     literals: &mut [u32],
     content: &mut [u8],
-) -> Recognized
+) -> Result<Counts, ReadRefusal>
     requires { (held.tokens ≤ length tokens.now) × (held.literals * row_width ≤ length rows.now) × (held.bytes ≤ length bytes.now) }
     ensures { Gives (take held.tokens tokens.now) (take (held.literals * row_width) rows.now) (take held.bytes bytes.now) out.old literals.old content.old result out.new literals.new content.new }
 {
@@ -38,19 +24,23 @@ pub fn give(
     let v = held.literals * Row::WIDTH;
     let b = held.bytes;
     if !((1 <= n) & (n <= 256)) {
-        return Recognized::TokenCount;
+        return Err(ReadRefusal::TokenCount);
     }
     if out.len() < n {
-        return Recognized::Room(n);
+        return Err(ReadRefusal::Room(n));
     }
     if literals.len() < v {
-        return Recognized::Room(v);
+        return Err(ReadRefusal::Room(v));
     }
     if content.len() < b {
-        return Recognized::Room(b);
+        return Err(ReadRefusal::Room(b));
     }
-    copy_numbers(&tokens[..n], out);
-    copy_numbers(&rows[..v], literals);
-    copy_bytes(&bytes[..b], content);
-    Recognized::Counts(n, v, b)
+    out[..n].copy_from_slice(&tokens[..n]);
+    literals[..v].copy_from_slice(&rows[..v]);
+    content[..b].copy_from_slice(&bytes[..b]);
+    Ok(Counts {
+        tokens: n,
+        literals: v,
+        bytes: b,
+    })
 }

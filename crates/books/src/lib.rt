@@ -5,12 +5,18 @@ pub mod given; // what is given where there is room
 
 use tables::Refusal;
 
-// What `read` answers: the counts of numbers or bytes written, outputs in the order named; or a refusal:
-// the place of 14, of 15, of 16; 5; or what is needed in the first output that is too short.
-// Numbers and places: specs/Calls.antt.
-#[derive(Clone, Copy)]
-pub enum Recognized {
-    Counts(usize, usize, usize),
+// How many numbers or bytes `read` wrote in each output.
+#[derive(Debug, Clone, Copy, PartialEq, Eq)]
+pub struct Counts {
+    pub tokens: usize,
+    pub literals: usize,
+    pub bytes: usize,
+}
+
+// A refusal of `read`: the place of 14, of 15, of 16; 5; or what is needed in the first output that is too
+// short. Numbers and places: specs/Calls.antt.
+#[derive(Debug, Clone, Copy, PartialEq, Eq)]
+pub enum ReadRefusal {
     Description(usize),
     Word(usize),
     Name(usize),
@@ -18,28 +24,20 @@ pub enum Recognized {
     Room(usize),
 }
 
-// What `print` answers: the count of bytes written; or a refusal: the place of 14; 3 to 6 or 10; the token of 16.
+// A refusal of `print`: the place of 14; 3 to 6 or 10; the token of 16.
 #[derive(Clone, Copy)]
-pub enum Printed {
-    Count(usize),
+pub enum PrintRefusal {
     Description(usize),
     Refused(Refusal),
     Name(usize),
 }
 
 // What a description gives a condition text: how many places of items' names there are, and of all names; and how many
-// literals and literal bytes.
-#[derive(Clone, Copy)]
+// literals and literal bytes. The places, rows and bytes themselves are in lent outputs.
+#[derive(Debug, Clone, Copy, PartialEq, Eq)]
 pub struct Book {
     pub items: usize,
     pub places: usize,
     pub literals: usize,
     pub bytes: usize,
-}
-
-// With the places, rows and bytes themselves in lent outputs; or the place of 14.
-#[derive(Clone, Copy)]
-pub enum Named {
-    Given(Book),
-    Faulty(usize),
 }

@@ -4,7 +4,6 @@
 
 ghost use Rattle.std.specs.Prelude.{◌≤◌};
 
-use books::{Printed, Recognized};
 use console::streams::write_all;
 use content::Row;
 use content::relations::{NEGATED, NUMERIC};
@@ -85,8 +84,7 @@ fn number(rt: &impl Print, n: usize, width: usize) {
 // Tokens as the library prints them.
 fn words(rt: &impl Print, literals: &[u32], bytes: &[u8], tokens: &[u32], width: usize) {
     let mut text = [0u8; 256];
-    let printed = print(&DESCRIPTION, literals, bytes, tokens, &mut text);
-    if let Printed::Count(n) = printed {
+    if let Ok(n) = print(&DESCRIPTION, literals, bytes, tokens, &mut text) {
         cell(rt, front_bytes(&text, n), width);
     }
 }
@@ -470,11 +468,10 @@ fn show(rt: &impl Print, rows: &[u32], shown: Shown, text: &[u8]) {
     let mut tokens = [0u32; 256];
     let mut literals = [0u32; Row::TABLE];
     let mut bytes = [0u8; 2304];
-    let recognized = read(&DESCRIPTION, text, &mut tokens, &mut literals, &mut bytes);
-    if let Recognized::Counts(t, l, b) = recognized {
-        let rule = front(&tokens, t);
-        let table = front(&literals, l);
-        let held = front_bytes(&bytes, b);
+    if let Ok(counts) = read(&DESCRIPTION, text, &mut tokens, &mut literals, &mut bytes) {
+        let rule = front(&tokens, counts.tokens);
+        let table = front(&literals, counts.literals);
+        let held = front_bytes(&bytes, counts.bytes);
         match shown {
             Shown::Guarded => guarded(rt, rows, table, held, rule),
             Shown::Unguarded => unguarded(rt, rows, table, held, rule),

@@ -16,11 +16,11 @@ use Rattle.spelling.specs.Keywords.{Piece as Spelt, token, literal, fault}
 use Rattle.spelling.specs.Reading.{Placed, placed, pieces, Found, none, refusal, before, fault_at, after, first_fault, tokens_from, rows_from, bytes_of}
 use Rattle.splitter.specs.Splits.{between}
 use Rattle.literal_bytes.specs.Written.{literal_by}
-use Rattle.senses.specs.declared.Met.TheVariants.{Token as MetToken, Literal as MetLiteral, Fault as MetFault}
+use Rattle.std.specs.Prelude.{Option, Some, Ok, Err}
+use Rattle.senses.specs.declared.Met.TheVariants.{Token as MetToken, Literal as MetLiteral}
 use Rattle.senses.specs.declared.Piece.{Piece}
 use Rattle.senses.specs.Senses.{met_of}
 use Rattle.lexer.specs.declared.Gathered.{Gathered}
-use Rattle.lexer.specs.declared.Stepped.TheVariants.{On, Fault}
 use Rattle.lexer.specs.Gathers.{left, left_pieces, over_at, moved_to, Made, MadeBy, Total, Gathers, Bounds, Ready, Meets, with_token, with_literal, LiteralRoom, LiteralLaid, Same, Steps}
 use Rattle.lexer.proofs.Writing.{over_front, over_rest}
 
@@ -79,21 +79,21 @@ module _ {known : Known} {text : List ℕ} {g : Gathered} {tokens rows bytes : L
       ∙ fault-next g.literals (record { place = at; piece = M.spelt }) (left known text r.past)
       ∙ ap (λ (p : Spelt). before (fault_at g.literals at p) (first_fault (after g.literals p) (left known text r.past))) e
 
-  faulty_step : {number : ℕ} → r.met ≡ MetFault number → (s : Spelt) → M.spelt ≡ s → Steps known text g tokens rows bytes (Fault number at) tokens rows bytes
+  faulty_step : {number : ℕ} → r.met ≡ Err number → (s : Spelt) → M.spelt ≡ s → Steps known text g tokens rows bytes (Err (record { number = number; place = at })) tokens rows bytes
   faulty_step {number} f (fault n) e =
-      let z : n ≡ number = let q : met_of (fault n) ≡ MetFault number = ap met_of (sym e) ∙ sym M.met ∙ f in cc in
+      let z : n ≡ number = let q : met_of (fault n) ≡ Err number = ap met_of (sym e) ∙ sym M.met ∙ f in cc in
       record { gives = (unchanged tokens rows bytes, λ w G. faults w G (fault n) e ∙ rw z, inside.0) }
-  faulty_step {number} f (token t) e = let q : met_of (token t) ≡ MetFault number = ap met_of (sym e) ∙ sym M.met ∙ f in let z : ◌≡◌ {A = ℕ} 0 1 = cc in absurd (omega arith)
-  faulty_step {number} f (literal l) e = let q : met_of (literal l) ≡ MetFault number = ap met_of (sym e) ∙ sym M.met ∙ f in let z : ◌≡◌ {A = ℕ} 0 1 = cc in absurd (omega arith)
+  faulty_step {number} f (token t) e = let q : met_of (token t) ≡ Err number = ap met_of (sym e) ∙ sym M.met ∙ f in let z : ◌≡◌ {A = ℕ} 0 1 = cc in absurd (omega arith)
+  faulty_step {number} f (literal l) e = let q : met_of (literal l) ≡ Err number = ap met_of (sym e) ∙ sym M.met ∙ f in let z : ◌≡◌ {A = ℕ} 0 1 = cc in absurd (omega arith)
 
-  pub fault-step : {number : ℕ} → r.met ≡ MetFault number → Steps known text g tokens rows bytes (Fault number at) tokens rows bytes
+  pub fault-step : {number : ℕ} → r.met ≡ Err number → Steps known text g tokens rows bytes (Err (record { number = number; place = at })) tokens rows bytes
   fault-step f = faulty_step f M.spelt refl
 
   -- a token
-  token_is : {t : ℕ} → r.met ≡ MetToken t → (s : Spelt) → M.spelt ≡ s → M.spelt ≡ token t
-  token_is {t} f (token u) e = let q : met_of (token u) ≡ MetToken t = ap met_of (sym e) ∙ sym M.met ∙ f in let z : u ≡ t = cc in e ∙ ap token z
-  token_is {t} f (literal l) e = let q : met_of (literal l) ≡ MetToken t = ap met_of (sym e) ∙ sym M.met ∙ f in cc
-  token_is {t} f (fault n) e = let q : met_of (fault n) ≡ MetToken t = ap met_of (sym e) ∙ sym M.met ∙ f in cc
+  token_is : {t : ℕ} → r.met ≡ Ok (MetToken t) → (s : Spelt) → M.spelt ≡ s → M.spelt ≡ token t
+  token_is {t} f (token u) e = let q : met_of (token u) ≡ Ok (MetToken t) = ap met_of (sym e) ∙ sym M.met ∙ f in let z : u ≡ t = cc in e ∙ ap token z
+  token_is {t} f (literal l) e = let q : met_of (literal l) ≡ Ok (MetToken t) = ap met_of (sym e) ∙ sym M.met ∙ f in cc
+  token_is {t} f (fault n) e = let q : met_of (fault n) ≡ Ok (MetToken t) = ap met_of (sym e) ∙ sym M.met ∙ f in cc
 
   stored : (whole : List ℕ) (t : ℕ) (rest : List ℕ) → whole ≡ take g.tokens tokens ++ t ∷ rest
       → whole ≡ take (g.tokens + 1) (set tokens g.tokens t) ++ rest
@@ -102,8 +102,8 @@ module _ {known : Known} {text : List ℕ} {g : Gathered} {tokens rows bytes : L
       e ∙ sym (append_assoc (take g.tokens tokens) (t ∷ []) rest)
       ∙ ap (λ (v : List ℕ). v ++ rest) (sym (ap (λ (n : ℕ). take n (set tokens g.tokens t)) (add-one g.tokens) ∙ take-suc-set tokens g.tokens t h))
 
-  pub token_step : {t : ℕ} {res : Gathered} {after : List ℕ} → r.met ≡ MetToken t → res ≡ with_token g r.past → after ≡ set tokens g.tokens t
-      → Steps known text g tokens rows bytes (On res) after rows bytes
+  pub token_step : {t : ℕ} {res : Gathered} {after : List ℕ} → r.met ≡ Ok (MetToken t) → res ≡ with_token g r.past → after ≡ set tokens g.tokens t
+      → Steps known text g tokens rows bytes (Ok (Some res)) after rows bytes
   token_step {t} f q w =
       let e = token_is f M.spelt refl in
       let ps = left_pieces known text r.past in
@@ -137,23 +137,23 @@ module _ {known : Known} {text : List ℕ} {g : Gathered} {tokens rows bytes : L
     pub row_is : row_of_literal 0 l ≡ row
     pub made : Made (between text at end) l
 
-  literal_by_lem : {row : Row} → r.met ≡ MetLiteral row → (s : Spelt) → M.spelt ≡ s → MadeBy (between text at end) s → Literally row
+  literal_by_lem : {row : Row} → r.met ≡ Ok (MetLiteral row) → (s : Spelt) → M.spelt ≡ s → MadeBy (between text at end) s → Literally row
   literal_by_lem {row} f (literal l) e m =
-      let q : met_of (literal l) ≡ MetLiteral row = ap met_of (sym e) ∙ sym M.met ∙ f in
+      let q : met_of (literal l) ≡ Ok (MetLiteral row) = ap met_of (sym e) ∙ sym M.met ∙ f in
       record { l = l; is = e; row_is = cc; made = m }
-  literal_by_lem {row} f (token t) e m = let q : met_of (token t) ≡ MetLiteral row = ap met_of (sym e) ∙ sym M.met ∙ f in let z : ◌≡◌ {A = ℕ} 0 1 = cc in absurd (omega arith)
-  literal_by_lem {row} f (fault n) e m = let q : met_of (fault n) ≡ MetLiteral row = ap met_of (sym e) ∙ sym M.met ∙ f in let z : ◌≡◌ {A = ℕ} 0 1 = cc in absurd (omega arith)
+  literal_by_lem {row} f (token t) e m = let q : met_of (token t) ≡ Ok (MetLiteral row) = ap met_of (sym e) ∙ sym M.met ∙ f in let z : ◌≡◌ {A = ℕ} 0 1 = cc in absurd (omega arith)
+  literal_by_lem {row} f (fault n) e m = let q : met_of (fault n) ≡ Ok (MetLiteral row) = ap met_of (sym e) ∙ sym M.met ∙ f in let z : ◌≡◌ {A = ℕ} 0 1 = cc in absurd (omega arith)
 
-  literally : {row : Row} → r.met ≡ MetLiteral row → Literally row
+  literally : {row : Row} → r.met ≡ Ok (MetLiteral row) → Literally row
   literally f = literal_by_lem f M.spelt refl M.made
 
   -- the 65th
-  pub full-step : {row : Row} → r.met ≡ MetLiteral row → 64 ≤ g.literals → Steps known text g tokens rows bytes (Fault 15 at) tokens rows bytes
+  pub full-step : {row : Row} → r.met ≡ Ok (MetLiteral row) → 64 ≤ g.literals → Steps known text g tokens rows bytes (Err (record { number = 15; place = at })) tokens rows bytes
   full-step f h =
       let L = literally f in
       record { gives = (unchanged tokens rows bytes, λ w G. faults w G (literal L.l) L.is ∙ rw (le-ltb g.literals 64 h), inside.0) }
 
-  pub literal_room : {row : Row} → r.met ≡ MetLiteral row → g.literals < 64 → LiteralRoom row (between text at end) g tokens rows bytes
+  pub literal_room : {row : Row} → r.met ≡ Ok (MetLiteral row) → g.literals < 64 → LiteralRoom row (between text at end) g tokens rows bytes
   literal_room {row} f h =
       let L = literally f in
       let size : length L.l.bytes ≡ row.size = ap (λ (x : Row). x.size) L.row_is in
@@ -169,8 +169,8 @@ module _ {known : Known} {text : List ℕ} {g : Gathered} {tokens rows bytes : L
         quoted = λ q. L.made.quoted (kind ∙ q);
       }
 
-  pub literal-step : {row : Row} {res : Gathered} {t w b : List ℕ} → r.met ≡ MetLiteral row → g.literals < 64
-      → LiteralLaid row (between text at end) g r.past tokens rows bytes res t w b → Steps known text g tokens rows bytes (On res) t w b
+  pub literal-step : {row : Row} {res : Gathered} {t w b : List ℕ} → r.met ≡ Ok (MetLiteral row) → g.literals < 64
+      → LiteralLaid row (between text at end) g r.past tokens rows bytes res t w b → Steps known text g tokens rows bytes (Ok (Some res)) t w b
   literal-step {row} f h D =
       let L = literally f in
       let l : Literal = L.l in

@@ -17,14 +17,11 @@ use Rattle.spelling.specs.Meanings.{meaning, joins, piece_of}
 use Rattle.spelling.specs.Reading.{Placed, pieces_from, placed, pieces, Found, none, refusal, before, fault_at, after, first_fault, or_too_long, fault_of}
 use Rattle.spelling.specs.Reading.{tokens_from, rows_from, bytes_of, literals_before, tokens_of}
 use Rattle.splitter.specs.Splits.{words_at, NextFrom}
-use Rattle.splitter.specs.declared.Next.{Next}
-use Rattle.splitter.specs.declared.Next.TheVariants.{End as NoWord}
+use Rattle.std.specs.Prelude.{Option, Some, None, Result, Ok, Err}
+use Rattle.splitter.specs.declared.Span.{Span}
 use Rattle.splitter.proofs.Walking.{no_word, found_end}
 use Rattle.lexer.specs.declared.Gathered.{Gathered}
-use Rattle.lexer.specs.declared.Stepped.{Stepped}
-use Rattle.lexer.specs.declared.Stepped.TheVariants.{On, End, Fault}
-use Rattle.lexer.specs.declared.Lexed.{Lexed}
-use Rattle.lexer.specs.declared.Lexed.TheVariants.{Whole, Fault as LexedFault}
+use Rattle.lexer.specs.declared.Fault.{Fault}
 use Rattle.lexer.specs.Gathers.{left, left_pieces, Rooms, total_of, book_in, Gathers, Bounds, Beyond, Grows, Steps, early_by, Holds, Lexes}
 use Rattle.tables.proofs.Front.{later_rest}
 
@@ -136,29 +133,29 @@ module _ (b : Book) (text tokens₀ rows₀ bytes₀ : List ℕ) where
         }
 
     stopped : {number place : ℕ} → fault_of known n text ≡ refusal number place
-        → Lexes b text tokens₀ rows₀ bytes₀ (LexedFault number place) tokens rows bytes
+        → Lexes b text tokens₀ rows₀ bytes₀ (Err (record { number = number; place = place })) tokens rows bytes
     stopped f = record { gives = record { faulty = f; gathered = g; gathers = G; beyond = Y } }
 
-    too_long : left known text g.past ≡ [] → 2048 < length text → Lexes b text tokens₀ rows₀ bytes₀ (LexedFault 15 2048) tokens rows bytes
+    too_long : left known text g.past ≡ [] → 2048 < length text → Lexes b text tokens₀ rows₀ bytes₀ (Err (record { number = 15; place = 2048 })) tokens rows bytes
     unfolding first_fault
     too_long e h = stopped (long_fault known n text h ∙ ap or_too_long (G.fault_is ∙ ap (first_fault g.literals) e))
 
     -- no word starts before byte 2,048 any more
-    pub whole_past : 2048 ≤ g.past → length text ≤ 2048 → Lexes b text tokens₀ rows₀ bytes₀ (Whole g) tokens rows bytes
+    pub whole_past : 2048 ≤ g.past → length text ≤ 2048 → Lexes b text tokens₀ rows₀ bytes₀ (Ok g) tokens rows bytes
     unfolding pieces_from
     whole_past p h = record { gives = nothing_left (ap (pieces_from known 0) (no_word text g.past (omega arith))) h }
 
-    pub long_past : 2048 ≤ g.past → 2048 < length text → Lexes b text tokens₀ rows₀ bytes₀ (LexedFault 15 2048) tokens rows bytes
+    pub long_past : 2048 ≤ g.past → 2048 < length text → Lexes b text tokens₀ rows₀ bytes₀ (Err (record { number = 15; place = 2048 })) tokens rows bytes
     long_past p h =
         let l = late known g.past g.literals 0 (words_at text g.past) (words_from_lem 0 g.past (drop g.past text)) in
         stopped (long_fault known n text h ∙ ap or_too_long G.fault_is ∙ too_late g.past (first_fault g.literals (left known text g.past)) p l)
 
   module _ {g : Gathered} {t w c tokens rows bytes : List ℕ} (G : Gathers known text (total_of b text) g t w c) (B : Bounds text g)
-      (Y : Beyond g tokens₀ rows₀ bytes₀ t w c) (r : Stepped) (S : Steps known text g t w c r tokens rows bytes) where
-    pub on_step : {next : Gathered} → r ≡ On next
+      (Y : Beyond g tokens₀ rows₀ bytes₀ t w c) (r : Result (Option Gathered) Fault) (S : Steps known text g t w c r tokens rows bytes) where
+    pub on_step : {next : Gathered} → r ≡ Ok (Some next)
         → Gathers known text (total_of b text) next tokens rows bytes × Bounds text next × Grows g next × Beyond next tokens₀ rows₀ bytes₀ tokens rows bytes
     on_step {next} e =
-        let s = (subst (λ (s : Stepped). Steps known text g t w c s tokens rows bytes) e S).gives in
+        let s = (subst (λ (s : Result (Option Gathered) Fault). Steps known text g t w c s tokens rows bytes) e S).gives in
         let grow = s.2 in (
           s.0 (total_of b text) G,
           s.1,
@@ -170,32 +167,31 @@ module _ (b : Book) (text tokens₀ rows₀ bytes₀ : List ℕ) where
           },
         )
 
-    pub whole_end : r ≡ End → length text ≤ 2048 → Lexes b text tokens₀ rows₀ bytes₀ (Whole g) tokens rows bytes
+    pub whole_end : r ≡ Ok None → length text ≤ 2048 → Lexes b text tokens₀ rows₀ bytes₀ (Ok g) tokens rows bytes
     whole_end e h =
-        let s = (subst (λ (s : Stepped). Steps known text g t w c s tokens rows bytes) e S).gives in
+        let s = (subst (λ (s : Result (Option Gathered) Fault). Steps known text g t w c s tokens rows bytes) e S).gives in
         rw (s.0.tokens_stay, s.0.rows_stay, s.0.bytes_stay) record { gives = nothing_left G B Y s.1 h }
 
-    pub long_end : r ≡ End → 2048 < length text → Lexes b text tokens₀ rows₀ bytes₀ (LexedFault 15 2048) tokens rows bytes
+    pub long_end : r ≡ Ok None → 2048 < length text → Lexes b text tokens₀ rows₀ bytes₀ (Err (record { number = 15; place = 2048 })) tokens rows bytes
     long_end e h =
-        let s = (subst (λ (s : Stepped). Steps known text g t w c s tokens rows bytes) e S).gives in
+        let s = (subst (λ (s : Result (Option Gathered) Fault). Steps known text g t w c s tokens rows bytes) e S).gives in
         rw (s.0.tokens_stay, s.0.rows_stay, s.0.bytes_stay) (too_long G B Y s.1 h)
 
-    pub fault_end : {number place : ℕ} (lexed : Lexed) → r ≡ Fault number place → lexed ≡ early_by number place
-        → Lexes b text tokens₀ rows₀ bytes₀ lexed tokens rows bytes
-    fault_end {number} {place} lexed e q =
-        let s = (subst (λ (s : Stepped). Steps known text g t w c s tokens rows bytes) e S).gives in
-        rw (s.0.tokens_stay, s.0.rows_stay, s.0.bytes_stay, q)
-        (by (leb (length text) 2048) refl (ltb place 2048) refl (s.1 (total_of b text) G) s.2)
+    pub fault_end : {f e : Fault} → r ≡ Err f → e ≡ early_by f → Lexes b text tokens₀ rows₀ bytes₀ (Err e) tokens rows bytes
+    fault_end {f} {e} q p =
+        let s = (subst (λ (s : Result (Option Gathered) Fault). Steps known text g t w c s tokens rows bytes) q S).gives in
+        rw (s.0.tokens_stay, s.0.rows_stay, s.0.bytes_stay, p)
+        (by (leb (length text) 2048) refl (ltb f.place 2048) refl (s.1 (total_of b text) G) s.2)
       where
-        by : (u : Bool) → leb (length text) 2048 ≡ u → (v : Bool) → ltb place 2048 ≡ v → first_fault n (placed known text) ≡ refusal number place → place < length text
-            → Lexes b text tokens₀ rows₀ bytes₀ (cond v (LexedFault number place) (LexedFault 15 2048)) t w c
-        by true h true l f i = stopped G B Y (short_fault known n text (leb-true (length text) 2048 h) ∙ f)
-        by true h false l f i = absurd (omega (arith, leb-true (length text) 2048 h, ltb-false place 2048 l))
-        by false h true l f i = stopped G B Y (long_fault known n text (leb-false (length text) 2048 h) ∙ ap or_too_long f ∙ rw l)
-        by false h false l f i = stopped G B Y (long_fault known n text (leb-false (length text) 2048 h) ∙ ap or_too_long f ∙ rw l)
+        by : (u : Bool) → leb (length text) 2048 ≡ u → (v : Bool) → ltb f.place 2048 ≡ v → first_fault n (placed known text) ≡ refusal f.number f.place → f.place < length text
+            → Lexes b text tokens₀ rows₀ bytes₀ (Err (cond v f (record { number = 15; place = 2048 }))) t w c
+        by true h true l m i = stopped G B Y (short_fault known n text (leb-true (length text) 2048 h) ∙ m)
+        by true h false l m i = absurd (omega (arith, leb-true (length text) 2048 h, ltb-false f.place 2048 l))
+        by false h true l m i = stopped G B Y (long_fault known n text (leb-false (length text) 2048 h) ∙ ap or_too_long m ∙ rw l)
+        by false h false l m i = stopped G B Y (long_fault known n text (leb-false (length text) 2048 h) ∙ ap or_too_long m ∙ rw l)
 
-pub no_step : {known : Known} {text : List ℕ} {g : Gathered} {tokens rows bytes : List ℕ} (r : Next) → NextFrom text g.past r
-    → r ≡ NoWord → Steps known text g tokens rows bytes End tokens rows bytes
+pub no_step : {known : Known} {text : List ℕ} {g : Gathered} {tokens rows bytes : List ℕ} (r : Option Span) → NextFrom text g.past r
+    → r ≡ None → Steps known text g tokens rows bytes (Ok None) tokens rows bytes
 unfolding pieces_from
 no_step {known} r n e = record { gives = (record { tokens_stay = refl; rows_stay = refl; bytes_stay = refl }, ap (pieces_from known 0) (found_end r n e)) }
 

@@ -23,7 +23,7 @@ use Rattle.spelling.specs.Reading.{Placed, pieces_from}
 use Rattle.spelling.proofs.Cutting.{same_true}
 use Rattle.spelling.proofs.Accepted.{small_size}
 use Rattle.spelling.proofs.Laying.{of_literal_kind}
-use Rattle.splitter.specs.declared.Next.TheVariants.{Word as Span}
+use Rattle.std.specs.Prelude.{Some}
 use Rattle.splitter.specs.Splits.{words_at, between, from_next}
 use Rattle.literal_bytes.specs.Written.{literal_by}
 use Rattle.senses.specs.declared.Piece.{Piece}
@@ -162,7 +162,7 @@ made_by known w ws equal e = tt
 made_by known w ws (faulty n) e = tt
 
 module _ (known : Known) (text : List ℕ) (past at end : ℕ) (r : Piece) where
-  pub meets : past ≤ at → at < end → words_at text past ≡ from_next text (Span at end) → PieceBy (meaning known (between text at end)) text end r
+  pub meets : past ≤ at → at < end → words_at text past ≡ from_next text (Some (record { at = at; end = end })) → PieceBy (meaning known (between text at end)) text end r
       → Meets known text past at end r
   meets h l e p =
       let w : List ℕ = between text at end in

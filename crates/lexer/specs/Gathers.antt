@@ -1,5 +1,5 @@
 -- What is gathered from a text, piece by piece.
-use Rattle.std.specs.Prelude.{◌≡◌, cond, List, [], ◌∷◌, ◌++◌, map, ℕ, ◌+◌, ◌*◌, ◌≤◌, ◌<◌, ltb, length, take, drop, set}
+use Rattle.std.specs.Prelude.{◌≡◌, cond, Option, Some, None, Result, Ok, Err, List, [], ◌∷◌, ◌++◌, map, ℕ, ◌+◌, ◌*◌, ◌≤◌, ◌<◌, ltb, length, take, drop, set}
 use Rattle.content.specs.declared.Row.{Row}
 use Rattle.spelling.specs.Names.{Known, Book, book}
 use Rattle.spelling.specs.Literals.{Literal, row_of_literal, laid}
@@ -10,10 +10,7 @@ use Rattle.literal_bytes.specs.Written.{literal_by}
 use Rattle.senses.specs.declared.Piece.{Piece}
 use Rattle.senses.specs.Senses.{met_of}
 use Rattle.lexer.specs.declared.Gathered.{Gathered}
-use Rattle.lexer.specs.declared.Stepped.{Stepped}
-use Rattle.lexer.specs.declared.Stepped.TheVariants.{On, End, Fault}
-use Rattle.lexer.specs.declared.Lexed.{Lexed}
-use Rattle.lexer.specs.declared.Lexed.TheVariants.{Whole, Fault as LexedFault}
+use Rattle.lexer.specs.declared.Fault.{Fault}
 use Rattle.content.specs.Kinds.{kind_alphanumeric, row_width}
 
 -- a list with other numbers from a place on
@@ -148,21 +145,21 @@ Keeps known text g tokens rows bytes next tokens_after rows_after bytes_after =
     (w : Total) → Gathers known text w g tokens rows bytes → Gathers known text w next tokens_after rows_after bytes_after
 
 -- after a step: gathered with one piece more; nothing left; or the first fault
-abbrev pub StepGives : Known → List ℕ → Gathered → List ℕ → List ℕ → List ℕ → Stepped → List ℕ → List ℕ → List ℕ → Type 0
-StepGives known text g tokens rows bytes (On next) tokens_after rows_after bytes_after =
+abbrev pub StepGives : Known → List ℕ → Gathered → List ℕ → List ℕ → List ℕ → Result (Option Gathered) Fault → List ℕ → List ℕ → List ℕ → Type 0
+StepGives known text g tokens rows bytes (Ok (Some next)) tokens_after rows_after bytes_after =
     Keeps known text g tokens rows bytes next tokens_after rows_after bytes_after × Bounds text next × Grows g next
     × Beyond next tokens rows bytes tokens_after rows_after bytes_after
-StepGives known text g tokens rows bytes End tokens_after rows_after bytes_after =
+StepGives known text g tokens rows bytes (Ok None) tokens_after rows_after bytes_after =
     Same tokens rows bytes tokens_after rows_after bytes_after × (left known text g.past ≡ [])
-StepGives known text g tokens rows bytes (Fault number place) tokens_after rows_after bytes_after =
+StepGives known text g tokens rows bytes (Err f) tokens_after rows_after bytes_after =
     Same tokens rows bytes tokens_after rows_after bytes_after
-    × ((w : Total) → Gathers known text w g tokens rows bytes → w.fault ≡ refusal number place) × (place < length text)
+    × ((w : Total) → Gathers known text w g tokens rows bytes → w.fault ≡ refusal f.number f.place) × (f.place < length text)
 
-pub record Steps (known : Known) (text : List ℕ) (g : Gathered) (tokens rows bytes : List ℕ) (r : Stepped) (tokens_after rows_after bytes_after : List ℕ) : Type 0 where
+pub record Steps (known : Known) (text : List ℕ) (g : Gathered) (tokens rows bytes : List ℕ) (r : Result (Option Gathered) Fault) (tokens_after rows_after bytes_after : List ℕ) : Type 0 where
   pub gives : StepGives known text g tokens rows bytes r tokens_after rows_after bytes_after
 
-abbrev pub early_by : ℕ → ℕ → Lexed
-early_by number place = cond (ltb place 2048) (LexedFault number place) (LexedFault 15 2048)
+abbrev pub early_by : Fault → Fault
+early_by f = cond (ltb f.place 2048) f (record { number = 15; place = 2048 })
 
 -- all that is gathered of a text without a fault, after the literals of a book
 pub record Holds (b : Book) (text : List ℕ) (g : Gathered) (tokens rows bytes tokens_after rows_after bytes_after : List ℕ) : Type 0 where
@@ -182,10 +179,10 @@ pub record Stopped (b : Book) (text : List ℕ) (number place : ℕ) (tokens row
   pub gathers : Gathers b.known text (total_of b text) gathered tokens_after rows_after bytes_after
   pub beyond : Beyond gathered tokens rows bytes tokens_after rows_after bytes_after
 
-abbrev pub LexedGives : Book → List ℕ → List ℕ → List ℕ → List ℕ → Lexed → List ℕ → List ℕ → List ℕ → Type 0
-LexedGives b text tokens rows bytes (Whole g) tokens_after rows_after bytes_after = Holds b text g tokens rows bytes tokens_after rows_after bytes_after
-LexedGives b text tokens rows bytes (LexedFault number place) tokens_after rows_after bytes_after =
-    Stopped b text number place tokens rows bytes tokens_after rows_after bytes_after
+abbrev pub LexedGives : Book → List ℕ → List ℕ → List ℕ → List ℕ → Result Gathered Fault → List ℕ → List ℕ → List ℕ → Type 0
+LexedGives b text tokens rows bytes (Ok g) tokens_after rows_after bytes_after = Holds b text g tokens rows bytes tokens_after rows_after bytes_after
+LexedGives b text tokens rows bytes (Err f) tokens_after rows_after bytes_after =
+    Stopped b text f.number f.place tokens rows bytes tokens_after rows_after bytes_after
 
-pub record Lexes (b : Book) (text tokens rows bytes : List ℕ) (r : Lexed) (tokens_after rows_after bytes_after : List ℕ) : Type 0 where
+pub record Lexes (b : Book) (text tokens rows bytes : List ℕ) (r : Result Gathered Fault) (tokens_after rows_after bytes_after : List ℕ) : Type 0 where
   pub gives : LexedGives b text tokens rows bytes r tokens_after rows_after bytes_after

@@ -4,11 +4,16 @@ ghost use Rattle.naming.specs.Named.{Listed, known_at};
 ghost use Rattle.lexer.specs.Gathers.{Ready, Steps, Rooms, early_by, book_in, Lexes};
 
 use crate::laying::add;
-use crate::{Gathered, Lexed, Stepped};
+use crate::{Fault, Gathered};
 use senses::pieces::piece_at;
-use splitter::Next;
 use splitter::splits::next_word;
 
+const TOO_LONG: Fault = Fault {
+    number: 15,
+    place: 2048,
+};
+
+// The next piece gathered, if there is one.
 fn step(
     description: &[u8],
     places: &[u32],
@@ -18,41 +23,37 @@ fn step(
     tokens: &mut [u32],
     rows: &mut [u32],
     bytes: &mut [u8],
-) -> Stepped
+) -> Result<Option<Gathered>, Fault>
     requires { Listed items places.now × Ready text.now held tokens.old rows.old bytes.old }
     ensures { Steps (known_at description.now items places.now) text.now held tokens.old rows.old bytes.old result tokens.new rows.new bytes.new }
 {
-    let past = held.past;
-    let next = next_word(text, past);
-    match next {
-        Next::Word(at, end) => {
-            let piece = piece_at(description, places, items, text, at, end);
-            add(
-                description,
-                places,
-                items,
-                text,
-                at,
-                end,
-                piece,
-                held,
-                tokens,
-                rows,
-                bytes,
-            )
-        }
-        Next::End => Stepped::End,
-    }
+    let Some(word) = next_word(text, held.past) else {
+        return Ok(None);
+    };
+    let piece = piece_at(description, places, items, text, word.at, word.end);
+    add(
+        description,
+        places,
+        items,
+        text,
+        word.at,
+        word.end,
+        piece,
+        held,
+        tokens,
+        rows,
+        bytes,
+    )
 }
 
 // "byte 2,048 is refused with 15": what stands before it is refused first.
-fn early(number: u32, place: usize) -> Lexed
-    ensures { result ≡ early_by number place }
+fn early(fault: Fault) -> Fault
+    ensures { result ≡ early_by fault }
 {
-    if place < 2048 {
-        return Lexed::Fault(number, place);
+    if fault.place < 2048 {
+        return fault;
     }
-    Lexed::Fault(15, 2048)
+    TOO_LONG
 }
 
 // The first `literals` rows and `content` bytes are the description's: the text's go on from there.
@@ -66,7 +67,7 @@ pub fn gather(
     tokens: &mut [u32],
     rows: &mut [u32],
     bytes: &mut [u8],
-) -> Lexed
+) -> Result<Gathered, Fault>
     requires { Listed items places.now × Rooms tokens.old rows.old bytes.old × (literals ≤ 64) × (content ≤ 4096) }
     ensures { Lexes (book_in (known_at description.now items places.now) literals content rows.old bytes.old) text.now tokens.old rows.old bytes.old result tokens.new rows.new bytes.new }
 {
@@ -76,25 +77,21 @@ pub fn gather(
         bytes: content,
         past: 0,
     };
+    // The step depends on what is read.
     while held.past < 2048 {
-        let stepped = step(description, places, items, text, held, tokens, rows, bytes);
-        match stepped {
-            Stepped::On(next) => {
-                held = next;
-            }
-            Stepped::End => {
+        match step(description, places, items, text, held, tokens, rows, bytes) {
+            Ok(Some(next)) => held = next,
+            Ok(None) => {
                 if text.len() <= 2048 {
-                    return Lexed::Whole(held);
+                    return Ok(held);
                 }
-                return Lexed::Fault(15, 2048);
+                return Err(TOO_LONG);
             }
-            Stepped::Fault(number, place) => {
-                return early(number, place);
-            }
+            Err(fault) => return Err(early(fault)),
         }
     }
     if text.len() <= 2048 {
-        return Lexed::Whole(held);
+        return Ok(held);
     }
-    Lexed::Fault(15, 2048)
+    Err(TOO_LONG)
 }

@@ -6,17 +6,11 @@ ghost use Rattle.naming.specs.Named.{known_at};
 ghost use Rattle.lexer.specs.Gathers.{over_at, moved_to, with_token, LiteralRoom, LiteralLaid, Ready, Meets, Steps};
 ghost use Rattle.content.specs.Kinds.{row_width};
 
-use crate::{Gathered, Stepped};
+use crate::{Fault, Gathered};
 use content::Row;
 use literal_bytes::copies::copy_literal;
 use senses::{Met, Piece};
 use tables::tokens::FIRST_LITERAL;
-
-fn wide(x: u32) -> usize
-    ensures { result ≡ x }
-{
-    x as usize
-}
 
 // A literal's row, laid with its bytes at this offset.
 fn lay_row(row: Row, offset: usize, rows: &mut [u32], v: usize)
@@ -53,7 +47,7 @@ fn add_literal(
     Gathered {
         tokens: n + 1,
         literals: v + 1,
-        bytes: b + wide(row.size),
+        bytes: b + row.size as usize,
         past,
     }
 }
@@ -72,7 +66,7 @@ fn add_token(t: u32, held: Gathered, past: usize, tokens: &mut [u32]) -> Gathere
     }
 }
 
-// The piece of the word from `at` to `end`.
+// The piece of the word from `at` to `end`: what is gathered with it. As `step` answers, where there may be no piece.
 pub(crate) fn add(
     description: &[u8],
     places: &[u32],
@@ -85,20 +79,25 @@ pub(crate) fn add(
     tokens: &mut [u32],
     rows: &mut [u32],
     bytes: &mut [u8],
-) -> Stepped
+) -> Result<Option<Gathered>, Fault>
     requires ready { Ready text.now held tokens.old rows.old bytes.old }
     requires meets { Meets (known_at description.now items places.now) text.now held.past at end piece }
     ensures { Steps (known_at description.now items places.now) text.now held tokens.old rows.old bytes.old result tokens.new rows.new bytes.new }
 {
-    let met = piece.met;
-    match met {
-        Met::Token(t) => Stepped::On(add_token(t, held, piece.past, tokens)),
-        Met::Literal(row) => {
-            if 64 <= held.literals {
-                return Stepped::Fault(15, at);
+    match piece.met {
+        Ok(met) => match met {
+            Met::Token(t) => Ok(Some(add_token(t, held, piece.past, tokens))),
+            Met::Literal(row) => {
+                if 64 <= held.literals {
+                    return Err(Fault {
+                        number: 15,
+                        place: at,
+                    });
+                }
+                let next = add_literal(row, &text[at..end], held, piece.past, tokens, rows, bytes);
+                Ok(Some(next))
             }
-            Stepped::On(add_literal(row, &text[at..end], held, piece.past, tokens, rows, bytes))
-        }
-        Met::Fault(number) => Stepped::Fault(number, at),
+        },
+        Err(number) => Err(Fault { number, place: at }),
     }
 }

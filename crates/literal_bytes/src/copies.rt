@@ -12,11 +12,7 @@ pub fn copy_bytes(from: &[u8], to: &mut [u8])
     requires { length from.now ≤ length to.old }
     ensures { to.new ≡ written_over from.now to.old }
 {
-    let mut n: usize = 0;
-    while n < from.len() {
-        to[n] = from[n];
-        n += 1;
-    }
+    to[..from.len()].copy_from_slice(from);
 }
 
 // The bytes of a number: its point is left out.
@@ -47,6 +43,7 @@ fn copy_undoubled(from: &[u8], to: &mut [u8])
 {
     let mut n: usize = 0;
     let mut i: usize = 0;
+    // The step depends on what is read.
     while i < from.len() {
         let b = from[i];
         to[n] = b;

@@ -1,5 +1,5 @@
 -- A literal as its word writes it: its row, and what that row says of the word.
-use Rattle.std.specs.Prelude.{◌≡◌, Bool, true, not, cond, List, [], ℕ}
+use Rattle.std.specs.Prelude.{◌≡◌, Bool, true, not, cond, List, [], ℕ, None, Option, Some}
 use Rattle.std.proofs.Math.Option.{get_or}
 use Rattle.content.specs.declared.Row.{Row}
 use Rattle.tables.specs.Rows.{row_sound, is_numeric}
@@ -7,8 +7,6 @@ use Rattle.description.specs.Grammar.{Literal, literal, literal_row}
 use Rattle.description.specs.Reader.{read_literal}
 use Rattle.description.specs.Stages.{is_literal}
 use Rattle.description.specs.Limits.{ruled, unfit}
-use Rattle.literal_words.specs.declared.Number.{Number}
-use Rattle.literal_words.specs.declared.Number.TheVariants.{Is, Not}
 use Rattle.content.specs.Kinds.{kind_alphanumeric}
 
 -- the literal that a word is
@@ -16,8 +14,8 @@ abbrev pub literal_of : List ℕ → Literal
 literal_of word = get_or (read_literal word) (literal 0 [] 0)
 
 -- its row, within 01's limits
-abbrev pub row_found : Literal → Number
-row_found x = cond (unfit x) Not (Is (ruled (literal_row 0 x)))
+abbrev pub row_found : Literal → Option Row
+row_found x = cond (unfit x) None (Some (ruled (literal_row 0 x)))
 
 abbrev pub held_row : ℕ → Row
 held_row n = record { kind = kind_alphanumeric; offset = 0; size = n; scale = 0; digits = 0 }

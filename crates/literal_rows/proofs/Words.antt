@@ -30,14 +30,11 @@ use Rattle.spelling.proofs.Accepted.{small_size}
 use Rattle.spelling.proofs.Laying.{of_literal_kind}
 use Rattle.spelling.specs.Literals as S
 use Rattle.spelling.specs.Literals.{is_point, without_point, after_point, number_of, text_of, is_number, is_text, fits, quoted, doubled, row_of_literal}
-use Rattle.literal_words.specs.declared.Number.{Number}
-use Rattle.literal_words.specs.declared.Number.TheVariants.{Is, Not}
-use Rattle.literal_words.specs.declared.Text.{Text}
-use Rattle.literal_words.specs.declared.Text.TheVariants.{Is as Held, Not as NoText}
 use Rattle.literal_words.specs.Found.{number_found, text_found}
 use Rattle.literal_bytes.specs.Written.{literal_by, written_over}
 use Rattle.literal_words.proofs.Holding.{text_again}
 use Rattle.literal_pairs.specs.Spelling.{literal_of, row_found, held_row, Written}
+use Rattle.std.specs.Prelude.{None, Option as Perhaps, Some}
 
 -- Digits have no point.
 digit_point : (b : ℕ) → is_digit b ≡ true → is_point b ≡ false
@@ -189,13 +186,13 @@ number_found_lem : (w : List ℕ) (x : Literal) → Numbers w x → number_found
 unfolding is_number
 number_found_lem w x n = rw (n.kinds, n.out, n.after, n.content (digit_count x.kind (length x.bytes)), n.last) (by (row_sound (ruled (literal_row 0 x))))
   where
-    by : (t : Bool) → cond (t && true && true) (Is (ruled (literal_row 0 x))) Not ≡ cond (not t) Not (Is (ruled (literal_row 0 x)))
+    by : (t : Bool) → cond (t && true && true) (Some (ruled (literal_row 0 x))) None ≡ cond (not t) None (Some (ruled (literal_row 0 x)))
     by true = refl
     by false = refl
 
-abbrev pub text_row : Text → Number
-text_row (Held n) = Is (held_row n)
-text_row NoText = Not
+abbrev pub text_row : Perhaps ℕ → Perhaps Row
+text_row (Some n) = Some (held_row n)
+text_row None = None
 
 valid_text : (d : ℕ) (bytes : List ℕ) → valid_content 2 d bytes ≡ true
 valid_text d bytes = valid_other 2 d bytes (λ e. omega arith) (λ e. omega arith) (λ e. omega arith) (λ e. omega arith) (λ e. omega arith) refl
@@ -205,7 +202,7 @@ unfolding is_text
 text_found_lem bs =
     rw (text_again bs, same_refl (quoted bs), valid_text 0 bs) (by (row_sound (held_row (length bs))))
   where
-    by : (t : Bool) → text_row (cond (t && true) (Held (length bs)) NoText) ≡ cond (not t) Not (Is (held_row (length bs)))
+    by : (t : Bool) → text_row (cond (t && true) (Some (length bs)) None) ≡ cond (not t) None (Some (held_row (length bs)))
     by true = refl
     by false = refl
 
@@ -233,7 +230,7 @@ module _ (w : List ℕ) (h : is_literal w ≡ true) where
       by (inr q) = absurd (e (rw q.word))
 
 -- a literal that is held has at most 256 bytes
-pub held_small : (w : List ℕ) (n : ℕ) → text_found w ≡ Held n → n ≤ 256
+pub held_small : (w : List ℕ) (n : ℕ) → text_found w ≡ Some n → n ≤ 256
 unfolding is_text
 held_small w n e =
     by (same w (quoted (text_of w).bytes)) (row_sound (held_row (length (text_of w).bytes))) (valid_content 2 0 (text_of w).bytes) refl e
@@ -241,7 +238,7 @@ held_small w n e =
     small : (m : ℕ) → row_sound (held_row m) ≡ true → m ≤ 256
     small m h = leb-true m 256 (and_both (leb 1 m) (leb m 256) (and_both (leb 1 m && leb m 256) true (and_both (leb 1 m && leb m 256 && true) true (rw or-false at h)).0).0).1
 
-    by : (a t v : Bool) → row_sound (held_row (length (text_of w).bytes)) ≡ t → cond (a && (t && v)) (Held (length (text_of w).bytes)) NoText ≡ Held n → n ≤ 256
+    by : (a t v : Bool) → row_sound (held_row (length (text_of w).bytes)) ≡ t → cond (a && (t && v)) (Some (length (text_of w).bytes)) None ≡ Some n → n ≤ 256
     by true true true h e = let i : length (text_of w).bytes ≡ n = cc in rw i at (small (length (text_of w).bytes) h)
     by true true false h e = let z : ◌≡◌ {A = ℕ} 0 1 = cc in absurd (omega arith)
     by true false v h e = let z : ◌≡◌ {A = ℕ} 0 1 = cc in absurd (omega arith)

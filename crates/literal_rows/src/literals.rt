@@ -6,7 +6,6 @@ ghost use Rattle.literal_pairs.specs.Spelling.{literal_of, row_found, held_row};
 use content::Row;
 use literal_words::numbers::read_number;
 use literal_words::quotes::read_text;
-use literal_words::{Number, Text};
 use text_bytes::bytes::byte_at;
 
 // The row of a nonnumeric literal of n bytes.
@@ -24,14 +23,15 @@ fn text_row(n: usize) -> Row
 }
 
 // The row of a literal whose bytes would be laid at offset 0, where 01's limits let it have one.
-pub fn literal_row(word: &[u8]) -> Number
+pub fn literal_row(word: &[u8]) -> Option<Row>
     requires { is_literal word.now ≡ true }
     ensures { result ≡ row_found (literal_of word.now) }
 {
     if byte_at(word, 0) == 0x22 {
+        // Not `?`: the proof would name a step after the byte above, which must-fail/apostrophe changes.
         return match read_text(word) {
-            Text::Is(n) => Number::Is(text_row(n)),
-            Text::Not => Number::Not,
+            Some(n) => Some(text_row(n)),
+            None => None,
         };
     }
     read_number(word)

@@ -15,9 +15,9 @@ use Rattle.tables.proofs.Tests.{both}
 use Rattle.description.specs.Grammar.{same}
 use Rattle.spelling.specs.Words.{is_quote}
 use Rattle.spelling.specs.Literals.{Literal, doubled, quoted, undoubled, text_of, is_text, fits}
-use Rattle.literal_words.specs.declared.Text.TheVariants.{Is, Not}
 use Rattle.literal_words.specs.Found.{closes, inner, held_bytes, within_limits, text_found}
 use Rattle.spelling.proofs.Cutting.{same_true, same_refl}
+use Rattle.std.specs.Prelude.{None, Some}
 
 and_none : (a b c : Bool) → a && false && b ≡ a && false && c
 and_none true b c = refl
@@ -179,19 +179,19 @@ pub in_quotes : (b : ℕ) (bytes : List ℕ) → is_quote b ≡ true → within_
 in_quotes b bytes e = rw (text_by_lem (b ∷ bytes), e) (by (closes false bytes) refl)
   where
     by : (t : Bool) → closes false bytes ≡ t
-        → within_limits (cond t (Is (length (inner false bytes))) Not)
-        ≡ cond (t && fits (text_by (b ∷ bytes))) (Is (length (undoubled false (but_last bytes)))) Not
+        → within_limits (cond t (Some (length (inner false bytes))) None)
+        ≡ cond (t && fits (text_by (b ∷ bytes))) (Some (length (undoubled false (but_last bytes)))) None
     by true p = rw (limits (inner false bytes), text-bytes bytes p)
     by false p = refl
 
-pub no_quotes : (b : ℕ) (bytes : List ℕ) → is_quote b ≡ false → Not ≡ text_found (b ∷ bytes)
+pub no_quotes : (b : ℕ) (bytes : List ℕ) → is_quote b ≡ false → None ≡ text_found (b ∷ bytes)
 no_quotes b bytes e = rw (text_by_lem (b ∷ bytes), e)
 
-pub held_not : (bytes : List ℕ) → closes false bytes ≡ false → Not ≡ within_limits (held_bytes bytes)
+pub held_not : (bytes : List ℕ) → closes false bytes ≡ false → None ≡ within_limits (held_bytes bytes)
 held_not bytes e = rw e
 
 pub held_is : (bytes : List ℕ) (pending : Bool) (n : ℕ) (t : Bool) → closes false bytes ≡ pending → length (inner false bytes) ≡ n
-    → pending && (leb 1 n && leb n 256) ≡ t → cond t (Is n) Not ≡ within_limits (held_bytes bytes)
+    → pending && (leb 1 n && leb n 256) ≡ t → cond t (Some n) None ≡ within_limits (held_bytes bytes)
 held_is bytes true n t e h g = rw (e, h, g)
 held_is bytes false n t e h g = rw (← g, e)
 
@@ -203,11 +203,11 @@ one_most false n e = omega arith
 rest_whole : (b : ℕ) (bytes : List ℕ) → take (length (b ∷ bytes) - 1) (drop 1 (b ∷ bytes)) ≡ bytes
 rest_whole b bytes = take_all (length (b ∷ bytes) - 1) bytes (omega arith)
 
-pub text_empty : (word : List ℕ) → length word ≡ 0 → Not ≡ text_found word
+pub text_empty : (word : List ℕ) → length word ≡ 0 → None ≡ text_found word
 text_empty [] e = rw (text_by_lem [])
 text_empty (b ∷ bytes) e = absurd (omega arith)
 
-pub text_none : (word : List ℕ) → (length word ≡ 0 → ⊥) → (get_or word 0 0 ≡ 0x22 → ⊥) → Not ≡ text_found word
+pub text_none : (word : List ℕ) → (length word ≡ 0 → ⊥) → (get_or word 0 0 ≡ 0x22 → ⊥) → None ≡ text_found word
 text_none [] some e = absurd (some refl)
 text_none (b ∷ bytes) some e = no_quotes b bytes (ne_eqb b 0x22 e)
 

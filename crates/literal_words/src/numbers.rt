@@ -6,7 +6,6 @@ ghost use Rattle.literal_words.specs.Found.{number_found, row_by};
 ghost use Rattle.content.specs.WrongByte.{valid_content};
 ghost use Rattle.content.specs.Kinds.{kind_unsigned, kind_sign_leading};
 
-use crate::Number;
 use content::Row;
 use field_digits::digits::all_digits;
 use field_signs::signs::is_sign;
@@ -96,28 +95,28 @@ fn number_content(word: &[u8], p: usize, signed: bool) -> bool
     all_digits(&word[from..p]) & digits_after(word, p)
 }
 
-// The numeric literal that a word writes, if it writes one.
-pub fn read_number(word: &[u8]) -> Number
+// The row of the numeric literal that a word writes, its bytes at offset 0, if it writes one.
+pub fn read_number(word: &[u8]) -> Option<Row>
     ensures { result ≡ number_found word.now }
 {
     let n = word.len();
     if n == 0 {
-        return Number::Not;
+        return None;
     }
     if 20 < n {
-        return Number::Not;
+        return None;
     }
-    if word[n - 1] == 0x2e {
-        return Number::Not;
+    if word[n - 1] == b'.' {
+        return None;
     }
     let signed = is_sign(word[0]);
     let p = point_place(word);
     let row = row_of_number(n, p, signed);
     if !row_sound(row) {
-        return Number::Not;
+        return None;
     }
     if !number_content(word, p, signed) {
-        return Number::Not;
+        return None;
     }
-    Number::Is(row)
+    Some(row)
 }

@@ -3,8 +3,6 @@ ghost use Rattle.std.specs.Prelude.{◌≡◌, cond, not, ◌&&◌};
 ghost use Rattle.spelling.specs.Words.{is_quote};
 ghost use Rattle.literal_words.specs.Found.{held_bytes, within_limits, text_found};
 
-use crate::Text;
-
 // A quote was met, and what follows it is no quote.
 fn broken(pending: bool, b: u8) -> bool
     ensures { result ≡ pending && not (is_quote b) }
@@ -29,36 +27,33 @@ fn one_unless(pending: bool) -> usize
 }
 
 // The bytes after the opening quote.
-fn held(bytes: &[u8]) -> Text
+fn held(bytes: &[u8]) -> Option<usize>
     ensures { result ≡ within_limits (held_bytes bytes.now) }
 {
     let mut pending = false;
     let mut n: usize = 0;
-    let mut i: usize = 0;
-    while i < bytes.len() {
-        let b = bytes[i];
-        if broken(pending, b) {
-            return Text::Not;
+    for b in bytes {
+        if broken(pending, *b) {
+            return None;
         }
-        pending = waits(pending, b);
+        pending = waits(pending, *b);
         n += one_unless(pending);
-        i += 1;
     }
     if pending & ((1 <= n) & (n <= 256)) {
-        return Text::Is(n);
+        return Some(n);
     }
-    Text::Not
+    None
 }
 
-// The nonnumeric literal that a word writes, if it writes one.
-pub fn read_text(word: &[u8]) -> Text
+// How many bytes the nonnumeric literal holds that a word writes, if it writes one.
+pub fn read_text(word: &[u8]) -> Option<usize>
     ensures { result ≡ text_found word.now }
 {
     if word.len() == 0 {
-        return Text::Not;
+        return None;
     }
     if word[0] == 0x22 {
         return held(&word[1..]);
     }
-    Text::Not
+    None
 }

@@ -1,12 +1,11 @@
 -- Items by their names, and conditions by their words.
-use Rattle.std.specs.Prelude.{◌≡◌, ℕ, zero, suc, ◌+◌, ◌-◌, ◌%◌, Bool, cond, ◌&&◌, ◌||◌, List, [], ◌∷◌, length, take, drop, ◌==◌, nat_le, nat_lt, slice_index}
+use Rattle.std.specs.Prelude.{◌≡◌, Result, Ok, Err, ℕ, zero, suc, ◌+◌, ◌-◌, ◌%◌, Bool, cond, ◌&&◌, ◌||◌, List, [], ◌∷◌, length, take, drop, ◌==◌, nat_le, nat_lt, slice_index}
 use Rattle.content.specs.declared.Row.{Row}
 use Rattle.tables.specs.Rows.{row_at, row_count}
 use Rattle.items.specs.Items.{elementary_at}
 use Rattle.tables.specs.Words.{NOT}
 use Rattle.grammar.specs.declared.PlanRow.{PlanRow}
-use Rattle.books.specs.declared.Printed.{Printed}
-use Rattle.books.specs.declared.Printed.TheVariants.{Count, Description, Refused, Name}
+use Rattle.books.specs.declared.PrintRefusal.{PrintRefusal}
 use Rattle.books.specs.Calls.{PrintedAs}
 use Rattle.spelling.specs.Printing.{print_condition}
 
@@ -38,14 +37,12 @@ abbrev pub item_with : List ℕ → ℕ → ℕ
 item_with items byte = cond (nat_lt 64 (row_count items)) 64 (first_with items byte 0 (row_count items))
 
 -- tokens as words: how many bytes they have, none where they can't be printed
-abbrev pub count_in : Printed → ℕ
-count_in (Count n) = n
-count_in (Description p) = 0
-count_in (Refused refusal) = 0
-count_in (Name i) = 0
+abbrev pub count_in : Result ℕ PrintRefusal → ℕ
+count_in (Ok n) = n
+count_in (Err refusal) = 0
 
 pub record Words (description literals bytes tokens out : List ℕ) (r : ℕ) (after : List ℕ) : Type 0 where
-  pub printed : Printed
+  pub printed : Result ℕ PrintRefusal
   pub printed_as : PrintedAs (print_condition description literals bytes tokens) out printed after
   pub counts : r ≡ count_in printed
 

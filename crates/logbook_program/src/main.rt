@@ -18,7 +18,7 @@ mod show_rule; // rule
 mod sweep_file; // sweep
 mod verdicts; // where a rule stops
 
-use books::Recognized;
+use books::ReadRefusal;
 use console::arguments::{argument, argument_count};
 use content::Row;
 use describing::Described;
@@ -286,9 +286,8 @@ fn with_rule(
     let mut tokens = [0u32; TOKENS];
     let mut literals = [0u32; ROW_NUMBERS];
     let mut bytes = [0u8; LITERAL_BYTES];
-    let recognized = read(description, rule, &mut tokens, &mut literals, &mut bytes);
-    match recognized {
-        Recognized::Counts(t, l, b) => {
+    match read(description, rule, &mut tokens, &mut literals, &mut bytes) {
+        Ok(counts) => {
             return with_tokens(
                 rt,
                 command,
@@ -298,16 +297,16 @@ fn with_rule(
                 names,
                 name_places,
                 rule,
-                front(&literals, l),
-                front_bytes(&bytes, b),
-                front(&tokens, t),
+                front(&literals, counts.literals),
+                front_bytes(&bytes, counts.bytes),
+                front(&tokens, counts.tokens),
             );
         }
-        Recognized::Description(place) => in_text(rt, 14, 2, description, place),
-        Recognized::Word(place) => in_text(rt, 15, 3, rule, place),
-        Recognized::Name(place) => in_text(rt, 16, 3, rule, place),
-        Recognized::TokenCount => sentence(rt, 5),
-        Recognized::Room(_) => sentence(rt, 10),
+        Err(ReadRefusal::Description(place)) => in_text(rt, 14, 2, description, place),
+        Err(ReadRefusal::Word(place)) => in_text(rt, 15, 3, rule, place),
+        Err(ReadRefusal::Name(place)) => in_text(rt, 16, 3, rule, place),
+        Err(ReadRefusal::TokenCount) => sentence(rt, 5),
+        Err(ReadRefusal::Room(_)) => sentence(rt, 10),
     }
     2
 }

@@ -6,7 +6,6 @@ use crate::print::text;
 use crate::refusals::sentence;
 use crate::verdicts::condition;
 use crate::wording::item_name;
-use books::Printed;
 use forms::calls::expand;
 use fronts::{front, front_bytes};
 use grammar::PlanRow;
@@ -28,8 +27,7 @@ const ROWS: usize = 64;
 // Tokens as a line of words: there is room for those of 634 tokens, unless they repeat the longest literals.
 fn line(rt: HostRuntime, description: &[u8], literals: &[u32], bytes: &[u8], tokens: &[u32]) {
     let mut words = large();
-    let printed = print(description, literals, bytes, tokens, &mut words);
-    if let Printed::Count(n) = printed {
+    if let Ok(n) = print(description, literals, bytes, tokens, &mut words) {
         text(&rt.stdout(), front_bytes(&words, n));
         text(&rt.stdout(), b"\n");
     } else {

@@ -3,7 +3,6 @@ ghost use Rattle.std.specs.Prelude.{◌≡◌, drop};
 ghost use Rattle.logbook_program.specs.Worded.{ends_name, name_in, place_of_row, name_of_row, has_byte, item_with, Words};
 
 use crate::files::wide;
-use books::Printed;
 use content::Row;
 use fronts::front_bytes;
 use printouts::printing::print;
@@ -67,12 +66,9 @@ pub(crate) fn words(
 ) -> usize
     ensures { Words description.now literals.now bytes.now tokens.now out.old result out.new }
 {
-    let printed = print(description, literals, bytes, tokens, out);
-    match printed {
-        Printed::Count(n) => n,
-        Printed::Description(_) => 0,
-        Printed::Refused(_) => 0,
-        Printed::Name(_) => 0,
+    match print(description, literals, bytes, tokens, out) {
+        Ok(n) => n,
+        Err(_) => 0,
     }
 }
 

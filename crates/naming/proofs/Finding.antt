@@ -9,6 +9,7 @@ use lib.ListN.{length, get_or, take, drop, length-drop, drop_of_length-le, take-
 use lib.Seq.{drop-cons, drop-drop, take-append_seam, length-take-le, get_or-take}
 use lib.Dec.{eqb, ltb}
 use borrow.Author.Tests.{eq-eqb, ne_eqb, eqb-true, lt-ltb, le-ltb, not-true, not-false}
+use Rattle.std.specs.Cmp.Lexicographic.{pointwise}
 use Rattle.description.specs.Grammar.{all, is_name_byte, same}
 use Rattle.description.proofs.Bytes.{and_both}
 use Rattle.keywords.proofs.Same.{same_lengths}
@@ -16,7 +17,8 @@ use Rattle.spelling.specs.Names.{leading, names_at, every_name}
 use Rattle.spelling.specs.Meanings.{count, position}
 use Rattle.spelling.proofs.Cutting.{same_true}
 use Rattle.spelling.proofs.Describing.{length-map}
-use Rattle.naming.specs.declared.Called.TheVariants.{Item, Condition, Not}
+use Rattle.std.specs.Prelude.{Some, None}
+use Rattle.naming.specs.declared.Called.TheVariants.{Item, Condition}
 use Rattle.naming.specs.Named.{known_at, row_by, called_by}
 
 -- how far a name goes
@@ -24,14 +26,14 @@ pub leading-ended : (rest : List ℕ) (k : ℕ) → length rest ≤ k → leadin
 unfolding leading
 leading-ended rest k h = rw (drop_of_length-le rest h)
 
-pub leading-stopped : (rest : List ℕ) (k : ℕ) → k < length rest → is_name_byte (get_or rest k 0) ≡ false → leading (drop k rest) ≡ []
+pub leading_stopped : (rest : List ℕ) (k : ℕ) → k < length rest → is_name_byte (get_or rest k 0) ≡ false → leading (drop k rest) ≡ []
 unfolding leading
-leading-stopped rest k h e = rw (drop-cons rest k 0 h, e)
+leading_stopped rest k h e = rw (drop-cons rest k 0 h, e)
 
 pub leading_on : (rest : List ℕ) (k : ℕ) → k < length rest → is_name_byte (get_or rest k 0) ≡ true
-    → leading (drop k rest) ≡ get_or rest k 0 ∷ leading (drop (suc k) rest)
+    → leading (drop k rest) ≡ get_or rest k 0 ∷ leading (drop (k + 1) rest)
 unfolding leading
-leading_on rest k h e = rw (drop-cons rest k 0 h, e)
+leading_on rest k h e = rw (add-one, drop-cons rest k 0 h, e)
 
 pub leading_short : (rest : List ℕ) → length (leading rest) ≤ length rest
 unfolding leading
@@ -73,42 +75,30 @@ byte_differs word rest k h e = by (same word (leading rest)) refl
         let name : word ≡ leading rest = same_true word (leading rest) q in
         absurd (e (sym (get_or-take (length (leading rest)) rest k 0 (omega (arith, ap length name))) ∙ ap (λ (v : List ℕ). get_or v k 0) (leading-first rest ∙ sym name)))
 
-every_at : (word : List ℕ) (k : ℕ) → all is_name_byte word ≡ true → k < length word → is_name_byte (get_or word k 0) ≡ true
-unfolding all
-every_at [] k e h = absurd (omega arith)
-every_at (b ∷ word) zero e h = (and_both (is_name_byte b) (all is_name_byte word) e).0
-every_at (b ∷ word) (suc k) e h = every_at word k (and_both (is_name_byte b) (all is_name_byte word) e).1 (omega arith)
-
-module _ (word rest : List ℕ) (k : ℕ) (named : all is_name_byte word ≡ true) (h : k < length word) (g : k < length rest) where
-  pub name_differs : (get_or rest k 0 ≡ get_or word k 0 → ⊥) → same (drop k word) (leading (drop k rest)) ≡ false
-  unfolding same leading
-  name_differs e = rw (drop-cons word k 0 h, drop-cons rest k 0 g) (by (is_name_byte (get_or rest k 0)))
-    where
-      by : (t : Bool) → same (get_or word k 0 ∷ drop (suc k) word) (cond t (get_or rest k 0 ∷ leading (drop (suc k) rest)) []) ≡ false
-      by true = rw (ne_eqb (get_or word k 0) (get_or rest k 0) (λ q. e (sym q)))
-      by false = refl
-
-  pub name_goes_on : get_or rest k 0 ≡ get_or word k 0 → same (drop k word) (leading (drop k rest)) ≡ same (drop (k + 1) word) (leading (drop (k + 1) rest))
-  unfolding same
-  name_goes_on e =
-      rw (add-one, drop-cons word k 0 h, leading_on rest k g (ap is_name_byte e ∙ every_at word k named h), eq-eqb (get_or word k 0) (get_or rest k 0) (sym e))
-
-pub name_ends : (word rest : List ℕ) (k : ℕ) (b : ℕ) (r : Bool) → length word ≤ k → b ≡ get_or rest k 0 → r ≡ is_name_byte b
-    → not r ≡ same (drop k word) (leading (drop k rest))
-unfolding same leading
-name_ends word rest k b r h e f = rw (drop_of_length-le word h) (ap not (f ∙ ap is_name_byte e) ∙ by (drop k rest) (is_name_byte (get_or rest k 0)) (first_is rest k))
+-- a word is the name at the head of some bytes, if it stands there and no byte that names have follows
+pub heads : (word rest : List ℕ) → all is_name_byte word ≡ true
+    → pointwise eqb word (take (length word) rest) && not (is_name_byte (get_or rest (length word) 0)) ≡ same word (leading rest)
+unfolding all same leading
+heads [] [] e = refl
+heads [] (c ∷ rest) e = by (is_name_byte c)
   where
-    first_is : (rest : List ℕ) (k : ℕ) → is_name_byte (get_or rest k 0) ≡ is_name_byte (get_or (drop k rest) 0 0)
-    first_is rest zero = refl
-    first_is [] (suc k) = refl
-    first_is (c ∷ rest) (suc k) = first_is rest k
+    by : (t : Bool) → not t ≡ same [] (cond t (c ∷ leading rest) [])
+    by true = refl
+    by false = refl
+heads (b ∷ word) [] e = refl
+heads (b ∷ word) (c ∷ rest) e =
+    let n = and_both (is_name_byte b) (all is_name_byte word) e in by (eqb b c) refl n.0 (heads word rest n.1)
+  where
+    ends : Bool
+    ends = not (is_name_byte (get_or rest (length word) 0))
 
-    by : (v : List ℕ) (t : Bool) → t ≡ is_name_byte (get_or v 0 0) → not t ≡ same [] (leading v)
-    by [] t e = ap not e
-    by (c ∷ v) t e = ap not e ∙ pick (is_name_byte c)
+    by : (t : Bool) → eqb b c ≡ t → is_name_byte b ≡ true → pointwise eqb word (take (length word) rest) && ends ≡ same word (leading rest)
+        → (t && pointwise eqb word (take (length word) rest)) && ends ≡ same (b ∷ word) (cond (is_name_byte c) (c ∷ leading rest) [])
+    by true q f h = let g : is_name_byte c ≡ true = ap is_name_byte (sym (eqb-true b c q)) ∙ f in rw (g, q) h
+    by false q f h = pick (is_name_byte c)
       where
-        pick : (t : Bool) → not t ≡ same [] (cond t (c ∷ leading v) [])
-        pick true = refl
+        pick : (u : Bool) → false ≡ same (b ∷ word) (cond u (c ∷ leading rest) [])
+        pick true = rw q
         pick false = refl
 
 -- rows by their names
@@ -197,10 +187,10 @@ module _ (text places word : List ℕ) (items : ℕ) (few : items ≤ length pla
   at = omega (arith, e)
 
   -- what has the name, by the one list
-  by_names : called_by word (known_at text items places) ≡ cond (eqb (count word names) 1) (row_by items (position word names)) Not
+  by_names : called_by word (known_at text items places) ≡ cond (eqb (count word names) 1) (Some (row_by items (position word names))) None
   by_names = rw (every_name_lem text items places, items-length text items places few)
 
-  pub unknown : first ≡ length places → Not ≡ called_by word (known_at text items places)
+  pub unknown : first ≡ length places → None ≡ called_by word (known_at text items places)
   unknown h =
       let z : count word names ≡ 0 = count_none word names (omega (arith, at, names-length text places)) in
       sym (by_names ∙ rw z)
@@ -215,7 +205,7 @@ module _ (text places word : List ℕ) (items : ℕ) (few : items ≤ length pla
           count-first word names (omega (arith, at, first-within, names-length text places))
           ∙ rw (← at, add-one)
 
-      once : second ≡ length places → called_by word (known_at text items places) ≡ row_by items first
+      once : second ≡ length places → called_by word (known_at text items places) ≡ Some (row_by items first)
       once h =
           let rest : List (List ℕ) = drop (first + 1) names in
           let z : count word rest ≡ 0 =
@@ -223,13 +213,13 @@ module _ (text places word : List ℕ) (items : ℕ) (few : items ≤ length pla
           let n : count word names ≡ 1 = omega (arith, others) in
           by_names ∙ rw (n, at)
 
-      pub once_item : second ≡ length places → first < items → Item first ≡ called_by word (known_at text items places)
+      pub once_item : second ≡ length places → first < items → Some (Item first) ≡ called_by word (known_at text items places)
       once_item h l = sym (once h ∙ rw (lt-ltb first items l))
 
-      pub once_condition : second ≡ length places → items ≤ first → Condition (first - items) ≡ called_by word (known_at text items places)
+      pub once_condition : second ≡ length places → items ≤ first → Some (Condition (first - items)) ≡ called_by word (known_at text items places)
       once_condition h l = sym (once h ∙ rw (le-ltb first items l))
 
-      pub twice : (second ≡ length places → ⊥) → Not ≡ called_by word (known_at text items places)
+      pub twice : (second ≡ length places → ⊥) → None ≡ called_by word (known_at text items places)
       twice h =
           let rest : List (List ℕ) = drop (first + 1) names in
           let l : position word rest < length rest =

@@ -4,10 +4,9 @@
 pub mod names; // the row that has a name
 pub mod parts; // the name at a place
 
-// What has a name: one item by its row, or one condition by its row in the name table; or none, or more.
-#[derive(Clone, Copy)]
+// What alone has a name: an item by its row, or a condition by its row in the name table.
+#[derive(Debug, Clone, Copy, PartialEq, Eq)]
 pub enum Called {
     Item(u32),
     Condition(u32),
-    Not,
 }

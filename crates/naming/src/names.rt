@@ -32,14 +32,7 @@ fn same_name(word: &[u8], rest: &[u8]) -> bool
     if ends_apart(word, rest) {
         return false;
     }
-    let mut k: usize = 0;
-    while k < word.len() {
-        if rest[k] != word[k] {
-            return false;
-        }
-        k += 1;
-    }
-    !is_name_byte(byte_at(rest, k))
+    rest.starts_with(word) && !is_name_byte(byte_at(rest, word.len()))
 }
 
 // The first row from `from` on that has this name, or the number of rows.
@@ -47,31 +40,29 @@ fn first_named(description: &[u8], places: &[u32], word: &[u8], from: usize) -> 
     requires { (all is_name_byte word.now ≡ true) × (from ≤ length places.now) }
     ensures { result ≡ from + position word.now (drop from (names_at description.now places.now)) }
 {
-    let mut k = from;
-    while k < places.len() {
+    for k in from..places.len() {
         if same_name(word, rest_from(description, places[k])) {
             return k;
         }
-        k += 1;
     }
-    k
+    places.len()
 }
 
 // What has this name, if nothing else has it. The first `items` places are items', the others conditions': names of both are one set.
-pub fn row_named(description: &[u8], places: &[u32], items: usize, word: &[u8]) -> Called
+pub fn row_named(description: &[u8], places: &[u32], items: usize, word: &[u8]) -> Option<Called>
     requires { (all is_name_byte word.now ≡ true) × Listed items places.now }
     ensures { result ≡ called_by word.now (known_at description.now items places.now) }
 {
     let first = first_named(description, places, word, 0);
     if first == places.len() {
-        return Called::Not;
+        return None;
     }
     let second = first_named(description, places, word, first + 1);
     if second != places.len() {
-        return Called::Not;
+        return None;
     }
     if first < items {
-        return Called::Item(first as u32);
+        return Some(Called::Item(first as u32));
     }
-    Called::Condition((first - items) as u32)
+    Some(Called::Condition((first - items) as u32))
 }

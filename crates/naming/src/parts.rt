@@ -4,36 +4,25 @@ ghost use Rattle.spelling.specs.Names.{leading};
 
 use text_bytes::bytes::is_name_byte;
 
-fn wide(x: u32) -> usize
-    ensures { result ≡ x }
-{
-    x as usize
-}
-
 // The text from a place on.
 pub(crate) fn rest_from(text: &[u8], place: u32) -> &[u8]
     ensures { result.now ≡ drop place text.now }
 {
-    let at = wide(place);
-    let end = text.len();
-    if at <= end {
-        return &text[at..];
-    }
-    &text[end..]
+    let at = (place as usize).min(text.len());
+    &text[at..]
 }
 
 // How far the name at the head of these bytes goes.
+#[tactic(auto, using(crate::proofs::Finding::leading_stopped))]
 fn name_length(rest: &[u8]) -> usize
     ensures { result ≡ length (leading rest.now) }
 {
-    let mut k: usize = 0;
-    while k < rest.len() {
-        if !is_name_byte(rest[k]) {
+    for (k, b) in rest.iter().enumerate() {
+        if !is_name_byte(*b) {
             return k;
         }
-        k += 1;
     }
-    k
+    rest.len()
 }
 
 // The name or FILLER at a place.

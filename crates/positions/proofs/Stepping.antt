@@ -11,7 +11,7 @@ use Rattle.description.specs.Grammar.{is_blank}
 use Rattle.description.proofs.Bytes.{eqb_no}
 use Rattle.spelling.specs.Names.{Known}
 use Rattle.spelling.specs.Reading.{Placed, pieces_from}
-use Rattle.splitter.specs.declared.Next.TheVariants.{Word as Span}
+use Rattle.std.specs.Prelude.{Some}
 use Rattle.splitter.specs.Splits.{words_at, from_next}
 use Rattle.splitter.proofs.Walking.{no_word}
 use Rattle.senses.specs.declared.Piece.{Piece}
@@ -45,7 +45,7 @@ module _ (tokens : List ℕ) (i left : ℕ) where
   no_more h = let q : condition_token left (drop i tokens) ≡ 0 = ap (condition_token left) (drop_of_length-le tokens h) in omega (arith, q)
 
 module _ (known : Known) (text : List ℕ) (end : ℕ) (past : ℕ) where
-  pub this_piece : (at close : ℕ) → words_at text past ≡ from_next text (Span at close) → place_in end 0 (left known text past) ≡ at
+  pub this_piece : (at close : ℕ) → words_at text past ≡ from_next text (Some (record { at = at; end = close })) → place_in end 0 (left known text past) ≡ at
   unfolding place_in pieces_from
   this_piece at close e = ap (λ ws. place_in end 0 (pieces_from known 0 ws)) e
 

@@ -4,7 +4,6 @@ ghost use Rattle.naming.specs.Named.{Listed, known_at};
 ghost use Rattle.positions.specs.Positions.{text_end, token_place};
 
 use senses::pieces::piece_at;
-use splitter::Next;
 use splitter::splits::next_word;
 use text_bytes::bytes::is_blank;
 
@@ -35,20 +34,15 @@ pub(crate) fn token_place(
     let mut left = k;
     let mut past: usize = 0;
     while past < text.len() {
-        let next = next_word(text, past);
-        match next {
-            Next::Word(at, end) => {
-                if left == 0 {
-                    return at;
-                }
-                let piece = piece_at(description, places, items, text, at, end);
-                left -= 1;
-                past = piece.past;
-            }
-            Next::End => {
-                return text_end(text);
-            }
+        let Some(word) = next_word(text, past) else {
+            return text_end(text);
+        };
+        if left == 0 {
+            return word.at;
         }
+        let piece = piece_at(description, places, items, text, word.at, word.end);
+        left -= 1;
+        past = piece.past;
     }
     text_end(text)
 }

@@ -5,43 +5,38 @@ ghost use Rattle.answers.specs.Answer.{Told};
 ghost use Rattle.print_answers.specs.Prints.{print_count, print_numbers};
 
 use answers::written::narrow;
-use books::Printed;
+use books::PrintRefusal;
 use refusal_numbers::{number_of, place_of};
 
-fn print_number(answer: Printed) -> u32
+fn print_number(answer: Result<usize, PrintRefusal>) -> u32
     ensures { result ≡ print_number answer }
 {
     match answer {
-        Printed::Count(_) => 0,
-        Printed::Description(_) => 14,
-        Printed::Refused(refusal) => number_of(refusal),
-        Printed::Name(_) => 16,
+        Ok(_) => 0,
+        Err(PrintRefusal::Description(_)) => 14,
+        Err(PrintRefusal::Refused(refusal)) => number_of(refusal),
+        Err(PrintRefusal::Name(_)) => 16,
     }
 }
 
-fn print_place(answer: Printed) -> usize
+fn print_place(answer: Result<usize, PrintRefusal>) -> usize
     ensures { result ≡ print_place answer }
 {
     match answer {
-        Printed::Count(_) => 0,
-        Printed::Description(place) => place,
-        Printed::Refused(refusal) => place_of(refusal),
-        Printed::Name(token) => token,
+        Ok(_) => 0,
+        Err(PrintRefusal::Description(place)) => place,
+        Err(PrintRefusal::Refused(refusal)) => place_of(refusal),
+        Err(PrintRefusal::Name(token)) => token,
     }
 }
 
-fn print_count(answer: Printed) -> usize
+fn print_count(answer: Result<usize, PrintRefusal>) -> usize
     ensures { result ≡ print_count answer }
 {
-    match answer {
-        Printed::Count(count) => count,
-        Printed::Description(_) => 0,
-        Printed::Refused(_) => 0,
-        Printed::Name(_) => 0,
-    }
+    answer.unwrap_or(0)
 }
 
-fn print_numbers(answer: Printed) -> [u32; 9]
+fn print_numbers(answer: Result<usize, PrintRefusal>) -> [u32; 9]
     ensures { result ≡ print_numbers answer }
 {
     let place = narrow(print_place(answer));
@@ -49,7 +44,7 @@ fn print_numbers(answer: Printed) -> [u32; 9]
     [place, 0, 0, count, 0, 0, 0, 0, 0]
 }
 
-pub fn tell_printed(given: Printed, answer: &mut [u32; 9]) -> u32
+pub fn tell_printed(given: Result<usize, PrintRefusal>, answer: &mut [u32; 9]) -> u32
     ensures { Told (print_number given) (print_numbers given) result answer.new }
 {
     *answer = print_numbers(given);

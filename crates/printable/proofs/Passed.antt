@@ -9,13 +9,10 @@ use lib.Dec.{eqb, ltb}
 use lib.ListN.{length, get_or, take, drop, length-drop, drop_of_length-le}
 use lib.Seq.{drop-cons, length-take-le, get_or-take, get_or-drop}
 use borrow.Author.Tests.{eq-eqb, ne_eqb}
-use Rattle.description.specs.Grammar.{bytes, same, all, is_name_byte}
+use Rattle.description.specs.Grammar.{all, is_name_byte}
 use Rattle.spelling.specs.Names.{leading, Known, every_name}
-use Rattle.spelling.specs.Meanings.{count, position}
 use Rattle.spelling.specs.Printing.{uniquely, has_name}
-use Rattle.naming.specs.declared.Called.{Called}
-use Rattle.naming.specs.declared.Called.TheVariants.{Item, Condition, Not}
-use Rattle.naming.specs.Named.{known_at, Listed, row_by, called_by}
+use Rattle.naming.specs.Named.{known_at, Listed}
 use Rattle.naming.proofs.Finding.{name_at_lem}
 use Rattle.printable.specs.Passing.{passing, There}
 
@@ -42,39 +39,6 @@ leading-bytes (b ∷ rest) = by (is_name_byte b) refl (leading-bytes rest)
     by : (t : Bool) → is_name_byte b ≡ t → all is_name_byte (leading rest) ≡ true → all is_name_byte (cond t (b ∷ leading rest) []) ≡ true
     by true e h = rw (e, h)
     by false e h = refl
-
-module _ (known : Known) (name : List ℕ) where
-  pub filler : same name (bytes "FILLER") ≡ true → false ≡ uniquely known name
-  filler e = rw e
-
-  module _ (other : same name (bytes "FILLER") ≡ false) (r : Called) (f : r ≡ called_by name known) where
-    abbrev p : ℕ
-    p = position name (every_name known)
-
-    abbrev n : ℕ
-    n = length known.items
-
-    pub once_item : {v : ℕ} → r ≡ Item v → true ≡ uniquely known name
-    once_item {v} g = rw other (by (eqb (count name (every_name known)) 1) (sym g ∙ f))
-      where
-        by : (t : Bool) → Item v ≡ cond t (row_by n p) Not → true ≡ t
-        by true e = refl
-        by false e = cc
-
-    pub once_condition : {v : ℕ} → r ≡ Condition v → true ≡ uniquely known name
-    once_condition {v} g = rw other (by (eqb (count name (every_name known)) 1) (sym g ∙ f))
-      where
-        by : (t : Bool) → Condition v ≡ cond t (row_by n p) Not → true ≡ t
-        by true e = refl
-        by false e = cc
-
-    pub not_once : r ≡ Not → false ≡ uniquely known name
-    not_once g = rw other (by (eqb (count name (every_name known)) 1) (ltb p n) (sym g ∙ f))
-      where
-        by : (t u : Bool) → Not ≡ cond t (cond u (Item p) (Condition (p - n))) Not → false ≡ t
-        by true true e = cc
-        by true false e = cc
-        by false u e = refl
 
 -- the name of a token
 module _ (text : List ℕ) (items : ℕ) (places : List ℕ) (t : ℕ) where

@@ -6,7 +6,6 @@ ghost use Rattle.spelling.specs.Printing.{uniquely, has_name};
 ghost use Rattle.printable.specs.Passing.{may_print, passing, There, AllThere};
 
 use keywords::same_bytes;
-use naming::Called;
 use naming::names::row_named;
 use naming::parts::name_part;
 use operands::tokens::token_there;
@@ -23,14 +22,12 @@ fn may_print(token: u32, items: usize, literals: usize, names: usize) -> bool
 pub fn first_missing(tokens: &[u32], items: usize, literals: usize, names: usize) -> usize
     ensures { result ≡ passing (may_print items literals names) tokens.now }
 {
-    let mut i: usize = 0;
-    while i < tokens.len() {
-        if !may_print(tokens[i], items, literals, names) {
+    for (i, token) in tokens.iter().enumerate() {
+        if !may_print(*token, items, literals, names) {
             return i;
         }
-        i += 1;
     }
-    i
+    tokens.len()
 }
 
 // Whether the name at a place is no FILLER, and that of no other item or condition.
@@ -42,12 +39,7 @@ fn named_once(description: &[u8], places: &[u32], items: usize, place: u32) -> b
     if same_bytes(name, b"FILLER") {
         return false;
     }
-    let called = row_named(description, places, items, name);
-    match called {
-        Called::Item(_row) => true,
-        Called::Condition(_row) => true,
-        Called::Not => false,
-    }
+    row_named(description, places, items, name).is_some()
 }
 
 fn has_name(description: &[u8], places: &[u32], items: usize, token: u32) -> bool
@@ -70,12 +62,10 @@ pub fn first_unnamed(description: &[u8], places: &[u32], items: usize, tokens: &
     requires { Listed items places.now × AllThere items places.now tokens.now }
     ensures { result ≡ passing (has_name (known_at description.now items places.now)) tokens.now }
 {
-    let mut i: usize = 0;
-    while i < tokens.len() {
-        if !has_name(description, places, items, tokens[i]) {
+    for (i, token) in tokens.iter().enumerate() {
+        if !has_name(description, places, items, *token) {
             return i;
         }
-        i += 1;
     }
-    i
+    tokens.len()
 }

@@ -20,10 +20,8 @@ fn spaced_size(
     ensures { result ≡ length (spaced (map (word_of (known_at description.now items places.now) literals.now bytes.now) tokens.now)) }
 {
     let mut n: usize = 0;
-    let mut i: usize = 0;
-    while i < tokens.len() {
-        n += 1 + token_size(description, places, items, literals, bytes, tokens[i]);
-        i += 1;
+    for token in tokens {
+        n += 1 + token_size(description, places, items, literals, bytes, *token);
     }
     n
 }
@@ -57,10 +55,8 @@ fn put_spaced(
     ensures { out.new ≡ written_over (spaced (map (word_of (known_at description.now items places.now) literals.now bytes.now) tokens.now)) out.old }
 {
     let mut n: usize = 0;
-    let mut i: usize = 0;
-    while i < tokens.len() {
-        let token = tokens[i];
-        out[n] = 0x20;
+    for token in tokens {
+        out[n] = b' ';
         n += 1;
         put_token(
             description,
@@ -68,11 +64,10 @@ fn put_spaced(
             items,
             literals,
             bytes,
-            token,
+            *token,
             &mut out[n..],
         );
-        n += token_size(description, places, items, literals, bytes, token);
-        i += 1;
+        n += token_size(description, places, items, literals, bytes, *token);
     }
 }
 

@@ -24,12 +24,11 @@ use Rattle.printer.proofs.Wording.{item_row_lem, condition_there}
 use Rattle.printable.specs.Passing.{passing, may_print, AllThere}
 use Rattle.printer.specs.Prints.{Printable, AllPrintable}
 use Rattle.literal_bytes.specs.Written.{written_over}
-use Rattle.books.specs.declared.Printed.{Printed}
-use Rattle.books.specs.declared.Printed.TheVariants.{Count, Description, Refused, Name}
-use Rattle.books.specs.declared.Named.{Named}
+use Rattle.std.specs.Prelude.{Result, Ok, Err}
+use Rattle.books.specs.declared.PrintRefusal.{PrintRefusal}
+use Rattle.books.specs.declared.PrintRefusal.TheVariants.{Refused}
 use Rattle.books.specs.declared.Book.{Book}
-use Rattle.books.specs.declared.Named.TheVariants.{Given, Faulty}
-use Rattle.books.specs.Calls.{unprinted_as, line_out, PrintedAs, Sized, NamedBy}
+use Rattle.books.specs.Calls.{unprinted_as, PrintedAs, Sized, NamedBy}
 use Rattle.books.proofs.Finding.{book-found, book_refused}
 use Rattle.std.specs.Prelude.{Err, Ok}
 
@@ -199,37 +198,31 @@ missing_same description items places rows tokens h =
     ap₂ (λ (n m : ℕ). passing (may_print n (length rows / 5) m) tokens) (sym (items-length description items places h)) (sym (conditions_length description items places))
 
 -- answers
-pub refused_print : {P : Print} {n p : ℕ} {answer : Printed} {before : List ℕ} → P ≡ refused n p → answer ≡ unprinted_as n p → PrintedAs P before answer before
-refused_print {P} {n} {p} {answer} {before} e f = rw (e, f) record { answered = refl; written = kept (eqb n 14) (eqb n 16) }
-  where
-    kept : (a b : Bool) → before ≡ line_out (cond a (Description p) (cond b (Name p) (Refused (cond (eqb n 3) LiteralTable (cond (eqb n 4) (LiteralRow p) (cond (eqb n 5) WrongCount
-        (Token p))))))) [] before
-    kept true b = refl
-    kept false true = refl
-    kept false false = refl
+pub refused_print : {P : Print} {n p : ℕ} {r : PrintRefusal} {before : List ℕ} → P ≡ refused n p → r ≡ unprinted_as n p → PrintedAs P before (Err r) before
+refused_print e f = rw (e, f) record { answered = refl; written = refl }
 
 module _ {P : Print} {t out : List ℕ} (e : P ≡ text t) {size : ℕ} (q : size ≡ length t) where
-  pub no_room : length out < size → PrintedAs P out (Refused (Short size)) out
+  pub no_room : length out < size → PrintedAs P out (Err (Refused (Short size))) out
   no_room h =
       let a = lt-leb (length t) (length out) (omega (arith, q)) in
       rw (e, q) record { answered = rw a; written = refl }
 
-  pub all_room : {after : List ℕ} → size ≤ length out → after ≡ written_over t out → PrintedAs P out (Count size) after
+  pub all_room : {after : List ℕ} → size ≤ length out → after ≡ written_over t out → PrintedAs P out (Ok size) after
   all_room h w =
       let a = le-leb (length t) (length out) (omega (arith, q)) in
       rw (e, q) record { answered = rw a; written = w }
 
-pub as_print : {P Q : Print} {out after : List ℕ} {answer : Printed} → P ≡ Q → PrintedAs P out answer after → PrintedAs Q out answer after
+pub as_print : {P Q : Print} {out after : List ℕ} {answer : Result ℕ PrintRefusal} → P ≡ Q → PrintedAs P out answer after → PrintedAs Q out answer after
 as_print e r = rw (← e) r
 
-module _ {description lent-places lent_rows lent-bytes : List ℕ} (d : Named) {places table-rows table-bytes : List ℕ}
+module _ {description lent-places lent_rows lent-bytes : List ℕ} (d : Result Book ℕ) {places table-rows table-bytes : List ℕ}
     (N : NamedBy description lent-places lent_rows lent-bytes d places table-rows table-bytes) (rows content tokens : List ℕ) where
-  pub named_print : {b : Book} → d ≡ Given b
+  pub named_print : {b : Book} → d ≡ Ok b
       → printing (known_at description b.items (take b.places places)) rows content tokens ≡ print_condition description rows content tokens
   named_print {b} e =
       let F = book-found d N e in
       ap (λ (known : Known). printing known rows content tokens) F.known_are
       ∙ sym (ap (λ (o : Outcome). print_after description o rows content tokens) F.described)
 
-  pub undescribed_print : {p : ℕ} → d ≡ Faulty p → print_condition description rows content tokens ≡ refused 14 p
+  pub undescribed_print : {p : ℕ} → d ≡ Err p → print_condition description rows content tokens ≡ refused 14 p
   undescribed_print e = ap (λ (o : Outcome). print_after description o rows content tokens) (book_refused d N e)

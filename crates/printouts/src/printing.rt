@@ -5,7 +5,7 @@ ghost use Rattle.spelling.specs.Printing.{printing, print_condition};
 ghost use Rattle.books.specs.Calls.{Sized, Prepared, PrintedAs};
 
 use book_names::names::book_of;
-use books::{Named, Printed};
+use books::PrintRefusal;
 use checks::lent::check_tables;
 use content::Row;
 use printable::refusals::{first_missing, first_unnamed};
@@ -22,16 +22,16 @@ fn put(
     bytes: &[u8],
     tokens: &[u32],
     text: &mut [u8],
-) -> Printed
+) -> Result<usize, PrintRefusal>
     requires { Prepared description.now items places.now literals.now bytes.now tokens.now }
     ensures { PrintedAs (printing (known_at description.now items places.now) literals.now bytes.now tokens.now) text.old result text.new }
 {
     let size = line_size(description, places, items, literals, bytes, tokens);
     if text.len() < size {
-        return Printed::Refused(Refusal::Room(size));
+        return Err(PrintRefusal::Refused(Refusal::Room(size)));
     }
     put_line(description, places, items, literals, bytes, tokens, text);
-    Printed::Count(size)
+    Ok(size)
 }
 
 // With tables and tokens that 3 to 5 leave.
@@ -43,7 +43,7 @@ fn print_there(
     bytes: &[u8],
     tokens: &[u32],
     text: &mut [u8],
-) -> Printed
+) -> Result<usize, PrintRefusal>
     requires { Sized description.now items places.now literals.now bytes.now tokens.now }
     ensures { PrintedAs (printing (known_at description.now items places.now) literals.now bytes.now tokens.now) text.old result text.new }
 {
@@ -54,11 +54,11 @@ fn print_there(
         places.len() - items,
     );
     if missing < tokens.len() {
-        return Printed::Refused(Refusal::Token(missing));
+        return Err(PrintRefusal::Refused(Refusal::Token(missing)));
     }
     let unnamed = first_unnamed(description, places, items, tokens);
     if unnamed < tokens.len() {
-        return Printed::Name(unnamed);
+        return Err(PrintRefusal::Name(unnamed));
     }
     put(description, places, items, literals, bytes, tokens, text)
 }
@@ -72,17 +72,17 @@ fn print_named(
     bytes: &[u8],
     tokens: &[u32],
     text: &mut [u8],
-) -> Printed
+) -> Result<usize, PrintRefusal>
     requires { (length description.now ≤ 4096) × Listed items places.now }
     ensures { PrintedAs (printing (known_at description.now items places.now) literals.now bytes.now tokens.now) text.old result text.new }
 {
     let tables = check_tables(&literals[..0], literals, bytes);
     if let Err(refusal) = tables {
-        return Printed::Refused(refusal);
+        return Err(PrintRefusal::Refused(refusal));
     }
     let count = check_token_count(tokens);
     if let Err(refusal) = count {
-        return Printed::Refused(refusal);
+        return Err(PrintRefusal::Refused(refusal));
     }
     print_there(description, places, items, literals, bytes, tokens, text)
 }
@@ -94,7 +94,7 @@ pub fn print(
     bytes: &[u8],
     tokens: &[u32],
     text: &mut [u8],
-) -> Printed
+) -> Result<usize, PrintRefusal>
     ensures { PrintedAs (print_condition description.now literals.now bytes.now tokens.now) text.old result text.new }
 {
     let mut places = [0u32; 128];
@@ -102,7 +102,7 @@ pub fn print(
     let mut content = [0u8; 4096];
     let named = book_of(description, &mut places, &mut rows, &mut content);
     match named {
-        Named::Given(book) => {
+        Ok(book) => {
             print_named(
                 description,
                 &places[..book.places],
@@ -113,6 +113,6 @@ pub fn print(
                 text,
             )
         }
-        Named::Faulty(place) => Printed::Description(place),
+        Err(place) => Err(PrintRefusal::Description(place)),
     }
 }

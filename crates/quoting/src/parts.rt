@@ -10,13 +10,11 @@ fn doubled_size(part: &[u8]) -> usize
     requires { length part.now ≤ 256 }
     ensures { result ≡ length (doubled part.now) }
 {
-    let mut n: usize = 0;
-    let mut i: usize = 0;
-    while i < part.len() {
-        n += stride(part[i]);
-        i += 1;
+    let mut size: usize = 0;
+    for b in part {
+        size += stride(*b);
     }
-    n
+    size
 }
 
 pub fn quoted_size(part: &[u8]) -> usize
@@ -32,13 +30,10 @@ fn put_doubled(part: &[u8], out: &mut [u8])
     ensures { out.new ≡ written_over (doubled part.now) out.old }
 {
     let mut n: usize = 0;
-    let mut i: usize = 0;
-    while i < part.len() {
-        let b = part[i];
-        out[n] = b;
-        n += stride(b);
-        out[n - 1] = b;
-        i += 1;
+    for b in part {
+        out[n] = *b;
+        n += stride(*b);
+        out[n - 1] = *b;
     }
 }
 

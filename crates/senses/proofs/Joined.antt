@@ -14,9 +14,10 @@ use Rattle.spelling.specs.Literals.{Literal, row_of_literal}
 use Rattle.spelling.specs.Keywords.{Meaning, alone, item, value, order, equal, faulty}
 use Rattle.spelling.specs.Meanings.{next, taken, or_equal, after_than, joins}
 use Rattle.splitter.specs.Splits.{words_at, Past}
+use Rattle.std.specs.Prelude.{Ok, Err}
 use Rattle.senses.specs.declared.Sense.{Sense}
-use Rattle.senses.specs.declared.Sense.TheVariants.{Token, Item, Literal as LiteralSense, Order, Equal, Fault}
-use Rattle.senses.specs.declared.Met.TheVariants.{Token as MetToken, Literal as MetLiteral, Fault as MetFault}
+use Rattle.senses.specs.declared.Sense.TheVariants.{Token, Item, Literal as LiteralSense, Order, Equal}
+use Rattle.senses.specs.declared.Met.TheVariants.{Token as MetToken, Literal as MetLiteral}
 use Rattle.senses.specs.declared.Piece.{Piece}
 use Rattle.senses.specs.Senses.{sense_of, PastOrEqual, PieceAfter, PieceBy}
 
@@ -63,20 +64,20 @@ module _ {text : List ℕ} {from or : ℕ} (h : from ≤ length text) (p : Past 
 
 -- GREATER or LESS
 pub order_piece : {text : List ℕ} {end than past plain joined : ℕ} → Past (bytes "THAN") text end than → PastOrEqual text than past → (t : Bool) → ltb than past ≡ t
-    → PieceBy (order plain joined) text end (record { met = MetToken (cond t joined plain); past = past })
+    → PieceBy (order plain joined) text end (record { met = Ok (MetToken (cond t joined plain)); past = past })
 order_piece {text} {end} {than} {past} {plain} {joined} p q t e =
     let ws : List Word = words_at text end in
     let a : words_at text than ≡ after_than ws = p.words in
     let told : leb 1 (or_equal (after_than ws)) ≡ t = ap (λ (vs : List Word). leb 1 (or_equal vs)) (sym a) ∙ sym q.told ∙ e in
     record {
-      met = ap (λ (b : Bool). MetToken (cond b joined plain)) (sym told);
+      met = ap (λ (b : Bool). Ok (MetToken (cond b joined plain))) (sym told);
       within = q.within;
       passed = omega (arith, p.passed, q.passed);
       words = rw a at q.words ∙ drop-drop (or_equal (after_than ws)) (taken (bytes "THAN") ws) ws;
     }
 
 -- the meaning, by its sense
-is_token : (m : Meaning) {t : ℕ} → sense_of m ≡ Token t → m ≡ alone t
+is_token : (m : Meaning) {t : ℕ} → sense_of m ≡ Ok (Token t) → m ≡ alone t
 is_token (alone u) e = cc
 is_token (item u) e = cc
 is_token (value l) e = cc
@@ -84,7 +85,7 @@ is_token (order p j) e = cc
 is_token equal e = cc
 is_token (faulty n) e = cc
 
-is_item_lem : (m : Meaning) {t : ℕ} → sense_of m ≡ Item t → m ≡ item t
+is_item_lem : (m : Meaning) {t : ℕ} → sense_of m ≡ Ok (Item t) → m ≡ item t
 is_item_lem (alone u) e = cc
 is_item_lem (item u) e = cc
 is_item_lem (value l) e = cc
@@ -92,7 +93,7 @@ is_item_lem (order p j) e = cc
 is_item_lem equal e = cc
 is_item_lem (faulty n) e = cc
 
-is_order_lem : (m : Meaning) {plain joined : ℕ} → sense_of m ≡ Order plain joined → m ≡ order plain joined
+is_order_lem : (m : Meaning) {plain joined : ℕ} → sense_of m ≡ Ok (Order plain joined) → m ≡ order plain joined
 is_order_lem (alone u) e = cc
 is_order_lem (item u) e = cc
 is_order_lem (value l) e = cc
@@ -100,7 +101,7 @@ is_order_lem (order p j) e = cc
 is_order_lem equal e = cc
 is_order_lem (faulty n) e = cc
 
-is_fault : (m : Meaning) {number : ℕ} → sense_of m ≡ Fault number → m ≡ faulty number
+is_fault : (m : Meaning) {number : ℕ} → sense_of m ≡ Err number → m ≡ faulty number
 is_fault (alone u) e = cc
 is_fault (item u) e = cc
 is_fault (value l) e = cc
@@ -108,7 +109,7 @@ is_fault (order p j) e = cc
 is_fault equal e = cc
 is_fault (faulty n) e = cc
 
-is_equal_lem : (m : Meaning) → sense_of m ≡ Equal → m ≡ equal
+is_equal_lem : (m : Meaning) → sense_of m ≡ Ok Equal → m ≡ equal
 is_equal_lem (alone u) e = cc
 is_equal_lem (item u) e = cc
 is_equal_lem (value l) e = cc
@@ -117,28 +118,28 @@ is_equal_lem equal e = cc
 is_equal_lem (faulty n) e = cc
 
 module _ {text : List ℕ} {end : ℕ} (m : Meaning) where
-  pub token_piece : {t : ℕ} → end ≤ length text → sense_of m ≡ Token t → PieceBy m text end (record { met = MetToken t; past = end })
+  pub token_piece : {t : ℕ} → end ≤ length text → sense_of m ≡ Ok (Token t) → PieceBy m text end (record { met = Ok (MetToken t); past = end })
   token_piece h e = rw (is_token m e) record { met = refl; within = h; passed = omega arith; words = refl }
 
-  pub fault_piece : {number : ℕ} → end ≤ length text → sense_of m ≡ Fault number → PieceBy m text end (record { met = MetFault number; past = end })
+  pub fault_piece : {number : ℕ} → end ≤ length text → sense_of m ≡ Err number → PieceBy m text end (record { met = Err number; past = end })
   fault_piece h e = rw (is_fault m e) record { met = refl; within = h; passed = omega arith; words = refl }
 
-  pub item_piece : {t : ℕ} {r : Piece} → sense_of m ≡ Item t → PieceAfter (bytes "IS") (MetToken t) text end r → PieceBy m text end r
+  pub item_piece : {t : ℕ} {r : Piece} → sense_of m ≡ Ok (Item t) → PieceAfter (bytes "IS") (MetToken t) text end r → PieceBy m text end r
   item_piece e p =
       rw (is_item_lem m e) record { met = p.same; within = p.past.within; passed = p.past.passed; words = p.past.words }
 
-  pub equal_piece : {r : Piece} → sense_of m ≡ Equal → PieceAfter (bytes "TO") (MetToken 262151) text end r → PieceBy m text end r
+  pub equal_piece : {r : Piece} → sense_of m ≡ Ok Equal → PieceAfter (bytes "TO") (MetToken 262151) text end r → PieceBy m text end r
   equal_piece e p =
       rw (is_equal_lem m e) record { met = p.same; within = p.past.within; passed = p.past.passed; words = p.past.words }
 
-  pub ordered : {plain joined : ℕ} {r : Piece} → sense_of m ≡ Order plain joined → PieceBy (order plain joined) text end r → PieceBy m text end r
+  pub ordered : {plain joined : ℕ} {r : Piece} → sense_of m ≡ Ok (Order plain joined) → PieceBy (order plain joined) text end r → PieceBy m text end r
   ordered e p = rw (is_order_lem m e) p
 
-pub literal_piece : {text : List ℕ} {end : ℕ} {row : Row} {r : Piece} (m : Meaning) → sense_of m ≡ LiteralSense row
+pub literal_piece : {text : List ℕ} {end : ℕ} {row : Row} {r : Piece} (m : Meaning) → sense_of m ≡ Ok (LiteralSense row)
     → PieceAfter (bytes "IS") (MetLiteral row) text end r → PieceBy m text end r
 literal_piece {row = row} (value l) e p =
     let q : row_of_literal 0 l ≡ row = cc in
-    record { met = p.same ∙ ap MetLiteral (sym q); within = p.past.within; passed = p.past.passed; words = p.past.words }
+    record { met = p.same ∙ ap (λ (x : Row). Ok (MetLiteral x)) (sym q); within = p.past.within; passed = p.past.passed; words = p.past.words }
 literal_piece (alone u) e p = let z : ◌≡◌ {A = ℕ} 0 1 = cc in absurd (omega arith)
 literal_piece (item u) e p = let z : ◌≡◌ {A = ℕ} 0 1 = cc in absurd (omega arith)
 literal_piece (order x y) e p = let z : ◌≡◌ {A = ℕ} 0 1 = cc in absurd (omega arith)

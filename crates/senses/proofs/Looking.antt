@@ -22,17 +22,14 @@ use Rattle.tables.specs.Rows.{row_sound}
 use Rattle.tables.proofs.Tests.{both}
 use Rattle.spelling.specs.Literals.{quoted, fits}
 use Rattle.spelling.proofs.Accepted.{small_size}
-use Rattle.literal_words.specs.declared.Number.{Number}
-use Rattle.literal_words.specs.declared.Number.TheVariants.{Is, Not}
-use Rattle.literal_words.specs.declared.Text.{Text}
-use Rattle.literal_words.specs.declared.Text.TheVariants.{Is as Held, Not as NoText}
 use Rattle.literal_words.specs.Found.{text_found, number_found}
 use Rattle.naming.specs.declared.Called.{Called}
-use Rattle.naming.specs.declared.Called.TheVariants.{Item as Named, Condition, Not as Unnamed}
+use Rattle.naming.specs.declared.Called.TheVariants.{Item as Named, Condition}
 use Rattle.naming.specs.Named.{called_by}
 use Rattle.naming.proofs.Finding.{position-within}
-use Rattle.senses.specs.declared.Sense.TheVariants.{Token, Item, Literal, Order, Equal, Fault}
+use Rattle.senses.specs.declared.Sense.TheVariants.{Token, Item, Literal}
 use Rattle.senses.specs.Senses.{sense_of, text_row}
+use Rattle.std.specs.Prelude.{None, Option, Some, Ok, Err}
 
 -- a name is no word of the vocabulary
 abbrev NoNames : List Keyword → Type 0
@@ -143,55 +140,55 @@ module _ (known : Known) (w : List ℕ) where
     p = position w all-names
 
     -- by the test whether one has the name, and whether that is an item
-    pub item_sense : {v : ℕ} (r : Called) → r ≡ called_by w known → r ≡ Named v → Item v ≡ sense_of (named known w)
+    pub item_sense : {v : ℕ} (r : Option Called) → r ≡ called_by w known → r ≡ Some (Named v) → Ok (Item v) ≡ sense_of (named known w)
     item_sense {v} r f g = rw e (by (eqb (count w all-names) 1) (ltb p n) (sym g ∙ f))
       where
-        by : (t u : Bool) → Named v ≡ cond t (cond u (Named p) (Condition (p - n))) Unnamed
-            → Item v ≡ sense_of (cond t (cond u (item p) (alone (327680 + (p - n)))) (faulty 16))
-        by true true q = let z : v ≡ p = cc in ap Item z
+        by : (t u : Bool) → Some (Named v) ≡ cond t (Some (cond u (Named p) (Condition (p - n)))) None
+            → Ok (Item v) ≡ sense_of (cond t (cond u (item p) (alone (327680 + (p - n)))) (faulty 16))
+        by true true q = let z : v ≡ p = cc in ap (λ (k : ℕ). Ok (Item k)) z
         by true false q = cc
         by false u q = cc
 
-    pub condition_sense : {v : ℕ} (r : Called) → r ≡ called_by w known → r ≡ Condition v → Token (327680 + v) ≡ sense_of (named known w)
+    pub condition_sense : {v : ℕ} (r : Option Called) → r ≡ called_by w known → r ≡ Some (Condition v) → Ok (Token (327680 + v)) ≡ sense_of (named known w)
     condition_sense {v} r f g = rw e (by (eqb (count w all-names) 1) (ltb p n) (sym g ∙ f))
       where
-        by : (t u : Bool) → Condition v ≡ cond t (cond u (Named p) (Condition (p - n))) Unnamed
-            → Token (327680 + v) ≡ sense_of (cond t (cond u (item p) (alone (327680 + (p - n)))) (faulty 16))
+        by : (t u : Bool) → Some (Condition v) ≡ cond t (Some (cond u (Named p) (Condition (p - n)))) None
+            → Ok (Token (327680 + v)) ≡ sense_of (cond t (cond u (item p) (alone (327680 + (p - n)))) (faulty 16))
         by true true q = cc
-        by true false q = let z : v ≡ p - n = cc in ap (λ (k : ℕ). Token (327680 + k)) z
+        by true false q = let z : v ≡ p - n = cc in ap (λ (k : ℕ). Ok (Token (327680 + k))) z
         by false u q = cc
 
     -- a row that there is
-    pub condition_small : {v : ℕ} (r : Called) → r ≡ called_by w known → r ≡ Condition v → length all-names ≤ 128 → v ≤ 128
+    pub condition_small : {v : ℕ} (r : Option Called) → r ≡ called_by w known → r ≡ Some (Condition v) → length all-names ≤ 128 → v ≤ 128
     condition_small {v} r f g h = by (eqb (count w all-names) 1) (ltb p n) (sym g ∙ f)
       where
-        by : (t u : Bool) → Condition v ≡ cond t (cond u (Named p) (Condition (p - n))) Unnamed → v ≤ 128
+        by : (t u : Bool) → Some (Condition v) ≡ cond t (Some (cond u (Named p) (Condition (p - n)))) None → v ≤ 128
         by true true q = let z : ◌≡◌ {A = ℕ} 0 1 = cc in absurd (omega arith)
         by true false q = let z : v ≡ p - n = cc in omega (arith, position-within w all-names)
         by false u q = let z : ◌≡◌ {A = ℕ} 0 1 = cc in absurd (omega arith)
 
-    pub no_row_sense : (r : Called) → r ≡ called_by w known → r ≡ Unnamed → Fault 16 ≡ sense_of (named known w)
+    pub no_row_sense : (r : Option Called) → r ≡ called_by w known → r ≡ None → Err 16 ≡ sense_of (named known w)
     no_row_sense r f g = rw e (by (eqb (count w all-names) 1) (ltb p n) (sym g ∙ f))
       where
-        by : (t u : Bool) → Unnamed ≡ cond t (cond u (Named p) (Condition (p - n))) Unnamed
-            → Fault 16 ≡ sense_of (cond t (cond u (item p) (alone (327680 + (p - n)))) (faulty 16))
+        by : (t u : Bool) → None ≡ cond t (Some (cond u (Named p) (Condition (p - n)))) None
+            → Err 16 ≡ sense_of (cond t (cond u (item p) (alone (327680 + (p - n)))) (faulty 16))
         by true true q = cc
         by true false q = cc
         by false u q = refl
 
 -- a nonnumeric literal, by its size
-module _ (w : List ℕ) (r : Text) (f : r ≡ text_found w) where
-  pub text_is : {n : ℕ} → r ≡ Held n → (is_text w ≡ true) × (length (text_of w).bytes ≡ n)
+module _ (w : List ℕ) (r : Option ℕ) (f : r ≡ text_found w) where
+  pub text_is : {n : ℕ} → r ≡ Some n → (is_text w ≡ true) × (length (text_of w).bytes ≡ n)
   text_is {n} g = by (is_text w) refl (sym g ∙ f)
     where
-      by : (t : Bool) → is_text w ≡ t → Held n ≡ cond t (Held (length (text_of w).bytes)) NoText → (is_text w ≡ true) × (length (text_of w).bytes ≡ n)
+      by : (t : Bool) → is_text w ≡ t → Some n ≡ cond t (Some (length (text_of w).bytes)) None → (is_text w ≡ true) × (length (text_of w).bytes ≡ n)
       by true p q = (p, cc)
       by false p q = let z : ◌≡◌ {A = ℕ} 0 1 = cc in absurd (omega arith)
 
-  pub text_not : r ≡ NoText → is_text w ≡ false
+  pub text_not : r ≡ None → is_text w ≡ false
   text_not g = by (is_text w) refl (sym g ∙ f)
     where
-      by : (t : Bool) → is_text w ≡ t → NoText ≡ cond t (Held (length (text_of w).bytes)) NoText → is_text w ≡ false
+      by : (t : Bool) → is_text w ≡ t → None ≡ cond t (Some (length (text_of w).bytes)) None → is_text w ≡ false
       by true p q = let z : ◌≡◌ {A = ℕ} 0 1 = cc in absurd (omega arith)
       by false p q = p
 
@@ -202,25 +199,25 @@ text_small w e =
     small_size (text_of w) (both (row_sound (row_of_literal 0 (text_of w))) (valid_content 2 0 (text_of w).bytes) f).0 refl
 
 module _ (known : Known) (w : List ℕ) where
-  pub text_sense : {n : ℕ} → is_text w ≡ true → length (text_of w).bytes ≡ n → Literal (text_row n) ≡ sense_of (meaning known w)
+  pub text_sense : {n : ℕ} → is_text w ≡ true → length (text_of w).bytes ≡ n → Ok (Literal (text_row n)) ≡ sense_of (meaning known w)
   unfolding meaning
   text_sense e q = rw (e, q)
 
-  module _ (e : is_text w ≡ false) (r : Number) (f : r ≡ number_found w) where
-    pub number_sense : {row : Row} → r ≡ Is row → Literal row ≡ sense_of (meaning known w)
+  module _ (e : is_text w ≡ false) (r : Option Row) (f : r ≡ number_found w) where
+    pub number_sense : {row : Row} → r ≡ Some row → Ok (Literal row) ≡ sense_of (meaning known w)
     unfolding meaning
     number_sense {row} g = rw e (by (is_number w) (sym g ∙ f))
       where
-        by : (t : Bool) → Is row ≡ cond t (Is (row_of_literal 0 (number_of w))) Not
-            → Literal row ≡ sense_of (cond t (value (number_of w)) (lookup w (named known w) vocabulary))
-        by true q = let p : row ≡ row_of_literal 0 (number_of w) = cc in ap Literal p
+        by : (t : Bool) → Some row ≡ cond t (Some (row_of_literal 0 (number_of w))) None
+            → Ok (Literal row) ≡ sense_of (cond t (value (number_of w)) (lookup w (named known w) vocabulary))
+        by true q = let p : row ≡ row_of_literal 0 (number_of w) = cc in ap (λ (x : Row). Ok (Literal x)) p
         by false q = cc
 
-    pub plain_sense : r ≡ Not → sense_of (lookup w (named known w) vocabulary) ≡ sense_of (meaning known w)
+    pub plain_sense : r ≡ None → sense_of (lookup w (named known w) vocabulary) ≡ sense_of (meaning known w)
     unfolding meaning
     plain_sense g = rw e (by (is_number w) (sym g ∙ f))
       where
-        by : (t : Bool) → Not ≡ cond t (Is (row_of_literal 0 (number_of w))) Not
+        by : (t : Bool) → None ≡ cond t (Some (row_of_literal 0 (number_of w))) None
             → sense_of (lookup w (named known w) vocabulary) ≡ sense_of (cond t (value (number_of w)) (lookup w (named known w) vocabulary))
         by true q = cc
         by false q = refl

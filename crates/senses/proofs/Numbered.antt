@@ -11,7 +11,8 @@ use Rattle.description.specs.Grammar.{same}
 use Rattle.spelling.specs.Keywords.{Meaning, alone, item, value, order, equal, faulty, Keyword, keyword, vocabulary}
 use Rattle.spelling.specs.Meanings.{position, lookup}
 use Rattle.vocabulary.proofs.Cells.{all_below, below}
-use Rattle.senses.specs.declared.Sense.TheVariants.{Token, Fault}
+use Rattle.std.specs.Prelude.{Ok, Err}
+use Rattle.senses.specs.declared.Sense.TheVariants.{Token}
 use Rattle.senses.specs.Senses.{sense_of, meaning_at}
 
 abbrev is_alone : ℕ → Meaning → Bool
@@ -22,8 +23,8 @@ is_alone t (order p j) = false
 is_alone t equal = false
 is_alone t (faulty n) = false
 
-alone_is : (t : ℕ) (m : Meaning) → is_alone t m ≡ true → Token t ≡ sense_of m
-alone_is t (alone u) e = ap Token (sym (eqb-true u t e))
+alone_is : (t : ℕ) (m : Meaning) → is_alone t m ≡ true → Ok (Token t) ≡ sense_of m
+alone_is t (alone u) e = ap (λ (n : ℕ). Ok (Token n)) (sym (eqb-true u t e))
 alone_is t (item u) e = absurd (false≢true e)
 alone_is t (value l) e = absurd (false≢true e)
 alone_is t (order p j) e = absurd (false≢true e)
@@ -44,10 +45,10 @@ all_switches : all_below 8 switches_right ≡ true
 unfolding all_below
 all_switches = refl
 
-pub word_is : (k : ℕ) → k < 17 → Token (262144 + k) ≡ sense_of (meaning_at k)
+pub word_is : (k : ℕ) → k < 17 → Ok (Token (262144 + k)) ≡ sense_of (meaning_at k)
 word_is k h = alone_is (262144 + k) (meaning_at k) (below 17 words_right all_words k h)
 
-pub switch_is : (k : ℕ) → 17 ≤ k → k < 25 → Token (131072 + (k - 17)) ≡ sense_of (meaning_at k)
+pub switch_is : (k : ℕ) → 17 ≤ k → k < 25 → Ok (Token (131072 + (k - 17))) ≡ sense_of (meaning_at k)
 switch_is k l h =
     let z : 17 + (k - 17) ≡ k = omega arith in
     alone_is (131072 + (k - 17)) (meaning_at (17 + (k - 17))) (below 8 switches_right all_switches (k - 17) (omega arith))
@@ -58,7 +59,7 @@ past [] k d h = refl
 past (a ∷ l) zero d h = absurd (omega arith)
 past (a ∷ l) (suc k) d h = past l k d (omega arith)
 
-pub other_is : (k : ℕ) → 28 ≤ k → Fault 15 ≡ sense_of (meaning_at k)
+pub other_is : (k : ℕ) → 28 ≤ k → Err 15 ≡ sense_of (meaning_at k)
 other_is k h = ap (λ (w : Keyword). sense_of w.meaning) (sym (past vocabulary k (keyword [] (faulty 15)) h))
 
 -- looking a word up is finding its number

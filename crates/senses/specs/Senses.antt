@@ -1,14 +1,14 @@
 -- What words mean, as code gives it.
-use Rattle.std.specs.Prelude.{◌≡◌, List, [], ℕ, ◌≤◌, ltb, leb, length, get_or, drop}
+use Rattle.std.specs.Prelude.{◌≡◌, Result, Ok, Err, List, [], ℕ, ◌≤◌, ltb, leb, length, get_or, drop}
 use Rattle.content.specs.declared.Row.{Row}
 use Rattle.spelling.specs.Literals.{row_of_literal}
 use Rattle.spelling.specs.Keywords.{Piece as Spelt, token, literal, fault, Meaning, alone, item, value, order, equal, faulty, keyword, vocabulary}
 use Rattle.spelling.specs.Meanings.{or_equal, joins, piece_of}
 use Rattle.splitter.specs.Splits.{words_at, Past}
 use Rattle.senses.specs.declared.Sense.{Sense}
-use Rattle.senses.specs.declared.Sense.TheVariants.{Token, Item, Literal, Order, Equal, Fault}
+use Rattle.senses.specs.declared.Sense.TheVariants.{Token, Item, Literal, Order, Equal}
 use Rattle.senses.specs.declared.Met.{Met}
-use Rattle.senses.specs.declared.Met.TheVariants.{Token as MetToken, Literal as MetLiteral, Fault as MetFault}
+use Rattle.senses.specs.declared.Met.TheVariants.{Token as MetToken, Literal as MetLiteral}
 use Rattle.senses.specs.declared.Piece.{Piece}
 use Rattle.content.specs.Kinds.{kind_alphanumeric}
 
@@ -17,18 +17,18 @@ abbrev pub text_row : ℕ → Row
 text_row size = record { kind = kind_alphanumeric; offset = 0; size = size; scale = 0; digits = 0 }
 
 -- a literal stands as its row at offset 0
-abbrev pub sense_of : Meaning → Sense
-sense_of (alone t) = Token t
-sense_of (item t) = Item t
-sense_of (value l) = Literal (row_of_literal 0 l)
-sense_of (order plain joined) = Order plain joined
-sense_of equal = Equal
-sense_of (faulty number) = Fault number
+abbrev pub sense_of : Meaning → Result Sense ℕ
+sense_of (alone t) = Ok (Token t)
+sense_of (item t) = Ok (Item t)
+sense_of (value l) = Ok (Literal (row_of_literal 0 l))
+sense_of (order plain joined) = Ok (Order plain joined)
+sense_of equal = Ok Equal
+sense_of (faulty number) = Err number
 
-abbrev pub met_of : Spelt → Met
-met_of (token t) = MetToken t
-met_of (literal l) = MetLiteral (row_of_literal 0 l)
-met_of (fault number) = MetFault number
+abbrev pub met_of : Spelt → Result Met ℕ
+met_of (token t) = Ok (MetToken t)
+met_of (literal l) = Ok (MetLiteral (row_of_literal 0 l))
+met_of (fault number) = Err number
 
 -- what word k of the vocabulary means; past its end, nothing
 abbrev pub meaning_at : ℕ → Meaning
@@ -43,7 +43,7 @@ pub record PastOrEqual (text : List ℕ) (from past : ℕ) : Type 0 where
 
 -- a word that another may follow, with what it adds
 pub record PieceAfter (word : List ℕ) (met : Met) (text : List ℕ) (end : ℕ) (r : Piece) : Type 0 where
-  pub same : r.met ≡ met
+  pub same : r.met ≡ Ok met
   pub past : Past word text end r.past
 
 -- what a word of this meaning, which ends at `end`, and the words that join it add; and the place after them

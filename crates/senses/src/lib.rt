@@ -8,7 +8,7 @@ mod vocables; // words that mean something by themselves
 use content::Row;
 
 // What a word means: a token that nothing joins, an item, a literal by its row at offset 0, GREATER or
-// LESS by their tokens without and with OR EQUAL, EQUAL, or a refusal's number.
+// LESS by their tokens without and with OR EQUAL, or EQUAL.
 #[derive(Clone, Copy)]
 pub enum Sense {
     Token(u32),
@@ -16,7 +16,6 @@ pub enum Sense {
     Literal(Row),
     Order(u32, u32),
     Equal,
-    Fault(u32),
 }
 
 // What a word and those that join it add to what is read.
@@ -24,12 +23,11 @@ pub enum Sense {
 pub enum Met {
     Token(u32),
     Literal(Row),
-    Fault(u32),
 }
 
-// With the place after them.
+// With the place after them; or a refusal's number.
 #[derive(Clone, Copy)]
 pub struct Piece {
-    pub met: Met,
+    pub met: Result<Met, u32>,
     pub past: usize,
 }

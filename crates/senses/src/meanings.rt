@@ -11,7 +11,6 @@ use crate::vocables::vocable;
 use content::Row;
 use literal_words::numbers::read_number;
 use literal_words::quotes::read_text;
-use literal_words::{Number, Text};
 use naming::Called;
 use naming::names::row_named;
 use tables::tokens::FIRST_NAME;
@@ -31,20 +30,19 @@ fn text_row(size: usize) -> Row
 }
 
 // What has a name. A condition-name is no operand: nothing joins its token.
-fn called(description: &[u8], places: &[u32], items: usize, word: &[u8]) -> Sense
+fn called(description: &[u8], places: &[u32], items: usize, word: &[u8]) -> Result<Sense, u32>
     requires { (is_name word.now ≡ true) × (Listed items places.now) }
     ensures { result ≡ sense_of (named (known_at description.now items places.now) word.now) }
 {
-    let called = row_named(description, places, items, word);
-    match called {
-        Called::Item(v) => Sense::Item(v),
-        Called::Condition(v) => Sense::Token(FIRST_NAME + v),
-        Called::Not => Sense::Fault(16),
+    match row_named(description, places, items, word) {
+        Some(Called::Item(v)) => Ok(Sense::Item(v)),
+        Some(Called::Condition(v)) => Ok(Sense::Token(FIRST_NAME + v)),
+        None => Err(16),
     }
 }
 
 // A word that is no literal.
-fn plain(description: &[u8], places: &[u32], items: usize, word: &[u8]) -> Sense
+fn plain(description: &[u8], places: &[u32], items: usize, word: &[u8]) -> Result<Sense, u32>
     requires { Listed items places.now }
     ensures { result ≡ sense_of (lookup word.now (named (known_at description.now items places.now) word.now) vocabulary) }
 {
@@ -54,17 +52,20 @@ fn plain(description: &[u8], places: &[u32], items: usize, word: &[u8]) -> Sense
     vocable(word)
 }
 
-pub(crate) fn sense_of(description: &[u8], places: &[u32], items: usize, word: &[u8]) -> Sense
+pub(crate) fn sense_of(
+    description: &[u8],
+    places: &[u32],
+    items: usize,
+    word: &[u8],
+) -> Result<Sense, u32>
     requires { Listed items places.now }
     ensures { result ≡ sense_of (meaning (known_at description.now items places.now) word.now) }
 {
-    let text = read_text(word);
-    if let Text::Is(size) = text {
-        return Sense::Literal(text_row(size));
+    if let Some(size) = read_text(word) {
+        return Ok(Sense::Literal(text_row(size)));
     }
-    let number = read_number(word);
-    match number {
-        Number::Is(row) => Sense::Literal(row),
-        Number::Not => plain(description, places, items, word),
+    match read_number(word) {
+        Some(row) => Ok(Sense::Literal(row)),
+        None => plain(description, places, items, word),
     }
 }

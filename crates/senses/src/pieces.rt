@@ -36,15 +36,10 @@ fn order_at(text: &[u8], end: usize, plain: u32, joined: u32) -> Piece
 {
     let than = skip_word(text, end, b"THAN");
     let past = skip_or_equal(text, than);
-    if past == than {
-        return Piece {
-            met: Met::Token(plain),
-            past: past,
-        };
-    }
+    let token = if past == than { plain } else { joined };
     Piece {
-        met: Met::Token(joined),
-        past: past,
+        met: Ok(Met::Token(token)),
+        past,
     }
 }
 
@@ -53,8 +48,10 @@ fn operand_at(met: Met, text: &[u8], end: usize) -> Piece
     requires { end ≤ length text.now }
     ensures { PieceAfter (bytes "IS") met text.now end result }
 {
-    let past = skip_word(text, end, b"IS");
-    Piece { met, past }
+    Piece {
+        met: Ok(met),
+        past: skip_word(text, end, b"IS"),
+    }
 }
 
 // EQUAL.
@@ -62,10 +59,9 @@ fn equal_at(text: &[u8], end: usize) -> Piece
     requires { end ≤ length text.now }
     ensures { PieceAfter (bytes "TO") (Met.Token EQUAL) text.now end result }
 {
-    let past = skip_word(text, end, b"TO");
     Piece {
-        met: Met::Token(EQUAL),
-        past,
+        met: Ok(Met::Token(EQUAL)),
+        past: skip_word(text, end, b"TO"),
     }
 }
 
@@ -81,18 +77,17 @@ pub fn piece_at(
     requires { (Listed items places.now) × (at < end) × (end ≤ length text.now) }
     ensures { PieceBy (meaning (known_at description.now items places.now) (between text.now at end)) text.now end result }
 {
-    let sense = sense_of(description, places, items, &text[at..end]);
-    match sense {
-        Sense::Token(t) => Piece {
-            met: Met::Token(t),
+    match sense_of(description, places, items, &text[at..end]) {
+        Ok(Sense::Token(t)) => Piece {
+            met: Ok(Met::Token(t)),
             past: end,
         },
-        Sense::Item(t) => operand_at(Met::Token(t), text, end),
-        Sense::Literal(row) => operand_at(Met::Literal(row), text, end),
-        Sense::Order(plain, joined) => order_at(text, end, plain, joined),
-        Sense::Equal => equal_at(text, end),
-        Sense::Fault(number) => Piece {
-            met: Met::Fault(number),
+        Ok(Sense::Item(t)) => operand_at(Met::Token(t), text, end),
+        Ok(Sense::Literal(row)) => operand_at(Met::Literal(row), text, end),
+        Ok(Sense::Order(plain, joined)) => order_at(text, end, plain, joined),
+        Ok(Sense::Equal) => equal_at(text, end),
+        Err(number) => Piece {
+            met: Err(number),
             past: end,
         },
     }

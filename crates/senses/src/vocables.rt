@@ -9,25 +9,25 @@ use tables::tokens::{FIRST_ON, FIRST_WORD};
 use tables::words::{GREATER, GREATER_OR_EQUAL, LESS, LESS_OR_EQUAL};
 use vocabulary::spellings::{AT_EQUAL, AT_GREATER, AT_LESS, AT_SWITCHES, word_index};
 
-// The sense of word k; any other word is faulty.
-fn sense_at(k: usize) -> Sense
+// The sense of word k; any other word is refused.
+fn sense_at(k: usize) -> Result<Sense, u32>
     ensures { result ≡ sense_of (meaning_at k) }
 {
     if k < AT_SWITCHES {
-        return Sense::Token(FIRST_WORD + k as u32);
+        return Ok(Sense::Token(FIRST_WORD + k as u32));
     }
     if k < AT_GREATER {
-        return Sense::Token(FIRST_ON + (k - AT_SWITCHES) as u32);
+        return Ok(Sense::Token(FIRST_ON + (k - AT_SWITCHES) as u32));
     }
     match k {
-        AT_GREATER => Sense::Order(GREATER, GREATER_OR_EQUAL),
-        AT_LESS => Sense::Order(LESS, LESS_OR_EQUAL),
-        AT_EQUAL => Sense::Equal,
-        _ => Sense::Fault(15),
+        AT_GREATER => Ok(Sense::Order(GREATER, GREATER_OR_EQUAL)),
+        AT_LESS => Ok(Sense::Order(LESS, LESS_OR_EQUAL)),
+        AT_EQUAL => Ok(Sense::Equal),
+        _ => Err(15),
     }
 }
 
-pub(crate) fn vocable(word: &[u8]) -> Sense
+pub(crate) fn vocable(word: &[u8]) -> Result<Sense, u32>
     ensures { result ≡ sense_of (lookup word.now (faulty 15) vocabulary) }
 {
     sense_at(word_index(word))

@@ -11,8 +11,8 @@ use borrow.Author.Tests.{lt-ltb, le-ltb}
 use Rattle.description.specs.Grammar.{Word, is_blank, same}
 use Rattle.spelling.specs.Words.{is_bracket, is_order, is_equals, is_quote, ends_word, runs, word_length, words_from}
 use Rattle.spelling.specs.Meanings.{next}
-use Rattle.splitter.specs.declared.Next.{Next}
-use Rattle.splitter.specs.declared.Next.TheVariants.{Word as Span, End}
+use Rattle.std.specs.Prelude.{Option, Some, None}
+use Rattle.splitter.specs.declared.Span.{Span}
 use Rattle.splitter.specs.Splits.{stops, turned, words_at, between, from_next, NextFrom, Past}
 
 -- at the end, at a byte that ends the word, and past any other byte
@@ -105,7 +105,7 @@ word_fits text at h e =
     rw d (omega (arith, w.0), omega (arith, w.1, length-drop (suc at) text))
 
 pub word-found : (text : List ℕ) (at : ℕ) → at < length text → is_blank (get_or text at 0) ≡ false
-    → words_from 0 at (drop at text) ≡ from_next text (Span at (at + word_length (drop at text)))
+    → words_from 0 at (drop at text) ≡ from_next text (Some (record { at = at; end = at + word_length (drop at text) }))
 word-found text at h e =
     let n : ℕ = word_length (drop at text) in
     let w = word_fits text at h e in
@@ -124,7 +124,7 @@ rest_whole text at = take_all (length text - at) (drop at text) (omega (arith, l
 
 pub word_at_lem : (text : List ℕ) (at n : ℕ) → n ≡ word_length (take (length text - at) (drop at text)) → at < length text
     → is_blank (get_or text at 0) ≡ false
-    → (at < at + n) × (at + n ≤ length text) × (words_from 0 at (drop at text) ≡ from_next text (Span at (at + n)))
+    → (at < at + n) × (at + n ≤ length text) × (words_from 0 at (drop at text) ≡ from_next text (Some (record { at = at; end = at + n })))
 word_at_lem text at n e h b =
     let q : n ≡ word_length (drop at text) = e ∙ ap word_length (rest_whole text at) in
     let w = word_fits text at h b in rw q (omega (arith, w.0), w.1, word-found text at h b)
@@ -146,13 +146,13 @@ module _ (bytes : List ℕ) (b : ℕ) (first : b ≡ get_or bytes 0 0) where
 
 -- a word that is the next one, one that is not, and none
 module _ (text word : List ℕ) (from : ℕ) where
-  pub past_word : (at end : ℕ) → from ≤ at → at < end → end ≤ length text → words_at text from ≡ from_next text (Span at end)
+  pub past_word : (at end : ℕ) → from ≤ at → at < end → end ≤ length text → words_at text from ≡ from_next text (Some (record { at = at; end = end }))
       → same (between text at end) word ≡ true → Past word text from end
   unfolding next
   past_word at end f l h e s =
       record { within = h; passed = omega arith; told = rw (e, s) (lt-ltb from end (omega arith)); words = rw (e, s) }
 
-  pub not_past : (at end : ℕ) → from ≤ length text → words_at text from ≡ from_next text (Span at end)
+  pub not_past : (at end : ℕ) → from ≤ length text → words_at text from ≡ from_next text (Some (record { at = at; end = end }))
       → same (between text at end) word ≡ false → Past word text from from
   unfolding next
   not_past at end h e s =
@@ -163,11 +163,11 @@ module _ (text word : List ℕ) (from : ℕ) where
   none_past h e = record { within = h; passed = omega arith; told = rw e (le-ltb from from (omega arith)); words = rw e }
 
 -- what is known of the next word, once it is told apart
-pub found-next : {text : List ℕ} {from : ℕ} (r : Next) (at end : ℕ) → NextFrom text from r → r ≡ Span at end
-    → (from ≤ at) × (at < end) × (end ≤ length text) × (words_at text from ≡ from_next text (Span at end))
-found-next {text} {from} r at end n e =
-    let m : NextFrom text from (Span at end) = subst (NextFrom text from) e n in
+pub found-next : {text : List ℕ} {from : ℕ} (r : Option Span) (s : Span) → NextFrom text from r → r ≡ Some s
+    → (from ≤ s.at) × (s.at < s.end) × (s.end ≤ length text) × (words_at text from ≡ from_next text (Some s))
+found-next {text} {from} r s n e =
+    let m : NextFrom text from (Some s) = subst (NextFrom text from) e n in
     (m.within.0, m.within.1, m.within.2, m.words)
 
-pub found_end : {text : List ℕ} {from : ℕ} (r : Next) → NextFrom text from r → r ≡ End → words_at text from ≡ []
-found_end {text} {from} r n e = let m : NextFrom text from End = subst (NextFrom text from) e n in m.words
+pub found_end : {text : List ℕ} {from : ℕ} (r : Option Span) → NextFrom text from r → r ≡ None → words_at text from ≡ []
+found_end {text} {from} r n e = let m : NextFrom text from None = subst (NextFrom text from) e n in m.words

@@ -1,10 +1,9 @@
 -- The words of a text as code walks them, one byte and one word at a time.
-use Rattle.std.specs.Prelude.{Bool, true, false, not, ◌≡◌, List, [], ◌∷◌, ℕ, ◌-◌, ◌≤◌, ◌<◌, ltb, length, take, drop}
+use Rattle.std.specs.Prelude.{Bool, true, false, not, ◌≡◌, Option, Some, None, List, [], ◌∷◌, ℕ, ◌-◌, ◌≤◌, ◌<◌, ltb, length, take, drop}
 use Rattle.description.specs.Grammar.{Word}
 use Rattle.spelling.specs.Words.{is_quote, ends_word, words_from}
 use Rattle.spelling.specs.Meanings.{next, taken}
-use Rattle.splitter.specs.declared.Next.{Next}
-use Rattle.splitter.specs.declared.Next.TheVariants.{Word as Span, End}
+use Rattle.splitter.specs.declared.Span.{Span}
 
 -- whether a byte ends a word, inside quotes or outside; and whether what comes after it is inside
 abbrev pub stops : Bool → ℕ → Bool
@@ -24,17 +23,17 @@ abbrev pub between : List ℕ → ℕ → ℕ → List ℕ
 between text at end = take (end - at) (drop at text)
 
 -- the next word, and the words after it
-abbrev pub from_next : List ℕ → Next → List Word
-from_next text (Span at end) = record { place = at; text = between text at end } ∷ words_at text end
-from_next text End = []
+abbrev pub from_next : List ℕ → Option Span → List Word
+from_next text (Some s) = record { place = s.at; text = between text s.at s.end } ∷ words_at text s.end
+from_next text None = []
 
 -- its place lies within the text, not before `from`
-abbrev pub in_text : List ℕ → ℕ → Next → Type 0
-in_text text from (Span at end) = (from ≤ at) × (at < end) × (end ≤ length text)
-in_text text from End = Unit {0}
+abbrev pub in_text : List ℕ → ℕ → Option Span → Type 0
+in_text text from (Some s) = (from ≤ s.at) × (s.at < s.end) × (s.end ≤ length text)
+in_text text from None = Unit {0}
 
 -- the words from `from` on are the next and those after it
-pub record NextFrom (text : List ℕ) (from : ℕ) (found : Next) : Type 0 where
+pub record NextFrom (text : List ℕ) (from : ℕ) (found : Option Span) : Type 0 where
   pub within : in_text text from found
   pub words : words_at text from ≡ from_next text found
 

@@ -38,16 +38,13 @@ fn run_length(bytes: &[u8]) -> usize
     ensures { result ≡ runs false bytes.now }
 {
     let mut quoted = false;
-    let mut i: usize = 0;
-    while i < bytes.len() {
-        let b = bytes[i];
-        if stops_word(quoted, b) {
+    for (i, b) in bytes.iter().enumerate() {
+        if stops_word(quoted, *b) {
             return i;
         }
-        quoted = turn(quoted, b);
-        i += 1;
+        quoted = turn(quoted, *b);
     }
-    i
+    bytes.len()
 }
 
 // The number of bytes of the word that begins with the first byte, which is no blank.

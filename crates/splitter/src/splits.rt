@@ -2,26 +2,23 @@
 ghost use Rattle.std.specs.Prelude.{◌≡◌, ◌≤◌, length};
 ghost use Rattle.splitter.specs.Splits.{NextFrom, Past};
 
-use crate::Next;
+use crate::Span;
 use crate::runs::word_length;
 use keywords::same_bytes;
 use text_bytes::bytes::is_blank;
 
 // The next word from a place on: blanks are passed.
-pub fn next_word(text: &[u8], from: usize) -> Next
+pub fn next_word(text: &[u8], from: usize) -> Option<Span>
     requires { from ≤ length text.now }
     ensures { NextFrom text.now from result }
 {
-    let mut at = from;
-    while at < text.len() {
-        let b = text[at];
-        if !is_blank(b) {
+    for at in from..text.len() {
+        if !is_blank(text[at]) {
             let end = at + word_length(&text[at..]);
-            return Next::Word(at, end);
+            return Some(Span { at, end });
         }
-        at += 1;
     }
-    Next::End
+    None
 }
 
 // The place after the word, if it is the next one; else `from`.
@@ -29,14 +26,8 @@ pub fn skip_word(text: &[u8], from: usize, word: &[u8]) -> usize
     requires { from ≤ length text.now }
     ensures { Past word.now text.now from result }
 {
-    let next = next_word(text, from);
-    match next {
-        Next::Word(at, end) => {
-            if same_bytes(&text[at..end], word) {
-                return end;
-            }
-            from
-        }
-        Next::End => from,
+    match next_word(text, from) {
+        Some(next) if same_bytes(&text[next.at..next.end], word) => next.end,
+        _ => from,
     }
 }

@@ -7,20 +7,20 @@ ghost use Rattle.books.specs.Calls.{refused_as, ReadAs};
 
 use book_names::names::book_of;
 use books::given::give;
-use books::{Named, Recognized};
+use books::{Counts, ReadRefusal};
 use content::Row;
-use lexer::Lexed;
+use lexer::Fault;
 use lexer::gathering::gather;
 
 // The refusal of a text, by its number.
-fn refused(number: u32, place: usize) -> Recognized
-    ensures { result ≡ refused_as number place }
+fn refused(fault: Fault) -> ReadRefusal
+    ensures { result ≡ refused_as fault.number fault.place }
 {
-    match number {
-        14 => Recognized::Description(place),
-        15 => Recognized::Word(place),
-        16 => Recognized::Name(place),
-        _ => Recognized::TokenCount,
+    match fault.number {
+        14 => ReadRefusal::Description(fault.place),
+        15 => ReadRefusal::Word(fault.place),
+        16 => ReadRefusal::Name(fault.place),
+        _ => ReadRefusal::TokenCount,
     }
 }
 
@@ -37,7 +37,7 @@ fn read_named(
     tokens: &mut [u32],
     literals: &mut [u32],
     bytes: &mut [u8],
-) -> Recognized
+) -> Result<Counts, ReadRefusal>
     requires { Listed items places.now × (320 ≤ length rows.old) × (6400 ≤ length content.old) × (count ≤ 64) × (size ≤ 4096) }
     ensures { ReadAs (reading (book_in (known_at description.now items places.now) count size rows.old content.old) condition.now) tokens.old literals.old bytes.old result tokens.new literals.new bytes.new }
 {
@@ -54,8 +54,8 @@ fn read_named(
         content,
     );
     match lexed {
-        Lexed::Whole(held) => give(held, &gathered, rows, content, tokens, literals, bytes),
-        Lexed::Fault(number, place) => refused(number, place),
+        Ok(held) => give(held, &gathered, rows, content, tokens, literals, bytes),
+        Err(fault) => Err(refused(fault)),
     }
 }
 
@@ -67,7 +67,7 @@ pub fn read(
     tokens: &mut [u32],
     literals: &mut [u32],
     bytes: &mut [u8],
-) -> Recognized
+) -> Result<Counts, ReadRefusal>
     ensures { ReadAs (read_condition description.now condition.now) tokens.old literals.old bytes.old result tokens.new literals.new bytes.new }
 {
     let mut places = [0u32; 128];
@@ -75,7 +75,7 @@ pub fn read(
     let mut content = [0u8; 6400];
     let named = book_of(description, &mut places, &mut rows, &mut content);
     match named {
-        Named::Given(book) => {
+        Ok(book) => {
             read_named(
                 description,
                 &places[..book.places],
@@ -90,6 +90,6 @@ pub fn read(
                 bytes,
             )
         }
-        Named::Faulty(place) => Recognized::Description(place),
+        Err(place) => Err(ReadRefusal::Description(place)),
     }
 }

@@ -12,19 +12,18 @@ use Rattle.description.specs.Grammar.{Literal, literal_row, Value, single, range
 use Rattle.description.specs.Limits.{ruled, unfit, comparable, barred_alone, unlike, above, barred}
 use Rattle.description.specs.Stages.{is_literal, literal_in}
 use Rattle.description.proofs.Bytes.{apart}
-use Rattle.literal_words.specs.declared.Number.{Number}
-use Rattle.literal_words.specs.declared.Number.TheVariants.{Is, Not}
 use Rattle.literal_pairs.specs.Spelling.{literal_of, row_found, Written, unlike_rows}
 use Rattle.condition_names.specs.Values.{value_of}
 use Rattle.value_weights.specs.Weights.{shown, rows_of, weighed}
 use Rattle.condition_names.specs.declared.Found.{Found}
 use Rattle.value_weights.specs.declared.Weighed.TheVariants.{Barred, Single, Range}
+use Rattle.std.specs.Prelude.{None, Some}
 
-module _ (x : Literal) (r : Rules.Row) (e : row_found x ≡ Is r) where
+module _ (x : Literal) (r : Rules.Row) (e : row_found x ≡ Some r) where
   row_facts : (r ≡ ruled (literal_row 0 x)) × (unfit x ≡ false)
   row_facts = by (unfit x) refl e
     where
-      by : (t : Bool) → unfit x ≡ t → cond t Not (Is (ruled (literal_row 0 x))) ≡ Is r → (r ≡ ruled (literal_row 0 x)) × (unfit x ≡ false)
+      by : (t : Bool) → unfit x ≡ t → cond t None (Some (ruled (literal_row 0 x))) ≡ Some r → (r ≡ ruled (literal_row 0 x)) × (unfit x ≡ false)
       by true h e = let z : ◌≡◌ {A = ℕ} 0 1 = cc in absurd (omega arith)
       by false h e = let i : ruled (literal_row 0 x) ≡ r = cc in (sym i, h)
 
@@ -40,13 +39,13 @@ module _ (x : Literal) (r : Rules.Row) (e : row_found x ≡ Is r) where
   pub alone_fine : (item : Rules.Row) → side_fits item r && side_fits r item ≡ true → barred_alone (shown item) x ≡ false
   alone_fine item h = let i : comparable (shown item) x ≡ true = rw row_is at h in rw (row_facts.1, i)
 
-pub written_is : (w : List ℕ) (r : Rules.Row) → is_literal w ≡ true → row_found (literal_of w) ≡ Is r → Written w r
+pub written_is : (w : List ℕ) (r : Rules.Row) → is_literal w ≡ true → row_found (literal_of w) ≡ Some r → Written w r
 written_is w r h e = record { whole = h; row = row_is (literal_of w) r e; sound = row_sound_lem (literal_of w) r e }
 
-pub alone-unfit : (x : Literal) (item : Rules.Row) → row_found x ≡ Not → barred_alone (shown item) x ≡ true
+pub alone-unfit : (x : Literal) (item : Rules.Row) → row_found x ≡ None → barred_alone (shown item) x ≡ true
 alone-unfit x item e = by (unfit x) refl e
   where
-    by : (t : Bool) → unfit x ≡ t → cond t Not (Is (ruled (literal_row 0 x))) ≡ Not → barred_alone (shown item) x ≡ true
+    by : (t : Bool) → unfit x ≡ t → cond t None (Some (ruled (literal_row 0 x))) ≡ None → barred_alone (shown item) x ≡ true
     by true h e = rw h
     by false h e = let z : ◌≡◌ {A = ℕ} 0 1 = cc in absurd (omega arith)
 
@@ -64,14 +63,14 @@ module _ (text : List ℕ) (item : Rules.Row) (f : Found) where
       by true = rw h
       by false = rw h
 
-  pub value_single : f.range ≡ false → barred_alone (shown item) low ≡ false → (r : Rules.Row) → row_found low ≡ Is r → Single r ≡ weighed item (value_of text f)
+  pub value_single : f.range ≡ false → barred_alone (shown item) low ≡ false → (r : Rules.Row) → row_found low ≡ Some r → Single r ≡ weighed item (value_of text f)
   value_single i h r e = rw (i, h) (ap Single (row_is low r e))
 
   module _ (i : f.range ≡ true) (h : barred_alone (shown item) low ≡ false) where
     pub high_barred : barred_alone (shown item) high ≡ true → Barred ≡ weighed item (value_of text f)
     high_barred k = rw (i, h, k)
 
-    module _ (q r : Rules.Row) (s : q ≡ ruled (literal_row 0 low)) (e : row_found high ≡ Is r) where
+    module _ (q r : Rules.Row) (s : q ≡ ruled (literal_row 0 low)) (e : row_found high ≡ Some r) where
       -- one end only is numeric, or the two may not be compared with the item
       pub high_apart : not (side_fits item r && side_fits r item) || unlike_rows q r ≡ true → Barred ≡ weighed item (value_of text f)
       high_apart k = by (side_fits item r && side_fits r item) refl (unlike_rows q r) refl k

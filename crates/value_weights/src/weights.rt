@@ -11,7 +11,6 @@ use condition_names::Found;
 use content::Row;
 use literal_pairs::pairs::{may_compare, unlike};
 use literal_rows::literals::literal_row;
-use literal_words::Number;
 use ranges::ends::exceeds;
 
 // The high end of a range whose low end may stand.
@@ -26,7 +25,7 @@ fn weigh_high(text: &[u8], item: Row, low: Row, found: Found) -> Weighed
     let from = found.high;
     let end = found.end;
     match literal_row(&text[from..end]) {
-        Number::Is(high) => {
+        Some(high) => {
             if !may_compare(item, high) | unlike(low, high) {
                 return Weighed::Barred;
             }
@@ -35,7 +34,7 @@ fn weigh_high(text: &[u8], item: Row, low: Row, found: Found) -> Weighed
             }
             Weighed::Range(low, high)
         }
-        Number::Not => Weighed::Barred,
+        None => Weighed::Barred,
     }
 }
 
@@ -47,7 +46,7 @@ pub fn weigh(text: &[u8], item: Row, found: Found) -> Weighed
     let at = found.low;
     let mid = found.mid;
     match literal_row(&text[at..mid]) {
-        Number::Is(low) => {
+        Some(low) => {
             if !may_compare(item, low) {
                 return Weighed::Barred;
             }
@@ -56,6 +55,6 @@ pub fn weigh(text: &[u8], item: Row, found: Found) -> Weighed
             }
             Weighed::Single(low)
         }
-        Number::Not => Weighed::Barred,
+        None => Weighed::Barred,
     }
 }

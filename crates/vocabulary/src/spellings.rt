@@ -20,17 +20,11 @@ pub const AT_EQUAL: usize = 27;
 
 const COUNT: usize = 28;
 
-fn wide(x: u8) -> usize
-    ensures { result ≡ x }
-{
-    x as usize
-}
-
 // Where word k starts.
 fn start_of(k: usize) -> usize
     ensures { result ≡ get_or starts k 0 }
 {
-    wide(byte_at(
+    usize::from(byte_at(
         b"\x00\x01\x02\x05\x08\x0a\x0b\x0c\x0d\x0f\x11\x18\x22\x32\x42\x4a\x52\x56\x5c\x62\x68\x6e\x74\x7a\x80\x86\x8d\x91\x96",
         k,
     ))
@@ -66,14 +60,12 @@ fn is_word(w: &[u8], k: usize) -> bool
 pub fn word_index(w: &[u8]) -> usize
     ensures { result ≡ position w.now spelt }
 {
-    let mut k: usize = 0;
-    while k < COUNT {
+    for k in 0..COUNT {
         if is_word(w, k) {
             return k;
         }
-        k += 1;
     }
-    k
+    COUNT
 }
 
 fn copy_part(all: &[u8], start: usize, end: usize, out: &mut [u8])

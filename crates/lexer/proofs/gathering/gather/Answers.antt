@@ -15,8 +15,8 @@ loop-held-preserved c =
     let a = c.args in
     let book = book_in (known_at a.description.now a.items a.places.now) a.literals a.content a.rows.now a.bytes.now in
     let i = c.loop-held.invariant in
-    let s = c.step-stepped in
-    let on = on_step book a.text.now _ _ _ i.0 i.1 i.5 s.result s.ensures c.in-On.is in
+    let s = c.step in
+    let on = on_step book a.text.now _ _ _ i.0 i.1 i.5 s.result s.ensures (rw c.in-Ok-Some.field-0-is at c.in-Ok-Some.is) in
     (on.0, on.1, s.auto.tokens ∙ i.2, s.auto.rows ∙ i.3, s.auto.bytes ∙ i.4, on.3)
 
 pub returns-then-text-le2048 : goal.returns-then-text-le2048
@@ -26,26 +26,26 @@ returns-then-text-le2048 c =
     let s = c in
     let l = s.loop-held in
     let start = s in
-    whole_end book start.args.text.now _ _ _ l.invariant.0 l.invariant.1 l.invariant.5 s.step-stepped.result s.step-stepped.ensures c.in-End.is c.if-text-le2048.true
+    whole_end book start.args.text.now _ _ _ l.invariant.0 l.invariant.1 l.invariant.5 s.step.result s.step.ensures (rw c.in-Ok-None.field-0-is at c.in-Ok-None.is) c.if-text-le2048.true
 
-pub returns-in-End : goal.returns-in-End
-returns-in-End c =
+pub returns-in-Ok-None : goal.returns-in-Ok-None
+returns-in-Ok-None c =
     let a = c.args in
     let book = book_in (known_at a.description.now a.items a.places.now) a.literals a.content a.rows.now a.bytes.now in
     let s = c in
     let l = s.loop-held in
     let start = s in
-    long_end book start.args.text.now _ _ _ l.invariant.0 l.invariant.1 l.invariant.5 s.step-stepped.result s.step-stepped.ensures c.in-End.is c.if-text-le2048.false
+    long_end book start.args.text.now _ _ _ l.invariant.0 l.invariant.1 l.invariant.5 s.step.result s.step.ensures (rw c.in-Ok-None.field-0-is at c.in-Ok-None.is) c.if-text-le2048.false
 
-pub returns-in-Fault : goal.returns-in-Fault
-returns-in-Fault c =
+pub returns-in-Err : goal.returns-in-Err
+returns-in-Err c =
     let a = c.args in
     let book = book_in (known_at a.description.now a.items a.places.now) a.literals a.content a.rows.now a.bytes.now in
     let s = c in
     let l = s.loop-held in
     let start = s in
-    fault_end book start.args.text.now _ _ _ l.invariant.0 l.invariant.1 l.invariant.5 s.step-stepped.result s.step-stepped.ensures c.early.result
-    c.in-Fault.is c.early.ensures
+    fault_end book start.args.text.now _ _ _ l.invariant.0 l.invariant.1 l.invariant.5 s.step.result s.step.ensures
+    c.in-Err.is c.early.ensures
 
 pub returns-then-text-le2048-2 : goal.returns-then-text-le2048-2
 returns-then-text-le2048-2 c =

@@ -3,10 +3,6 @@ use lib.ListN.{length}
 use native.Mathlib.Omega.{arith}
 use Rattle.std.proofs.lemmas.Grind.{common_steps}
 use Rattle.literal_bytes.proofs.Copying.{first-length, first-room, no_point, rest_room, number-copied}
-use Rattle.literal_bytes.proofs.copies.copy_number.Reads as reads
-use Rattle.literal_bytes.proofs.copies.copy_number.Lts as lts
-use Rattle.literal_bytes.proofs.copies.copy_bytes.Reads as copy-bytes-reads
-use Rattle.literal_bytes.proofs.points.point_place.Reads as point-place-reads
 use Rattle.literal_bytes.proofs.copies.copy_number.Goals as goal
 
 -- src/copies.rt:29:16

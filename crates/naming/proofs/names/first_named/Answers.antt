@@ -1,6 +1,5 @@
 -- `first_named` meets its contract. The loop's invariant: no row before k has the name.
 use mathlib.Core.Path.{sym, ap, ◌∙◌}
-use Prim.Native.Nat.{◌-◌}
 use native.Mathlib.Omega.{arith}
 use Rattle.description.specs.Grammar.{same}
 use Rattle.spelling.specs.Names.{leading}
@@ -12,26 +11,24 @@ returns-then-same_name c = let here = found_here c.args.description.now c.args.p
     c.loop-k-test.true in
     omega (
       arith,
-      c.loop-k.invariant.1,
+      c.loop-k.invariant,
       here (sym (ap (λ v. same c.args.word.now (leading v)) c.rest_from.ensures) ∙ sym
           c.same_name.ensures ∙ c.if-same_name.true),
     )
 
 pub loop-k-preserved : goal.loop-k-preserved
 loop-k-preserved c = let later = found_later c.args.description.now c.args.places.now c.args.word.now c.loop-k.k
-    c.loop-k-test.true in (
-      omega arith,
-      omega (
-        arith,
-        c.loop-k.invariant.1,
-        later (sym (ap (λ v. same c.args.word.now (leading v)) c.rest_from.ensures) ∙ sym
-            c.same_name.ensures ∙ c.if-same_name.false),
-      ),
+    c.loop-k-test.true in
+    omega (
+      arith,
+      c.loop-k.invariant,
+      later (sym (ap (λ v. same c.args.word.now (leading v)) c.rest_from.ensures) ∙ sym
+          c.same_name.ensures ∙ c.if-same_name.false),
     )
 
 pub returns : goal.returns
 returns c = omega (
   arith,
-  c.loop-k.invariant.1,
-  none_left c.args.description.now c.args.places.now c.args.word.now c.loop-k.k c.loop-k-test.false,
+  c.loop-k.invariant,
+  none_left c.args.description.now c.args.places.now c.args.word.now c.loop-k.k (omega arith),
 )

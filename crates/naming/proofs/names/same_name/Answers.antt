@@ -1,30 +1,28 @@
--- `same_name` meets its contract. The loop's invariant: the first k bytes are the name's, so the rest decides.
-use mathlib.Core.Path.{sym, ◌∙◌}
-use Prim.Native.Nat.{◌-◌}
-use native.Mathlib.Omega.{arith}
-use Rattle.naming.proofs.Finding.{too_short, name_differs, name_goes_on, name_ends}
+-- `same_name` meets its contract.
+use mathlib.Core.Path.{◌≡◌, sym, ap, ◌∙◌}
+use mathlib.Core.Bool.{true, false, not}
+use lib.Dec.{eqb}
+use lib.ListN.{length, take}
+use Rattle.std.specs.Cmp.Lexicographic.{pointwise}
+use Rattle.description.specs.Grammar.{is_name_byte}
+use Rattle.naming.proofs.Finding.{too_short, heads}
 use Rattle.naming.proofs.names.same_name.Goals as goal
 
 pub returns-then-rest-word : goal.returns-then-rest-word
 returns-then-rest-word c = too_short c.args.word.now c.args.rest.now c.if-rest-word.true
 
-pub returns-then-rest-k : goal.returns-then-rest-k
-returns-then-rest-k c =
-    let l = c.loop-k in
-    let start = c in
-    let there = name_differs start.args.word.now start.args.rest.now l.k start.requires c.loop-k-test.true in
-    sym (l.invariant.2 ∙ there (omega (arith, l.invariant.1)) c.if-rest-k.true)
+pub returns-then-starts_with : goal.returns-then-starts_with
+returns-then-starts_with c =
+    let word = c.args.word.now in
+    let rest = c.args.rest.now in
+    let there : pointwise eqb word (take (length word) rest) ≡ true = sym c.starts_with.ensures.value ∙ c.if-starts_with.true in
+    let h = heads word rest c.requires in
+    ap not (c.is_name_byte.ensures ∙ ap is_name_byte c.byte_at.ensures) ∙ (rw there at h)
 
-pub loop-k-preserved : goal.loop-k-preserved
-loop-k-preserved c =
-    let l = c.loop-k in
-    let start = c in
-    let there = name_goes_on start.args.word.now start.args.rest.now l.k start.requires c.loop-k-test.true in
-    (omega arith, l.invariant.1, l.invariant.2 ∙ there (omega (arith, l.invariant.1)) c.if-rest-k.false)
-
-pub returns : goal.returns
-returns c =
-    let l = c.loop-k in
-    let start = c in
-    let ended = name_ends start.args.word.now start.args.rest.now l.k c.byte_at.result c.is_name_byte.result in
-    ended c.loop-k-test.false c.byte_at.ensures c.is_name_byte.ensures ∙ sym l.invariant.2
+pub returns-else-starts_with : goal.returns-else-starts_with
+returns-else-starts_with c =
+    let word = c.args.word.now in
+    let rest = c.args.rest.now in
+    let other : pointwise eqb word (take (length word) rest) ≡ false = sym c.starts_with.ensures.value ∙ c.if-starts_with.false in
+    let h = heads word rest c.requires in
+    c.if-starts_with.false ∙ (rw other at h)

@@ -1,7 +1,4 @@
 -- `first_missing` meets its contract. The loop's invariant: the first i tokens pass.
-use mathlib.Core.Bool.{not}
-use mathlib.Core.Path.{sym, ap, ◌∙◌}
-use Prim.Native.Nat.{◌-◌}
 use native.Mathlib.Omega.{arith}
 use Rattle.std.proofs.lemmas.Grind.{common_steps}
 use Rattle.printable.specs.Passing.{may_print}
@@ -17,7 +14,7 @@ loop-i-preserved c = grind (arith, common_steps, passes_on)
 pub returns : goal.returns
 returns c = omega (
   arith,
-  c.loop-i.invariant.1,
+  c.loop-i.invariant,
   passed_end (may_print c.args.items c.args.literals
-      c.args.names) c.args.tokens.now c.loop-i.i c.loop-i-test.false,
+      c.args.names) c.args.tokens.now c.loop-i.i (omega arith),
 )

@@ -1,7 +1,4 @@
 -- `first_unnamed` meets its contract. The loop's invariant: the first i tokens pass.
-use mathlib.Core.Bool.{not}
-use mathlib.Core.Path.{sym, ap, ◌∙◌}
-use Prim.Native.Nat.{◌-◌}
 use native.Mathlib.Omega.{arith}
 use Rattle.std.proofs.lemmas.Grind.{common_steps}
 use Rattle.naming.specs.Named.{known_at}
@@ -18,7 +15,7 @@ loop-i-preserved c = grind (arith, common_steps, passes_on)
 pub returns : goal.returns
 returns c = omega (
   arith,
-  c.loop-i.invariant.1,
+  c.loop-i.invariant,
   passed_end (has_name (known_at c.args.description.now
-      c.args.items c.args.places.now)) c.args.tokens.now c.loop-i.i c.loop-i-test.false,
+      c.args.items c.args.places.now)) c.args.tokens.now c.loop-i.i (omega arith),
 )

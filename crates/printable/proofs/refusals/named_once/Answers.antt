@@ -7,8 +7,8 @@ use Rattle.spelling.specs.Names.{leading}
 use Rattle.printable.proofs.Passed.{leading-bytes}
 use Rattle.printable.proofs.refusals.named_once.Goals as goal
 
-pub row_named-called-requires : goal.row_named-called-requires
-row_named-called-requires c = (
+pub row_named-requires : goal.row_named-requires
+row_named-requires c = (
   ap (all is_name_byte) c.name_part-name.ensures ∙ leading-bytes (drop
       c.args.place c.args.description.now),
   c.requires,

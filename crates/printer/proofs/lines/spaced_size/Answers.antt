@@ -1,4 +1,4 @@
--- `spaced_size` meets its contract. The loop's invariant: n bytes for the first i words.
+-- `spaced_size` meets its contract. The loop's invariant: n bytes for the first words.
 use mathlib.Core.Path.{ap}
 use Prim.Native.Nat.{◌-◌}
 use native.Mathlib.Omega.{arith}
@@ -13,48 +13,47 @@ overflow_add-n c = omega (
   arith,
   c.token_size.ensures,
   word_small c.args.description.now
-      c.args.items c.args.places.now c.args.literals.now c.args.bytes.now (get_or c.args.tokens.now c.loop-i.i 0)
-      (c.requires.each c.loop-i.i c.loop-i-test.true)
+      c.args.items c.args.places.now c.args.literals.now c.args.bytes.now (get_or c.args.tokens.now c.loop-token.token-index 0)
+      (c.requires.each c.loop-token.token-index c.loop-token-test.true)
       c.requires.short,
 )
 
-pub overflow_add-n-in-loop-i : goal.overflow_add-n-in-loop-i
-overflow_add-n-in-loop-i c = omega (
+pub overflow_add-n-in-loop-token : goal.overflow_add-n-in-loop-token
+overflow_add-n-in-loop-token c = omega (
   arith,
   c.token_size.ensures,
   word_small c.args.description.now
-      c.args.items c.args.places.now c.args.literals.now c.args.bytes.now (get_or c.args.tokens.now c.loop-i.i 0)
-      (c.requires.each c.loop-i.i c.loop-i-test.true)
+      c.args.items c.args.places.now c.args.literals.now c.args.bytes.now (get_or c.args.tokens.now c.loop-token.token-index 0)
+      (c.requires.each c.loop-token.token-index c.loop-token-test.true)
       c.requires.short,
-  c.loop-i.invariant.1,
+  c.loop-token.invariant.0,
   c.requires.few,
 )
 
-pub loop-i-preserved : goal.loop-i-preserved
-loop-i-preserved c = (
-  omega arith,
+pub loop-token-preserved : goal.loop-token-preserved
+loop-token-preserved c = (
   omega (
     arith,
     c.token_size.ensures,
     word_small c.args.description.now
-        c.args.items c.args.places.now c.args.literals.now c.args.bytes.now (get_or c.args.tokens.now c.loop-i.i 0)
-        (c.requires.each c.loop-i.i c.loop-i-test.true)
+        c.args.items c.args.places.now c.args.literals.now c.args.bytes.now (get_or c.args.tokens.now c.loop-token.token-index 0)
+        (c.requires.each c.loop-token.token-index c.loop-token-test.true)
         c.requires.short,
-    c.loop-i.invariant.1,
+    c.loop-token.invariant.0,
   ),
   omega (
     arith,
     c.token_size.ensures,
-    c.loop-i.invariant.2,
+    c.loop-token.invariant.1,
     spaced_size_on (word_of (known_at c.args.description.now
-        c.args.items c.args.places.now) c.args.literals.now c.args.bytes.now) c.args.tokens.now c.loop-i.i c.loop-i-test.true,
+        c.args.items c.args.places.now) c.args.literals.now c.args.bytes.now) c.args.tokens.now c.loop-token.token-index c.loop-token-test.true,
   ),
 )
 
 pub returns : goal.returns
 returns c = omega (
   arith,
-  c.loop-i.invariant.2,
+  c.loop-token.invariant.1,
   ap length (spaced_end (word_of (known_at c.args.description.now
-      c.args.items c.args.places.now) c.args.literals.now c.args.bytes.now) c.args.tokens.now c.loop-i.i c.loop-i-test.false),
+      c.args.items c.args.places.now) c.args.literals.now c.args.bytes.now) c.args.tokens.now c.loop-token.token-index c.loop-token-test.false),
 )

@@ -9,28 +9,28 @@ use Rattle.printouts.proofs.printing.print.Goals as goal
 
 pub slice_bounds-places-end : goal.slice_bounds-places-end
 slice_bounds-places-end c = (book-found c.book_of-named.result c.book_of-named.ensures
-    c.in-Given.is).there
+    c.in-Ok.is).there
 
 pub slice_bounds-print_named-end : goal.slice_bounds-print_named-end
 slice_bounds-print_named-end c = sym (length-take-le _ _ (book-found c.book_of-named.result
-    c.book_of-named.ensures c.in-Given.is).there)
+    c.book_of-named.ensures c.in-Ok.is).there)
 
 pub print_named-requires : goal.print_named-requires
 print_named-requires c = (
   (book-found c.book_of-named.result
-      c.book_of-named.ensures c.in-Given.is).short,
+      c.book_of-named.ensures c.in-Ok.is).short,
   places-listed
       c.book_of-named.result c.book_of-named.ensures
-      c.in-Given.is,
+      c.in-Ok.is,
 )
 
-pub returns-in-Given : goal.returns-in-Given
-returns-in-Given c = as_print (named_print c.book_of-named.result
+pub returns-in-Ok : goal.returns-in-Ok
+returns-in-Ok c = as_print (named_print c.book_of-named.result
     c.book_of-named.ensures c.args.literals.now
     c.args.bytes.now
     c.args.tokens.now
-    c.in-Given.is) c.print_named.ensures
+    c.in-Ok.is) c.print_named.ensures
 
-pub returns-in-Faulty : goal.returns-in-Faulty
-returns-in-Faulty c = refused_print (undescribed_print c.book_of-named.result
-    c.book_of-named.ensures c.args.literals.now c.args.bytes.now c.args.tokens.now c.in-Faulty.is) refl
+pub returns-in-Err : goal.returns-in-Err
+returns-in-Err c = refused_print (undescribed_print c.book_of-named.result
+    c.book_of-named.ensures c.args.literals.now c.args.bytes.now c.args.tokens.now c.in-Err.is) refl

@@ -1,6 +1,5 @@
--- `put_doubled` meets its contract. The loop's invariant: the first i bytes are written, doubled.
+-- `put_doubled` meets its contract. The loop's invariant: the first bytes are written, doubled.
 use mathlib.Core.Path.{refl}
-use Prim.Native.Nat.{◌-◌}
 use native.Mathlib.Omega.{arith}
 use lib.ListN.{length, length-set}
 use Rattle.tables.proofs.Front.{copied-length, copied_all}
@@ -12,23 +11,23 @@ bounds-out-n c =
     let c5 = c in
     omega (
       arith,
-      doubles_left c.loop-i.invariant.0 c.loop-i-test.true _ refl,
-      copied-length c.loop-i.invariant.0.copied,
+      doubles_left c.loop-b.invariant c.loop-b-test.true _ refl,
+      copied-length c.loop-b.invariant.copied,
       c5.requires,
     )
 
-pub bounds-out-n-in-loop-i : goal.bounds-out-n-in-loop-i
-bounds-out-n-in-loop-i c =
+pub bounds-out-n-in-loop-b : goal.bounds-out-n-in-loop-b
+bounds-out-n-in-loop-b c =
     let c6 = c in
     simp length-set (omega (
       arith,
-      doubles_left c.loop-i.invariant.0 c.loop-i-test.true c.stride-n.result c.stride-n.ensures,
-      copied-length c.loop-i.invariant.0.copied,
+      doubles_left c.loop-b.invariant c.loop-b-test.true c.stride-n.result c.stride-n.ensures,
+      copied-length c.loop-b.invariant.copied,
       c6.requires,
     ))
 
-pub loop-i-preserved : goal.loop-i-preserved
-loop-i-preserved c = (doubles_more c.loop-i.invariant.0 c.loop-i-test.true c.stride-n.result c.stride-n.ensures, omega arith)
+pub loop-b-preserved : goal.loop-b-preserved
+loop-b-preserved c = doubles_more c.loop-b.invariant c.loop-b-test.true c.stride-n.result c.stride-n.ensures
 
 pub returns : goal.returns
-returns c = copied_all c.loop-i.invariant.0.copied (doubles_all c.loop-i.invariant.0 c.loop-i-test.false)
+returns c = copied_all c.loop-b.invariant.copied (doubles_all c.loop-b.invariant c.loop-b-test.false)

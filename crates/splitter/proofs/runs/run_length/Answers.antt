@@ -1,8 +1,6 @@
 -- `run_length` meets its contract. The loop's invariant: the first `i` bytes go on the word, and what is left goes on as it does after
 -- them.
 use mathlib.Core.Path.{sym, ◌∙◌}
-use mathlib.Core.Bool.{false}
-use Prim.Native.Nat.{◌-◌}
 use native.Mathlib.Omega.{arith}
 use Rattle.splitter.proofs.Walking.{run-ended, run-stopped, run_on}
 use Rattle.splitter.proofs.runs.run_length.Goals as goal
@@ -13,7 +11,7 @@ returns-then-stops_word c =
     let bytes = c.args.bytes.now in
     omega (
       arith,
-      l.invariant.1,
+      l.invariant,
       run-stopped bytes l.quoted l.i c.loop-i-test.true (sym c.stops_word.ensures ∙ c.if-stops_word.true),
     )
 
@@ -24,10 +22,10 @@ loop-i-preserved c =
     let on =
     run_on bytes l.quoted l.i c.loop-i-test.true
     (sym c.stops_word.ensures ∙ c.if-stops_word.false) in
-    (omega arith, rw c.turn-quoted.ensures (omega (arith, l.invariant.1, on)))
+    rw c.turn-quoted.ensures (omega (arith, l.invariant, on))
 
 pub returns : goal.returns
 returns c =
     let l = c.loop-i in
     let bytes = c.args.bytes.now in
-    omega (arith, l.invariant.1, run-ended bytes l.quoted l.i c.loop-i-test.false)
+    omega (arith, l.invariant, run-ended bytes l.quoted l.i c.loop-i-test.false)

@@ -1,9 +1,6 @@
 -- `next_word` meets its contract. The loop's invariant: the words from `at` on are those from `from` on.
 use mathlib.Core.Path.{sym, ◌∙◌}
-use Prim.Native.Nat.{◌-◌}
 use native.Mathlib.Omega.{arith}
-use lib.ListN.{length}
-use Rattle.spelling.specs.Words.{word_length}
 use Rattle.splitter.proofs.Walking.{no_word, blank_passed, word_at_lem}
 use Rattle.splitter.proofs.splits.next_word.Goals as goal
 
@@ -22,17 +19,14 @@ returns-then-not-is_blank c =
     word_at_lem c.args.text.now c.loop-at.at
     c.word_length.result c.word_length.ensures c.loop-at-test.true
     (sym c.is_blank.ensures ∙ c.if-not-is_blank.true) in
-    record { within = (omega arith, found.0, found.1); words = c.loop-at.invariant.2 ∙ found.2 }
+    record { within = (omega arith, found.0, found.1); words = c.loop-at.invariant ∙ found.2 }
 
 pub loop-at-preserved : goal.loop-at-preserved
-loop-at-preserved c = (
-  omega arith,
-  omega arith,
-  c.loop-at.invariant.2
-      ∙ blank_passed c.args.text.now _ c.loop-at-test.true
-      (sym c.is_blank.ensures ∙ c.if-not-is_blank.false),
-)
+loop-at-preserved c =
+    c.loop-at.invariant
+    ∙ blank_passed c.args.text.now _ c.loop-at-test.true
+    (sym c.is_blank.ensures ∙ c.if-not-is_blank.false)
 
 pub returns : goal.returns
 returns c =
-    record { within = tt; words = c.loop-at.invariant.2 ∙ no_word c.args.text.now _ c.loop-at-test.false }
+    record { within = tt; words = c.loop-at.invariant ∙ no_word c.args.text.now _ c.loop-at-test.false }

@@ -1,6 +1,4 @@
 -- `word_index` meets its contract. The loop's invariant: none of the first k words is it.
-use mathlib.Core.Path.{sym, ◌∙◌}
-use Prim.Native.Nat.{◌-◌}
 use native.Mathlib.Omega.{arith}
 use Rattle.std.proofs.lemmas.Grind.{common_steps}
 use Rattle.vocabulary.proofs.Cells.{word_here, word_later, word_none}
@@ -13,4 +11,4 @@ pub loop-k-preserved : goal.loop-k-preserved
 loop-k-preserved c = grind (arith, common_steps, word_later)
 
 pub returns : goal.returns
-returns c = omega (arith, c.loop-k.invariant.1, word_none c.loop-k.k c.loop-k-test.false c.args.w.now)
+returns c = omega (arith, c.loop-k.invariant, word_none c.loop-k.k (omega arith) c.args.w.now)
