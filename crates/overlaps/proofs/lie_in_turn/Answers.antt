@@ -1,5 +1,5 @@
 -- The invariant: while all lie in turn, none of the rows passed overlaps an earlier one.
-use mathlib.Core.Path.{ap}
+use mathlib.Core.Path.{refl, ap}
 use mathlib.Core.Bool.{true, not}
 use Prim.Native.Nat.{◌-◌}
 use native.Mathlib.Omega.{arith}
