@@ -22,7 +22,13 @@ pub fn list_changes(old: &[u8], new: &[u8], at: u32, list: &mut [u32]) -> usize
     let mut count: usize = 0;
     for (i, was) in old.iter().enumerate() {
         if *was != new[i] {
-            put_change(list, count, at + i as u32, u32::from(*was), u32::from(new[i]));
+            put_change(
+                list,
+                count,
+                at + i as u32,
+                u32::from(*was),
+                u32::from(new[i]),
+            );
             count += 3;
         }
     }

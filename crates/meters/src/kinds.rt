@@ -34,10 +34,10 @@ fn fill(bytes: &mut [u8])
 fn lead(bytes: &mut [u8])
     ensures { bytes.new ≡ leading bytes.old }
 {
-    if all_spaces(bytes) {
-        return;
+    let blank = all_spaces(bytes);
+    if !blank {
+        fill(bytes);
     }
-    fill(bytes);
 }
 
 fn sign_of(b: u8) -> u8
@@ -80,7 +80,8 @@ pub fn mended_into(row: Row, bytes: &[u8], out: &mut [u8])
         return;
     }
     mend_digits(row, out);
-    if !valid_content(row, out) {
+    let valid = valid_content(row, out);
+    if !valid {
         copy_bytes(bytes, out);
     }
 }

@@ -7,7 +7,7 @@ mod answers; // what is told of one record
 pub mod parts; // a block of records after the other
 
 // Why nothing was written: the records are of another size, or a refusal of run's, or 10.
-#[derive(Debug, Clone, Copy, PartialEq, Eq)]
+#[derive(Clone, Copy)]
 pub enum Unswept {
     Uneven,
     Refused(Refusal),

@@ -51,9 +51,9 @@ loop-i-preserved c =
           ∙ ap (λ (n : ℕ). n + 3) at-loop.invariant.1 in (
             omega arith,
             counted ∙ sym grown,
-            ap length (w.list-is ∙ w.put_change.ensures) ∙ length-sets at-loop.list at-loop.count ((a.at + at-loop.i) ∷ w.wide.result ∷ w.wide-then-was-new.result ∷ [])
+            ap length (w.list-is ∙ w.put_change.ensures) ∙ length-sets at-loop.list at-loop.count ((a.at + at-loop.i) ∷ w.from.result ∷ w.from-then-was-new.result ∷ [])
                 ∙ at-loop.invariant.2,
-            w.list-is ∙ w.put_change.ensures ∙ ap₂ (λ (x y : ℕ). sets at-loop.list at-loop.count ((a.at + at-loop.i) ∷ x ∷ y ∷ [])) w.wide.ensures w.wide-then-was-new.ensures
+            w.list-is ∙ w.put_change.ensures ∙ ap₂ (λ (x y : ℕ). sets at-loop.list at-loop.count ((a.at + at-loop.i) ∷ x ∷ y ∷ [])) w.from.ensures w.from-then-was-new.ensures
                 ∙ ap (λ (l : List ℕ). sets l at-loop.count e1) at-loop.invariant.3 ∙ ap (λ (n : ℕ). sets (written ++ drop n list) n e1) at-loop.invariant.1
                 ∙ three_put list written (a.at + at-loop.i) (get_or old at-loop.i 0) (get_or new at-loop.i 0) long
                 ∙ ap₂ (λ (l : List ℕ) (n : ℕ). l ++ drop n list) (sym (byte_changed a.at old new p.0 at-loop.i (omega arith) w.if-was-new.true)) (sym counted),
