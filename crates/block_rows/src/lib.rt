@@ -76,14 +76,12 @@ fn judge_each<'a>(
     let size = block.size;
     let n = block.n;
     let mut base = block.from;
-    let mut j: usize = 0;
-    while j < n {
+    for j in 0..n {
         if at[j] == row {
             let content = &records[base..base + size];
             truths[j] = judge_record(items, literals, bytes, names, content, switches, condition);
         }
         base += size;
-        j += 1;
     }
 }
 

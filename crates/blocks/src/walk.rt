@@ -9,12 +9,6 @@ use places::{AT_FALSE, AT_TRUE, advance, fill, least, start};
 use plan_rows::rows::plan_row;
 use plans::Target;
 
-fn wide(x: u8) -> usize
-    ensures { result ≡ x }
-{
-    x as usize
-}
-
 // The place of a target.
 fn place_of(target: u32) -> u8
     requires { Placed target }
@@ -51,8 +45,9 @@ pub fn walk_block<'a>(
     fill(counts, 0);
     let mut truths = [0u8; 64];
     let mut row = least(at);
+    // Which row comes next depends on where the records stand.
     while row < rows {
-        let condition = plan_row(plan, wide(row));
+        let condition = plan_row(plan, row as usize);
         judge_row(
             items,
             literals,

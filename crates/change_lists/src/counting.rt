@@ -8,12 +8,10 @@ pub fn count_changes(old: &[u8], new: &[u8], at: usize) -> usize
     ensures { result ≡ length (changes_from at old.now new.now) }
 {
     let mut count: usize = 0;
-    let mut i: usize = 0;
-    while i < old.len() {
-        if old[i] != new[i] {
+    for (i, was) in old.iter().enumerate() {
+        if *was != new[i] {
             count += 3;
         }
-        i += 1;
     }
     count
 }

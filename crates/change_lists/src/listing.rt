@@ -3,12 +3,6 @@ ghost use Rattle.std.specs.Prelude.{◌≡◌, [], ◌∷◌, ◌++◌, ◌+◌,
 ghost use Rattle.std.proofs.lemmas.List.Edits.{sets};
 ghost use Rattle.mending.specs.Mend.{changes_from};
 
-fn wide(x: u8) -> u32
-    ensures { result ≡ x }
-{
-    x as u32
-}
-
 // One change, at a place of the list.
 fn put_change(list: &mut [u32], place: usize, offset: u32, old: u32, new: u32)
     requires { place + 3 ≤ length list.old }
@@ -26,13 +20,17 @@ pub fn list_changes(old: &[u8], new: &[u8], at: u32, list: &mut [u32]) -> usize
     ensures list_after { list.new ≡ changes_from at old.now new.now ++ drop result list.old }
 {
     let mut count: usize = 0;
-    let mut i: usize = 0;
-    while i < old.len() {
-        if old[i] != new[i] {
-            put_change(list, count, at + (i as u32), wide(old[i]), wide(new[i]));
+    for (i, was) in old.iter().enumerate() {
+        if *was != new[i] {
+            put_change(
+                list,
+                count,
+                at + i as u32,
+                u32::from(*was),
+                u32::from(new[i]),
+            );
             count += 3;
         }
-        i += 1;
     }
     count
 }

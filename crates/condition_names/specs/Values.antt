@@ -1,5 +1,5 @@
 -- Values of a level 88 entry as the code reads them: where their ends stand.
-use Rattle.std.specs.Prelude.{◌≡◌, Bool, true, false, cond, List, [], ◌∷◌, ◌++◌, ℕ, ◌+◌, ◌-◌, ◌≤◌, ◌<◌, eqb, length, get_or, take, drop}
+use Rattle.std.specs.Prelude.{◌≡◌, Bool, true, false, cond, List, [], ◌∷◌, ◌++◌, ℕ, ◌+◌, ◌-◌, ◌≤◌, ◌<◌, eqb, length, get_or, take, drop, Err, Ok, Result}
 use Rattle.description.specs.Grammar.{bytes, Literal, Value, single, range}
 use Rattle.description.specs.Stages.{inked, literal_at, spelled_at, literal_in, is_literal}
 use Rattle.description.specs.declared.Spelled.{Spelled}
@@ -7,7 +7,6 @@ use Rattle.description.specs.declared.Spelled.TheVariants as Spelled
 use Rattle.condition_names.specs.declared.Found.{Found}
 use Rattle.condition_names.specs.declared.ValueRead.{ValueRead}
 use Rattle.condition_names.specs.declared.ValueRead.TheVariants as ValueRead
-use Rattle.std.specs.Prelude.{Err, Ok, Result}
 
 abbrev pub alone : ℕ → ℕ → Found
 alone p k = record { low = p; mid = k; high = p; end = k; range = false }

@@ -30,12 +30,10 @@ pub fn count_apart(items: &[u32], old: &[u8], first: &[u8], second: &[u8]) -> us
 {
     let rows = items.len() / Row::WIDTH;
     let mut count: usize = 0;
-    let mut v: usize = 0;
-    while v < rows {
+    for v in 0..rows {
         if is_apart(row_at(items, v), old, first, second) {
             count += 1;
         }
-        v += 1;
     }
     count
 }
@@ -47,12 +45,10 @@ pub fn list_apart(items: &[u32], old: &[u8], first: &[u8], second: &[u8], list: 
 {
     let rows = items.len() / Row::WIDTH;
     let mut count: usize = 0;
-    let mut v: usize = 0;
-    while v < rows {
+    for v in 0..rows {
         if is_apart(row_at(items, v), old, first, second) {
             list[count] = v as u32;
             count += 1;
         }
-        v += 1;
     }
 }

@@ -70,9 +70,7 @@ pub fn write_merged<'a>(
 {
     copy_bytes(old, out);
     let rows = items.len() / Row::WIDTH;
-    let mut v: usize = 0;
-    while v < rows {
+    for v in 0..rows {
         merge_row(row_at(items, v), old, first, second, verdict, out);
-        v += 1;
     }
 }

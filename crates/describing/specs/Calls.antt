@@ -1,5 +1,5 @@
 -- Document 02, requests a) and h): the call's whole answer and its six outputs.
-use Rattle.std.specs.Prelude.{◌≡◌, cond, true, false, List, [], ◌++◌, map, ℕ, ◌*◌, ◌≤◌, leb, length, take, drop}
+use Rattle.std.specs.Prelude.{◌≡◌, cond, true, false, List, [], ◌++◌, map, ℕ, ◌*◌, ◌≤◌, leb, length, take, drop, None, Option}
 use Rattle.description.specs.Grammar.{Entry, Condition, Table}
 use Rattle.description.specs.Reader.{layout, parts}
 use Rattle.description.specs.Stages.{first_over, sooner}
@@ -19,7 +19,6 @@ use Rattle.describing.specs.declared.Described.{Described}
 use Rattle.describing.specs.declared.Described.TheVariants.{Counts, Faulty, Room}
 use Rattle.tables.specs.Rows.{name_width}
 use Rattle.content.specs.Kinds.{row_width}
-use Rattle.std.specs.Prelude.{None, Option}
 
 -- "Numbers from 14 join 01's table": the number and the place of a refusal
 abbrev pub number : Described → ℕ

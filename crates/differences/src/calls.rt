@@ -38,12 +38,10 @@ fn count_differences(items: &[u32], first: &[u8], second: &[u8]) -> usize
 {
     let rows = items.len() / Row::WIDTH;
     let mut count: usize = 0;
-    let mut v: usize = 0;
-    while v < rows {
+    for v in 0..rows {
         if item_differs(row_at(items, v), first, second) {
             count += 2;
         }
-        v += 1;
     }
     count
 }
@@ -55,10 +53,8 @@ fn write_differences(items: &[u32], first: &[u8], second: &[u8], list: &mut [u32
 {
     let rows = items.len() / Row::WIDTH;
     let mut count: usize = 0;
-    let mut v: usize = 0;
-    while v < rows {
+    for v in 0..rows {
         count = list_row(row_at(items, v), v as u32, first, second, list, count);
-        v += 1;
     }
 }
 

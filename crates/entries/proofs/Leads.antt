@@ -22,12 +22,11 @@ use Rattle.description.proofs.Opening.{on_clauses, clauses_lead, on_leveled, sta
 use Rattle.levels.specs.Stack.{groups_of, entered_by, topped, topped_by}
 use Rattle.levels.proofs.Stack.{enter_is, AtMost, entered_le}
 use Rattle.entries.specs.Entries.{content_of, entry_of, noted, item_of, item_at, called_of, named_at, entered_at, leveled_at, entry_at}
-use Rattle.std.specs.Prelude.{Result, Ok, Err}
+use Rattle.std.specs.Prelude.{Result, Ok, Err, None, Option, Some}
 use Rattle.entries.specs.declared.Noted.{Noted}
 use Rattle.entries.specs.declared.EntryRead.{EntryRead}
 use Rattle.entries.specs.declared.EntryRead.TheVariants.{Whole, Name}
 use Rattle.entries.proofs.Bounds.{Ends, Names, Wholes, clauses_end, name_reaches, named_whole, level_inside, name_inside, level_small, leveled_le}
-use Rattle.std.specs.Prelude.{None, Option, Some}
 
 -- The groups that are open after it.
 abbrev pub groups_after : List ℕ → Noted → ℕ → Groups

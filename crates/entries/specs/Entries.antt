@@ -1,5 +1,5 @@
 -- Entries as the code reads them: exact, and with counts that stop at 65,536.
-use Rattle.std.specs.Prelude.{Bool, cond, List, ℕ, ◌+◌, min, eqb, Result, Ok, Err}
+use Rattle.std.specs.Prelude.{Bool, cond, List, ℕ, ◌+◌, min, eqb, Result, Ok, Err, None, Option, Some}
 use Rattle.description.specs.Grammar.{bytes, ended, Entry, entry, Content, group, item}
 use Rattle.description.specs.Stages.{inked, literal_at, sided, clauses, after_separate, after_picture, picture_at, clauses_at, name_at, level_at}
 use Rattle.description.specs.declared.Sided.{Sided}
@@ -13,7 +13,6 @@ use Rattle.entries.specs.declared.Noted.{Noted}
 use Rattle.entries.specs.declared.EntryRead.{EntryRead}
 use Rattle.entries.specs.declared.EntryRead.TheVariants.{Whole, Name}
 use Rattle.content.specs.Kinds.{kind_group}
-use Rattle.std.specs.Prelude.{None, Option, Some}
 
 abbrev pub cap : ℕ → ℕ
 cap n = min n 65536

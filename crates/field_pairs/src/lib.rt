@@ -53,13 +53,11 @@ fn less_fields(
     let size = block.size;
     let n = block.n;
     let mut base = block.from;
-    let mut j: usize = 0;
-    while j < n {
+    for j in 0..n {
         let pair = pair_at(records, base, first, second);
         let less = choose(pair.a < pair.b, bits.holds, bits.fails);
         truths[j] = choose(pair.valid, less, UNJUDGED);
         base += size;
-        j += 1;
     }
 }
 
@@ -79,13 +77,11 @@ fn same_fields(
     let size = block.size;
     let n = block.n;
     let mut base = block.from;
-    let mut j: usize = 0;
-    while j < n {
+    for j in 0..n {
         let pair = pair_at(records, base, first, second);
         let same = choose(pair.a == pair.b, bits.holds, bits.fails);
         truths[j] = choose(pair.valid, same, UNJUDGED);
         base += size;
-        j += 1;
     }
 }
 

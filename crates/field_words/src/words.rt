@@ -12,18 +12,12 @@ use places::choose;
 // The truth of a row that is not judged here.
 const UNJUDGED: u8 = 2;
 
-fn wide(x: u32) -> usize
-    ensures { result ≡ x }
-{
-    x as usize
-}
-
 pub fn extent_of(row: Row) -> Extent
     ensures { (result.end ≡ row.offset + row.size) × (result.width ≡ row.size) }
 {
-    let width = wide(row.size);
+    let width = row.size as usize;
     Extent {
-        end: wide(row.offset) + width,
+        end: row.offset as usize + width,
         width,
     }
 }
@@ -61,12 +55,10 @@ pub fn compare_field(
     let size = block.size;
     let n = block.n;
     let mut base = block.from;
-    let mut j: usize = 0;
-    while j < n {
+    for j in 0..n {
         let a = word_at(records, base, field);
         truths[j] = compare_words(all_digits(a), a, word, order);
         base += size;
-        j += 1;
     }
 }
 
@@ -80,11 +72,9 @@ pub fn test_field(records: &[u8], block: Block, row: Row, bits: Bits, truths: &m
     let size = block.size;
     let n = block.n;
     let mut base = block.from;
-    let mut j: usize = 0;
-    while j < n {
+    for j in 0..n {
         let word = word_at(records, base, field);
         truths[j] = choose(all_digits(word), bits.holds, bits.fails);
         base += size;
-        j += 1;
     }
 }

@@ -1,5 +1,6 @@
 -- What the calls answered is what is said and saved.
-use Rattle.std.proofs.Common.{◌≡◌, ℕ, ◌+◌, ◌-◌, ◌<◌, ◌≤◌, Bool, true, false, cond, eqb, ◌⊎◌, List, ◌∷◌, ◌++◌, length, take, drop, sym, refl, ap, ◌∙◌, subst, ⊎_elim, arith, length-take, take_all, take_at, ne_eqb}
+use Rattle.std.proofs.Common.{◌≡◌, ℕ, ◌+◌, ◌-◌, ◌<◌, ◌≤◌, Bool, true, false, cond, eqb, ◌⊎◌, List, ◌∷◌, ◌++◌, length, take, drop, Result, Ok, sym, refl, ap, ◌∙◌, subst, ⊎_elim, arith, length-take, take_all, take_at, ne_eqb}
+use Rattle.tables.specs.declared.Refusal.{Refusal}
 use Rattle.tables.specs.declared.Verdict.{Verdict}
 use Rattle.tables.specs.declared.Judged.{Judged}
 use Rattle.tables.specs.Operands.{Lent}
@@ -9,7 +10,6 @@ use Rattle.rules.specs.Calls.{run_gives}
 use Rattle.lines.specs.Put.{Puts}
 use Rattle.mending.specs.Mend.{mended_record, changes, mend_line, mend_by, mending}
 use Rattle.merging.specs.declared.Merged.{Merged}
-use Rattle.merging.specs.declared.Merged.TheVariants.{Counts}
 use Rattle.merging.specs.Merge.{Copies, copies_of, merged_record, contested, desk_lines, room_lines, merge_by, merge_gives}
 use Rattle.merging.proofs.Accepted.{desk_fine, merged_long}
 use Rattle.merger.specs.Desk.{Leaves}
@@ -56,8 +56,8 @@ copied {out} {text} {after} {end} P h =
     ap (take end) (P.stands ∙ ap (λ (l : List ℕ). l ++ drop end out) whole) ∙ take_at text (drop end out) end size
 
 -- a merge that gave counts
-module _ (lent : Lent) (plan : List ℕ) (switches : ℕ) (old first second out list : List ℕ) {answer : Merged} {content rows : List ℕ} {n m : ℕ}
-    (L : Leaves (merge_gives lent plan switches old first second out list) answer content rows) (q : answer ≡ Counts n m) where
+module _ (lent : Lent) (plan : List ℕ) (switches : ℕ) (old first second out list : List ℕ) {answer : Result Merged Refusal} {content rows : List ℕ} {n m : ℕ}
+    (L : Leaves (merge_gives lent plan switches old first second out list) answer content rows) (q : answer ≡ Ok (record { bytes = n; rows = m })) where
   abbrev copies : Copies
   copies = copies_of lent.items old first second
 
@@ -71,7 +71,7 @@ module _ (lent : Lent) (plan : List ℕ) (switches : ℕ) (old first second out 
   merged_so = by (first_of (desk_lines lent plan old first second ++ lines)) refl (sym L.answered ∙ q) L.record_is L.contested_are
     where
       by : (line : Check) → first_of (desk_lines lent plan old first second ++ lines) ≡ line
-          → (merge_by line (length old) (merged_record copies verdict) (contested copies verdict) out list).answer ≡ Counts n m
+          → (merge_by line (length old) (merged_record copies verdict) (contested copies verdict) out list).answer ≡ Ok (record { bytes = n; rows = m })
           → content ≡ (merge_by line (length old) (merged_record copies verdict) (contested copies verdict) out list).content
           → rows ≡ (merge_by line (length old) (merged_record copies verdict) (contested copies verdict) out list).rows
           → Merges lent plan switches old first second (take n content) (take m rows)

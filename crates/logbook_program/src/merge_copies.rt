@@ -15,7 +15,6 @@ use content::Row;
 use fronts::{front, front_bytes};
 use item_parts::parts::same_bytes;
 use merger::calls::merge;
-use merging::Merged;
 use tables::Verdict;
 use tables::rows::{is_group, row_at};
 
@@ -316,11 +315,11 @@ fn merge_loaded<'a>(
         &mut list,
     );
     match answer {
-        Merged::Refused(refusal) => {
+        Err(refusal) => {
             of_record(rt, refusal, description, places);
             2
         }
-        Merged::Counts(n, m) => told(
+        Ok(written) => told(
             rt,
             description,
             items,
@@ -333,8 +332,8 @@ fn merge_loaded<'a>(
             first,
             second,
             switches,
-            front_bytes(&merged, n),
-            front(&list, m),
+            front_bytes(&merged, written.bytes),
+            front(&list, written.rows),
         ),
     }
 }

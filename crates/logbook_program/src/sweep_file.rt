@@ -12,7 +12,7 @@ use fronts::{front, front_bytes};
 use std::fs::File;
 use std::num::{wrapping_add_usize, wrapping_sub_usize};
 use sweeper::calls::sweep;
-use sweeps::Swept;
+use sweeps::Unswept;
 use tables::rows::row_at;
 
 // The bytes that are read at once: no entry has more than 131,070.
@@ -286,7 +286,7 @@ fn sweep_part<'a>(
         &mut answers,
     );
     match swept {
-        Swept::Count(n) => lines(
+        Ok(n) => lines(
             rt,
             description,
             items,
@@ -299,11 +299,11 @@ fn sweep_part<'a>(
             totals,
             front(&answers, n),
         ),
-        Swept::Uneven => {
+        Err(Unswept::Uneven) => {
             sentence(rt, 21);
             with_refusal(totals)
         }
-        Swept::Refused(refusal) => {
+        Err(Unswept::Refused(refusal)) => {
             of_record(rt, refusal, description, places);
             with_refusal(totals)
         }

@@ -20,6 +20,7 @@ fn count_mended(items: &[u32], record: &[u8]) -> usize
     let mut count: usize = 0;
     let mut at: usize = 0;
     let mut v = next_row(items, at);
+    // Which row comes next is found by its offset.
     while v < rows {
         let row = row_at(items, v);
         count += count_row(row, record);
@@ -40,6 +41,7 @@ fn write_mended(items: &[u32], record: &mut [u8], list: &mut [u32]) -> usize
     let mut count: usize = 0;
     let mut at: usize = 0;
     let mut v = next_row(items, at);
+    // Which row comes next is found by its offset.
     while v < rows {
         let row = row_at(items, v);
         count += mend_row(row, record, &mut list[count..]);

@@ -12,17 +12,12 @@ use item_parts::parts::put_part;
 use meters::kinds::mended_into;
 use tables::rows::{is_group, row_at, row_part};
 
-fn long(x: u32) -> usize
-    ensures { result ≡ x }
-{
-    x as usize
-}
-
 // Whether a row is elementary and starts from one offset on, before another.
 fn starts_between(row: Row, from: usize, before: usize) -> bool
     ensures { result ≡ (is_elementary row && leb from row.offset && ltb row.offset before) }
 {
-    !is_group(row) & (from <= long(row.offset)) & (long(row.offset) < before)
+    let offset = row.offset as usize;
+    !is_group(row) & (from <= offset) & (offset < before)
 }
 
 // The elementary row that starts next.
@@ -33,14 +28,12 @@ pub(crate) fn next_row(items: &[u32], at: usize) -> usize
     let rows = items.len() / Row::WIDTH;
     let mut best = rows;
     let mut nearest: usize = 65536;
-    let mut v: usize = 0;
-    while v < rows {
+    for v in 0..rows {
         let row = row_at(items, v);
         if starts_between(row, at, nearest) {
             best = v;
-            nearest = long(row.offset);
+            nearest = row.offset as usize;
         }
-        v += 1;
     }
     best
 }
@@ -48,7 +41,7 @@ pub(crate) fn next_row(items: &[u32], at: usize) -> usize
 pub(crate) fn row_end(row: Row) -> usize
     ensures { result ≡ row.offset + row.size }
 {
-    long(row.offset) + long(row.size)
+    row.offset as usize + row.size as usize
 }
 
 // How many numbers the mending of a row adds to the list.
@@ -63,7 +56,7 @@ pub(crate) fn count_row(row: Row, record: &[u8]) -> usize
     let size = item.len();
     let mut mended = [0u8; 19];
     mended_into(row, item, &mut mended[..size]);
-    count_changes(item, &mended[..size], long(row.offset))
+    count_changes(item, &mended[..size], row.offset as usize)
 }
 
 // One row mended: its changes at the start of the list, and its part of the record; and how many numbers were listed.
@@ -76,7 +69,7 @@ pub(crate) fn mend_row(row: Row, record: &mut [u8], list: &mut [u32]) -> usize
     if !is_zoned(row) {
         return 0;
     }
-    let size = long(row.size);
+    let size = row.size as usize;
     let mut mended = [0u8; 19];
     mended_into(row, row_part(row, record), &mut mended[..size]);
     let count = list_changes(row_part(row, record), &mended[..size], row.offset, list);

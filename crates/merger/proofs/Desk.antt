@@ -7,6 +7,7 @@ use mathlib.Core.List.Memᴰ
 use mathlib.Core.List.{List, [], ◌∷◌, ◌++◌, Memᴰ}
 use mathlib.Core.Bool.{Bool, true, false}
 use lib.ListN.{length, drop}
+use Rattle.std.specs.Prelude.{Result, Ok, Err}
 use Rattle.tables.specs.declared.Refusal.{Refusal}
 use Rattle.tables.specs.declared.Verdict.{Verdict}
 use Rattle.tables.specs.declared.Verdict.TheVariants.{True, False, Refused as Stopped}
@@ -23,14 +24,12 @@ use Rattle.items.specs.Items.{listed}
 use Rattle.items.specs.Lines.{overlap_check, long_check}
 use Rattle.items.proofs.Facts.{all_lie, few_fact, room_fact}
 use Rattle.merging.specs.declared.Merged.{Merged}
-use Rattle.merging.specs.declared.Merged.TheVariants.{Counts, Refused as Unmerged}
 use Rattle.merging.specs.Merge.{Copies, copies_of, apart_at, apart_rows, contested, merged_record, length_check, desk_lines, room_lines, Merging, merge_with}
 use Rattle.merging.proofs.Rows.{entry_of, rows_all}
 use Rattle.merging.proofs.Accepted.{desk_fine}
 use Rattle.merging.proofs.Exchanging.{any_verdict}
 use Rattle.copies.specs.Ready.{Ready}
 use Rattle.merger.specs.Desk.{contested_count, Decides, rooms_for, Leaves}
-use Rattle.std.specs.Prelude.{Err, Ok}
 
 -- the lines in order
 module _ (items literals bytes names plan old first second : List ℕ) where
@@ -97,7 +96,7 @@ module _ (items literals bytes names plan old first second : List ℕ)
 
 -- what a merge leaves
 pub lines_refuse : (lines : List Check) (copies : Copies) (verdict : Verdict) (out list : List ℕ) {refusal : Refusal} → first_of lines ≡ Err refusal
-    → Leaves (merge_with lines copies verdict out list) (Unmerged refusal) out list
+    → Leaves (merge_with lines copies verdict out list) (Err refusal) out list
 lines_refuse lines copies verdict out list e =
     rw (lines_before lines (room_lines (length copies.old) (length (contested copies verdict)) out list) ∙ line_refused _ e)
     (record { answered = refl; record_is = refl; contested_are = refl })
@@ -148,7 +147,7 @@ module _ (copies : Copies) (verdict : Verdict) (rows : ℕ) (counted : rows ≡ 
   rooms = ap (λ (n : ℕ). first_of (rooms_for (length copies.old) n (length out) (length list))) counted
 
   pub room_refuses : {line : Check} → line ≡ first_of (rooms_for (length copies.old) rows (length out) (length list)) → {refusal : Refusal} → line ≡ Err refusal
-      → Leaves (merge_with [] copies verdict out list) (Unmerged refusal) out list
+      → Leaves (merge_with [] copies verdict out list) (Err refusal) out list
   room_refuses e f = rw (sym rooms ∙ sym e ∙ f) (record { answered = refl; record_is = refl; contested_are = refl })
 
   module _ {line : Check} (e : line ≡ first_of (rooms_for (length copies.old) rows (length out) (length list))) (f : line ≡ Ok tt) where
@@ -160,15 +159,15 @@ module _ (copies : Copies) (verdict : Verdict) (rows : ℕ) (counted : rows ≡ 
 
     pub both_written : {merged left : List ℕ} → merged ≡ merged_record copies verdict ++ drop (length copies.old) out
         → left ≡ contested copies verdict ++ drop (length (contested copies verdict)) list
-        → Leaves (merge_with [] copies verdict out list) (Counts (length copies.old) rows) merged left
+        → Leaves (merge_with [] copies verdict out list) (Ok (record { bytes = length copies.old; rows = rows })) merged left
     both_written m l =
-        rw (sym rooms ∙ sym e ∙ f) (record { answered = ap (Counts (length copies.old)) counted; record_is = m; contested_are = l })
+        rw (sym rooms ∙ sym e ∙ f) (record { answered = ap (λ (n : ℕ). Ok {E = Refusal} (record { bytes = length copies.old; rows = n })) counted; record_is = m; contested_are = l })
 
 -- the same with a record's output of that length
 pub ready_for : (copies : Copies) {n m : ℕ} → Ready copies n → m ≡ length copies.old → Ready copies m
 ready_for copies r e = record { lies = r.lies; first_long = r.first_long; second_long = r.second_long; out_long = e }
 
-pub leaves_as : {merging other : Merging} {r : Merged} {merged left : List ℕ} → merging ≡ other → Leaves merging r merged left → Leaves other r merged left
+pub leaves_as : {merging other : Merging} {r : Result Merged Refusal} {merged left : List ℕ} → merging ≡ other → Leaves merging r merged left → Leaves other r merged left
 leaves_as e l =
     record {
       answered = l.answered ∙ ap (λ (m : Merging). m.answer) e;

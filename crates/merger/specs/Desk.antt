@@ -1,5 +1,6 @@
 -- What the call leaves, and what its private functions promise.
-use Rattle.std.specs.Prelude.{◌≡◌, List, [], ◌∷◌, ℕ}
+use Rattle.std.specs.Prelude.{◌≡◌, List, [], ◌∷◌, ℕ, Result}
+use Rattle.tables.specs.declared.Refusal.{Refusal}
 use Rattle.tables.specs.declared.Verdict.{Verdict}
 use Rattle.tables.specs.declared.Verdict.TheVariants.{True, False, Refused as Stopped}
 use Rattle.tables.specs.Operands.{Lent}
@@ -23,7 +24,7 @@ abbrev pub rooms_for : ℕ → ℕ → ℕ → ℕ → List Check
 rooms_for bytes rows merged contested = room_check bytes merged ∷ room_check rows contested ∷ []
 
 -- the answer and both outputs of a merge
-pub record Leaves (merging : Merging) (r : Merged) (merged contested : List ℕ) : Type 0 where
+pub record Leaves (merging : Merging) (r : Result Merged Refusal) (merged contested : List ℕ) : Type 0 where
   pub answered : r ≡ merging.answer
   pub record_is : merged ≡ merging.content
   pub contested_are : contested ≡ merging.rows

@@ -115,7 +115,7 @@ fn merge_decided<'a>(
     apart: usize,
     merged: &mut [u8],
     contested: &mut [u32],
-) -> Merged
+) -> Result<Merged, Refusal>
     requires { Ready (copies_of items.now old.now first.now second.now) (length old.now) × (length items.now ≤ 320) × (apart ≡ length (apart_rows (copies_of items.now old.now first.now second.now))) }
     ensures { Leaves (merge_with [] (copies_of items.now old.now first.now second.now) verdict merged.old contested.old) result merged.new contested.new }
 {
@@ -123,11 +123,11 @@ fn merge_decided<'a>(
     let bytes = old.len();
     let room = check_rooms(bytes, rows, merged.len(), contested.len());
     if let Err(refusal) = room {
-        return Merged::Refused(refusal);
+        return Err(refusal);
     }
     write_merged(items, old, first, second, verdict, &mut merged[..bytes]);
     write_contested(items, old, first, second, verdict, contested);
-    Merged::Counts(bytes, rows)
+    Ok(Merged { bytes, rows })
 }
 
 // The merge of three copies of a record: the one that two members began from, a first and a second. What both changed, and not
@@ -144,12 +144,12 @@ pub fn merge<'a>(
     switches: u8,
     merged: &mut [u8],
     contested: &mut [u32],
-) -> Merged
+) -> Result<Merged, Refusal>
     ensures { Leaves (merge_gives (lend_names items.now literals.now bytes.now names.now) plan.now switches old.now first.now second.now merged.old contested.old) result merged.new contested.new }
 {
     let desk = check_desk(items, literals, bytes, names, plan, old, first, second);
     if let Err(refusal) = desk {
-        return Merged::Refused(refusal);
+        return Err(refusal);
     }
     let apart = count_apart(items, old, first, second);
     let verdict = decide(items, literals, bytes, names, plan, first, switches, apart);

@@ -1,5 +1,6 @@
 -- Document 02, k): the merge desk.
-use Rattle.std.specs.Prelude.{Bool, true, false, cond, not, ◌&&◌, List, [], ◌∷◌, ◌++◌, ℕ, length, drop, eqb, Err, Ok}
+use Rattle.std.specs.Prelude.{Bool, true, false, cond, not, ◌&&◌, List, [], ◌∷◌, ◌++◌, ℕ, length, drop, eqb, Result, Ok, Err}
+use Rattle.tables.specs.declared.Refusal.{Refusal}
 use Rattle.tables.specs.declared.Refusal.TheVariants.{Lengths}
 use Rattle.tables.specs.declared.Verdict.{Verdict}
 use Rattle.tables.specs.declared.Verdict.TheVariants.{True, False, Refused as Stopped}
@@ -12,7 +13,6 @@ use Rattle.rules.specs.Calls.{run_gives}
 use Rattle.items.specs.Items.{elementary_at, part_at, same, rewritten, listed}
 use Rattle.items.specs.Lines.{overlap_check, long_check, room_check}
 use Rattle.merging.specs.declared.Merged.{Merged}
-use Rattle.merging.specs.declared.Merged.TheVariants.{Counts, Refused as Unmerged}
 
 -- "the copy two members began from, a first and a second copy", with the item table that parts them
 pub record Copies : Type 0 where
@@ -95,16 +95,16 @@ room_lines bytes rows out list = room_check bytes (length out) ∷ room_check ro
 
 -- what a merge answers, and what it leaves in its two outputs
 pub record Merging : Type 0 where
-  pub answer : Merged
+  pub answer : Result Merged Refusal
   pub content : List ℕ
   pub rows : List ℕ
 
 -- the counts of bytes and of contested rows written from the start of the outputs; a refusal changes neither
 abbrev pub merge_by : Check → ℕ → List ℕ → List ℕ → List ℕ → List ℕ → Merging
-merge_by (Err refusal) bytes merged listed out list = record { answer = Unmerged refusal; content = out; rows = list }
+merge_by (Err refusal) bytes merged listed out list = record { answer = Err refusal; content = out; rows = list }
 merge_by (Ok _) bytes merged listed out list =
     record {
-      answer = Counts bytes (length listed);
+      answer = Ok (record { bytes = bytes; rows = length listed });
       content = merged ++ drop bytes out;
       rows = listed ++ drop (length listed) list;
     }

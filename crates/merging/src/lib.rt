@@ -1,11 +1,9 @@
 // The merge desk: what a merge answers.
 #![tactic(auto)]
 
-use tables::Refusal;
-
-// The counts of bytes and of contested rows written, or a refusal.
-#[derive(Clone, Copy)]
-pub enum Merged {
-    Counts(usize, usize),
-    Refused(Refusal),
+// How many bytes of the merged record and how many contested rows were written.
+#[derive(Debug, Clone, Copy, PartialEq, Eq)]
+pub struct Merged {
+    pub bytes: usize,
+    pub rows: usize,
 }

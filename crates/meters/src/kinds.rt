@@ -14,14 +14,7 @@ fn all_spaces(bytes: &[u8]) -> bool
     ensures { result ≡ all is_space bytes.now }
 {
     let marks = marks();
-    let mut i: usize = 0;
-    while i < bytes.len() {
-        if !is_space(&marks, bytes[i]) {
-            return false;
-        }
-        i += 1;
-    }
-    true
+    bytes.iter().all(|b| is_space(&marks, *b))
 }
 
 // Leading spaces become zeros.
@@ -29,13 +22,11 @@ fn fill(bytes: &mut [u8])
     ensures { bytes.new ≡ filled bytes.old }
 {
     let marks = marks();
-    let mut i: usize = 0;
-    while i < bytes.len() {
-        if !is_space(&marks, bytes[i]) {
+    for b in bytes.iter_mut() {
+        if !is_space(&marks, *b) {
             return;
         }
-        bytes[i] = 0x30;
-        i += 1;
+        *b = 0x30;
     }
 }
 
@@ -43,10 +34,10 @@ fn fill(bytes: &mut [u8])
 fn lead(bytes: &mut [u8])
     ensures { bytes.new ≡ leading bytes.old }
 {
-    if all_spaces(bytes) {
-        return;
+    let blank = all_spaces(bytes);
+    if !blank {
+        fill(bytes);
     }
-    fill(bytes);
 }
 
 fn sign_of(b: u8) -> u8
@@ -89,7 +80,8 @@ pub fn mended_into(row: Row, bytes: &[u8], out: &mut [u8])
         return;
     }
     mend_digits(row, out);
-    if !valid_content(row, out) {
+    let valid = valid_content(row, out);
+    if !valid {
         copy_bytes(bytes, out);
     }
 }

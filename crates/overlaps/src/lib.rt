@@ -10,17 +10,11 @@ use content::Row;
 use tables::Refusal;
 use tables::rows::{ends_within, is_group, row_at};
 
-fn wide(x: u32) -> usize
-    ensures { result ≡ x }
-{
-    x as usize
-}
-
 // Whether two rows share no byte.
 fn share_none(r: Row, s: Row) -> bool
     ensures { result ≡ apart r s }
 {
-    ends_within(r, wide(s.offset)) | ends_within(s, wide(r.offset))
+    ends_within(r, s.offset as usize) | ends_within(s, r.offset as usize)
 }
 
 // Whether row v is a group's, or shares no byte with an elementary row before it.
@@ -33,11 +27,9 @@ fn is_clear(items: &[u32], v: usize) -> bool
         return true;
     }
     let mut clear = true;
-    let mut u: usize = 0;
-    while u < v {
+    for u in 0..v {
         let other = row_at(items, u);
         clear = clear & (is_group(other) | share_none(other, row));
-        u += 1;
     }
     clear
 }
@@ -63,14 +55,13 @@ fn lie_in_turn(items: &[u32]) -> bool
     let rows = items.len() / Row::WIDTH;
     let mut in_turn = true;
     let mut end: usize = 0;
-    let mut v: usize = 0;
-    while v < rows {
+    for v in 0..rows {
         let row = row_at(items, v);
         if !is_group(row) {
-            in_turn = in_turn & (end <= wide(row.offset));
-            end = wide(row.offset) + wide(row.size);
+            let offset = row.offset as usize;
+            in_turn = in_turn & (end <= offset);
+            end = offset + row.size as usize;
         }
-        v += 1;
     }
     in_turn
 }

@@ -30,7 +30,6 @@ use Rattle.books.specs.declared.PrintRefusal.TheVariants.{Refused}
 use Rattle.books.specs.declared.Book.{Book}
 use Rattle.books.specs.Calls.{unprinted_as, PrintedAs, Sized, NamedBy}
 use Rattle.books.proofs.Finding.{book-found, book_refused}
-use Rattle.std.specs.Prelude.{Err, Ok}
 
 one_more : (a b : ℕ) → ltb (suc a) (suc b) ≡ ltb a b
 one_more a b = by (ltb a b) refl

@@ -1,15 +1,15 @@
 -- How the answer of `merge` is told to C and COBOL.
-use Rattle.std.specs.Prelude.{List, [], ◌∷◌, ℕ}
+use Rattle.std.specs.Prelude.{List, [], ◌∷◌, ℕ, Result, Ok, Err}
+use Rattle.tables.specs.declared.Refusal.{Refusal}
 use Rattle.tables.specs.Refusals.{number, place}
 use Rattle.merging.specs.declared.Merged.{Merged}
-use Rattle.merging.specs.declared.Merged.TheVariants.{Counts, Refused}
 use Rattle.answers.specs.Answer.{narrowed}
 
-abbrev pub merged_number : Merged → ℕ
-merged_number (Counts bytes rows) = 0
-merged_number (Refused refusal) = number refusal
+abbrev pub merged_number : Result Merged Refusal → ℕ
+merged_number (Ok merged) = 0
+merged_number (Err refusal) = number refusal
 
 -- the place of a refusal, or the counts of bytes and of contested rows written
-abbrev pub merged_numbers : Merged → List ℕ
-merged_numbers (Counts bytes rows) = 0 ∷ 0 ∷ 0 ∷ narrowed bytes ∷ narrowed rows ∷ 0 ∷ 0 ∷ 0 ∷ 0 ∷ []
-merged_numbers (Refused refusal) = narrowed (place refusal) ∷ 0 ∷ 0 ∷ 0 ∷ 0 ∷ 0 ∷ 0 ∷ 0 ∷ 0 ∷ []
+abbrev pub merged_numbers : Result Merged Refusal → List ℕ
+merged_numbers (Ok merged) = 0 ∷ 0 ∷ 0 ∷ narrowed merged.bytes ∷ narrowed merged.rows ∷ 0 ∷ 0 ∷ 0 ∷ 0 ∷ []
+merged_numbers (Err refusal) = narrowed (place refusal) ∷ 0 ∷ 0 ∷ 0 ∷ 0 ∷ 0 ∷ 0 ∷ 0 ∷ 0 ∷ []

@@ -6,26 +6,27 @@ ghost use Rattle.record_answers.specs.Merging.{merged_number, merged_numbers};
 use answers::written::narrow;
 use merging::Merged;
 use refusal_numbers::{number_of, place_of};
+use tables::Refusal;
 
-fn merged_number(merged: Merged) -> u32
+fn merged_number(merged: Result<Merged, Refusal>) -> u32
     ensures { result ≡ merged_number merged }
 {
     match merged {
-        Merged::Counts(_, _) => 0,
-        Merged::Refused(refusal) => number_of(refusal),
+        Ok(_) => 0,
+        Err(refusal) => number_of(refusal),
     }
 }
 
-fn merged_numbers(merged: Merged) -> [u32; 9]
+fn merged_numbers(merged: Result<Merged, Refusal>) -> [u32; 9]
     ensures { result ≡ merged_numbers merged }
 {
     match merged {
-        Merged::Counts(bytes, rows) => [0, 0, 0, narrow(bytes), narrow(rows), 0, 0, 0, 0],
-        Merged::Refused(refusal) => [narrow(place_of(refusal)), 0, 0, 0, 0, 0, 0, 0, 0],
+        Ok(Merged { bytes, rows }) => [0, 0, 0, narrow(bytes), narrow(rows), 0, 0, 0, 0],
+        Err(refusal) => [narrow(place_of(refusal)), 0, 0, 0, 0, 0, 0, 0, 0],
     }
 }
 
-pub fn tell_merged(merged: Merged, answer: &mut [u32; 9]) -> u32
+pub fn tell_merged(merged: Result<Merged, Refusal>, answer: &mut [u32; 9]) -> u32
     ensures { Told (merged_number merged) (merged_numbers merged) result answer.new }
 {
     *answer = merged_numbers(merged);

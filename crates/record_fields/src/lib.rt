@@ -103,8 +103,7 @@ pub fn relate_each<'a>(
     let size = block.size;
     let n = block.n;
     let mut base = block.from;
-    let mut j: usize = 0;
-    while j < n {
+    for j in 0..n {
         if at[j] == place {
             let record = &records[base..base + size];
             let first = side_bytes(item1, row1, record, left);
@@ -114,7 +113,6 @@ pub fn relate_each<'a>(
             );
         }
         base += size;
-        j += 1;
     }
 }
 
@@ -135,8 +133,7 @@ pub fn classify_each(
     let size = block.size;
     let n = block.n;
     let mut base = block.from;
-    let mut j: usize = 0;
-    while j < n {
+    for j in 0..n {
         if at[j] == place {
             let record = &records[base..base + size];
             let bytes = row_part(row, record);
@@ -144,6 +141,5 @@ pub fn classify_each(
             truths[j] = truth_number(truth_value(negated, holds));
         }
         base += size;
-        j += 1;
     }
 }

@@ -37,13 +37,11 @@ pub fn compare_texts(
     let size = block.size;
     let n = block.n;
     let mut base = block.from;
-    let mut j: usize = 0;
-    while j < n {
+    for j in 0..n {
         let a = text_at(records, base, first, filled);
         let b = text_at(records, base, second, filled);
         truths[j] = compare_words(true, a, b, order);
         base += size;
-        j += 1;
     }
 }
 
@@ -65,11 +63,9 @@ pub fn compare_text(
     let size = block.size;
     let n = block.n;
     let mut base = block.from;
-    let mut j: usize = 0;
-    while j < n {
+    for j in 0..n {
         let a = text_at(records, base, text, filled);
         truths[j] = compare_words(true, a, word, order);
         base += size;
-        j += 1;
     }
 }

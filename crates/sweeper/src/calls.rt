@@ -8,7 +8,7 @@ use block_truths::Block;
 use checks::lent::check_record;
 use plan_checks::check_plan;
 use preparer::lent::check_lent;
-use sweeps::Swept;
+use sweeps::Unswept;
 use sweeps::parts::{WIDTH, part_records, sweep_part};
 use tables::Refusal;
 
@@ -57,6 +57,7 @@ fn sweep_records<'a>(
     let mut left = records.len() / size;
     let mut from: usize = 0;
     let mut out: usize = 0;
+    // How many records go together depends on where they start.
     while left > 0 {
         let n = part_records(from, left, size);
         sweep_part(
@@ -89,29 +90,29 @@ pub fn sweep<'a>(
     size: usize,
     switches: u8,
     answers: &mut [u32],
-) -> Swept
+) -> Result<usize, Unswept>
     ensures { Leaves (sweep_gives (lend_names items.now literals.now bytes.now names.now) plan.now records.now size switches answers.old) result answers.new }
 {
     let rules = check_rules(items, literals, bytes, names, plan);
     if let Err(refusal) = rules {
-        return Swept::Refused(refusal);
+        return Err(Unswept::Refused(refusal));
     }
     if !is_even(size, records.len()) {
-        return Swept::Uneven;
+        return Err(Unswept::Uneven);
     }
     if records.len() == 0 {
-        return Swept::Count(0);
+        return Ok(0);
     }
     let held = check_record(items, &records[..size]);
     if let Err(refusal) = held {
-        return Swept::Refused(refusal);
+        return Err(Unswept::Refused(refusal));
     }
     let count = records.len() / size * WIDTH;
     if answers.len() < count {
-        return Swept::Refused(Refusal::Room(count));
+        return Err(Unswept::Refused(Refusal::Room(count)));
     }
     sweep_records(
         items, literals, bytes, names, plan, records, size, switches, answers,
     );
-    Swept::Count(count)
+    Ok(count)
 }

@@ -8,6 +8,7 @@ use native.Mathlib.Nat.{zero-div}
 use lib.ListN.{length, take, drop, length-drop}
 use lib.Seq.{length-take-le}
 use lib.Dec.{eqb, leb}
+use Rattle.std.specs.Prelude.{Ok, Err}
 use borrow.Author.Tests.{le-leb, lt-leb, eq-eqb, ne_eqb}
 use Rattle.tables.specs.declared.Refusal.{Refusal}
 use Rattle.tables.specs.declared.Refusal.TheVariants.{Room}
@@ -23,12 +24,11 @@ use Rattle.grammar.proofs.Lent.{plan-lent}
 use Rattle.rules.specs.Calls.{told, run_gives, room_check}
 use Rattle.conditions.proofs.Calling.{run-answers}
 use Rattle.runner.specs.Runs.{Runnable}
-use Rattle.sweeps.specs.declared.Swept.{Swept}
-use Rattle.sweeps.specs.declared.Swept.TheVariants.{Count, Uneven, Refused as Unswept}
+use Rattle.sweeps.specs.declared.Unswept.{Unswept}
+use Rattle.sweeps.specs.declared.Unswept.TheVariants.{Uneven, Refused as Barred}
 use Rattle.sweeps.specs.Sweep.{records_of, swept_numbers, evenly, rule_lines, size_check, sweep_by, sweep_gives, Leaves, Sweepable}
 use Rattle.sweeps.proofs.Laying.{four_each}
 use Rattle.sweeps.proofs.Going.{filled, as_long}
-use Rattle.std.specs.Prelude.{Err, Ok}
 
 -- 1 to 4 and 18, and then 11
 pub rules_refused : (lent : Lent) (plan : List ℕ) {refusal : Refusal} → first_of (lent_lines lent) ≡ Err refusal
@@ -98,12 +98,12 @@ module _ (lent : Lent) (plan file : List ℕ) (size switches : ℕ) where
     ran e = run-answers lent plan (take (from + size - from) (drop from file)) switches runnable e ∙ ap (λ (n : ℕ). run_gives lent plan (take n (drop from file)) switches) width
 
   module _ (output : List ℕ) where
-    pub unruly : {refusal : Refusal} → first_of (rule_lines lent plan) ≡ Err refusal → Leaves (sweep_gives lent plan file size switches output) (Unswept refusal) output
+    pub unruly : {refusal : Refusal} → first_of (rule_lines lent plan) ≡ Refused refusal → Leaves (sweep_gives lent plan file size switches output) (Err (Barred refusal)) output
     unfolding sweep_gives
     unruly e = rw e (record { answered = refl; left = refl })
 
-    module _ (rules : first_of (rule_lines lent plan) ≡ Ok tt) where
-      pub uneven : evenly size (length file) ≡ false → Leaves (sweep_gives lent plan file size switches output) Uneven output
+    module _ (rules : first_of (rule_lines lent plan) ≡ Sound) where
+      pub uneven : evenly size (length file) ≡ false → Leaves (sweep_gives lent plan file size switches output) (Err Uneven) output
       unfolding sweep_gives
       uneven e = rw (rules, e) (record { answered = refl; left = refl })
 
@@ -112,8 +112,8 @@ module _ (lent : Lent) (plan file : List ℕ) (size switches : ℕ) where
         unfolding sweep_gives
         swept e = rw (rules, sizes, e)
 
-        pub short : {refusal : Refusal} → (length file ≡ 0 → ⊥) → record_check lent (take size file) ≡ Err refusal
-            → Leaves (sweep_gives lent plan file size switches output) (Unswept refusal) output
+        pub short : {refusal : Refusal} → (length file ≡ 0 → ⊥) → record_check lent (take size file) ≡ Refused refusal
+            → Leaves (sweep_gives lent plan file size switches output) (Err (Barred refusal)) output
         short some e = rw (swept (line_refused _ (held lent size file some e))) (record { answered = refl; left = refl })
 
         module _ (holds : size_check lent size file ≡ Ok tt) where
@@ -121,21 +121,21 @@ module _ (lent : Lent) (plan file : List ℕ) (size switches : ℕ) where
           tried = line_sound _ holds ∙ line_last _
 
           pub lacks_room : length output < length file / size * 4
-              → Leaves (sweep_gives lent plan file size switches output) (Unswept (Room (length file / size * 4))) output
+              → Leaves (sweep_gives lent plan file size switches output) (Err (Barred (Room (length file / size * 4)))) output
           lacks_room l =
               let few = lt-leb (length numbers) (length output) (omega (arith, count)) in
               let line : room_check numbers output ≡ Err (Room (length file / size * 4)) = rw (few, count) in
               rw (swept (tried ∙ line)) (record { answered = refl; left = refl })
 
           pub written : length file / size * 4 ≤ length output → {after : List ℕ} → after ≡ numbers ++ drop (length file / size * 4) output
-              → Leaves (sweep_gives lent plan file size switches output) (Count (length file / size * 4)) after
+              → Leaves (sweep_gives lent plan file size switches output) (Ok (length file / size * 4)) after
           written l e =
               let enough = le-leb (length numbers) (length output) (omega (arith, count)) in
-              let line : room_check numbers output ≡ Ok tt = rw enough in
-              rw (swept (tried ∙ line)) (record { answered = ap Count (sym count); left = e ∙ ap (λ (n : ℕ). numbers ++ drop n output) (sym count) })
+              let line : room_check numbers output ≡ Sound = rw enough in
+              rw (swept (tried ∙ line)) (record { answered = ap (Ok {E = Unswept}) (sym count); left = e ∙ ap (λ (n : ℕ). numbers ++ drop n output) (sym count) })
 
         -- no record, no number
-        pub empty : length file ≡ 0 → Leaves (sweep_gives lent plan file size switches output) (Count 0) output
+        pub empty : length file ≡ 0 → Leaves (sweep_gives lent plan file size switches output) (Ok 0) output
         empty e =
             let none : length file / size * 4 ≡ 0 = ap (λ (n : ℕ). n / size * 4) e ∙ ap (λ (n : ℕ). n * 4) (zero-div size) in
             let nothing : numbers ≡ [] = empty_list numbers (count ∙ none) in

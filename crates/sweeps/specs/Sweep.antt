@@ -1,5 +1,5 @@
 -- A plan run over a file: records of one size, laid one after another. For each record stands what run gives for it.
-use Rattle.std.specs.Prelude.{◌≡◌, Bool, true, false, cond, ◌&&◌, List, [], ◌∷◌, ◌++◌, ℕ, zero, suc, ◌*◌, ◌/◌, ◌%◌, ◌≤◌, length, take, drop, eqb, leb}
+use Rattle.std.specs.Prelude.{◌≡◌, Bool, true, false, cond, ◌&&◌, List, [], ◌∷◌, ◌++◌, ℕ, zero, suc, ◌*◌, ◌/◌, ◌%◌, ◌≤◌, length, take, drop, eqb, leb, Result, Ok, Err}
 use Rattle.tables.specs.declared.Verdict.{Verdict}
 use Rattle.tables.specs.declared.Verdict.TheVariants.{True, False, Refused as Stopped}
 use Rattle.tables.specs.declared.Judged.{Judged}
@@ -9,9 +9,8 @@ use Rattle.tables.specs.Tables.{record_check}
 use Rattle.values.specs.Names.{lent_lines}
 use Rattle.grammar.specs.Plan.{plan_check}
 use Rattle.rules.specs.Calls.{run_gives, room_check}
-use Rattle.sweeps.specs.declared.Swept.{Swept}
-use Rattle.sweeps.specs.declared.Swept.TheVariants.{Count, Uneven, Refused as Unswept}
-use Rattle.std.specs.Prelude.{Err, Ok}
+use Rattle.sweeps.specs.declared.Unswept.{Unswept}
+use Rattle.sweeps.specs.declared.Unswept.TheVariants.{Uneven, Refused as Barred}
 
 -- so many records of one size, from the start of a file
 unfoldable pub laid : ℕ → ℕ → List ℕ → List (List ℕ)
@@ -63,15 +62,15 @@ size_check lent size file = cond (eqb (length file) 0) (Ok tt) (record_check len
 
 -- what a sweep answers, and what it leaves in its output
 pub record Sweep : Type 0 where
-  pub answer : Swept
+  pub answer : Result ℕ Unswept
   pub output : List ℕ
 
 -- 1 to 4, 18, 11; then 21; then 12 and 10. A refusal changes nothing.
 abbrev pub sweep_by : Check → Bool → Check → List ℕ → List ℕ → Sweep
-sweep_by (Err refusal) even others numbers output = record { answer = Unswept refusal; output = output }
-sweep_by (Ok _) false others numbers output = record { answer = Uneven; output = output }
-sweep_by (Ok _) true (Err refusal) numbers output = record { answer = Unswept refusal; output = output }
-sweep_by (Ok _) true (Ok _) numbers output = record { answer = Count (length numbers); output = numbers ++ drop (length numbers) output }
+sweep_by (Err refusal) even others numbers output = record { answer = Err (Barred refusal); output = output }
+sweep_by (Ok _) false others numbers output = record { answer = Err Uneven; output = output }
+sweep_by (Ok _) true (Err refusal) numbers output = record { answer = Err (Barred refusal); output = output }
+sweep_by (Ok _) true (Ok _) numbers output = record { answer = Ok (length numbers); output = numbers ++ drop (length numbers) output }
 
 -- the whole answer and the output
 unfoldable pub sweep_gives : Lent → List ℕ → List ℕ → ℕ → ℕ → List ℕ → Sweep
@@ -80,7 +79,7 @@ sweep_gives lent plan file size switches output =
     sweep_by (first_of (rule_lines lent plan)) (evenly size (length file)) (first_of (size_check lent size file ∷ room_check numbers output ∷ [])) numbers output
 
 -- the answer and the output that a call leaves are these
-pub record Leaves (sweep : Sweep) (answer : Swept) (output : List ℕ) : Type 0 where
+pub record Leaves (sweep : Sweep) (answer : Result ℕ Unswept) (output : List ℕ) : Type 0 where
   pub answered : answer ≡ sweep.answer
   pub left : output ≡ sweep.output
 

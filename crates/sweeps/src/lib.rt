@@ -6,10 +6,9 @@ use tables::Refusal;
 mod answers; // what is told of one record
 pub mod parts; // a block of records after the other
 
-// The count of numbers written, or a refusal: of the size of the records, or one of run's, or 10.
+// Why nothing was written: the records are of another size, or a refusal of run's, or 10.
 #[derive(Clone, Copy)]
-pub enum Swept {
-    Count(usize),
+pub enum Unswept {
     Uneven,
     Refused(Refusal),
 }

@@ -29,12 +29,6 @@ const FEW: usize = 8;
 // The file's first bytes: a field there cannot be read with what stands before it.
 const EDGE: usize = 8;
 
-fn wide(x: u8) -> usize
-    ensures { result ≡ x }
-{
-    x as usize
-}
-
 // So many of the records left, but at least one, and no more than a block has.
 fn bounded(most: usize, left: usize) -> usize
     requires { 1 ≤ left }
@@ -82,13 +76,13 @@ fn judged_at<'a>(
     if place == AT_TRUE {
         return Judged {
             verdict: Verdict::True,
-            count: wide(count),
+            count: usize::from(count),
         };
     }
     if place == AT_FALSE {
         return Judged {
             verdict: Verdict::False,
-            count: wide(count),
+            count: usize::from(count),
         };
     }
     run_rows(items, literals, bytes, names, plan, record, switches)
@@ -118,8 +112,7 @@ fn answer_part<'a>(
     let n = block.n;
     let mut base = block.from;
     let mut to = out;
-    let mut j: usize = 0;
-    while j < n {
+    for j in 0..n {
         let content = &records[base..base + size];
         let judged = judged_at(
             items, literals, bytes, names, plan, content, switches, at[j], counts[j],
@@ -127,7 +120,6 @@ fn answer_part<'a>(
         put_answer(answers, to, judged);
         base += size;
         to += WIDTH;
-        j += 1;
     }
 }
 

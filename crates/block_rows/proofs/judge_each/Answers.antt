@@ -10,7 +10,7 @@ judge_record-requires c =
     let l = c.loop-j in
     let a = c.args in
     let e : l.base + a.block.size - l.base ≡ a.block.size = omega arith in
-    rw (e, l.invariant.starts) (c.requires.judgeable.readable l.j c.loop-j-test.true)
+    rw (e, l.invariant.starts) (c.requires.judgeable.readable l.j (omega arith))
 
 pub returns : goal.returns
-returns c = all_told c.loop-j.invariant c.loop-j-test.false
+returns c = all_told c.loop-j.invariant (omega arith)

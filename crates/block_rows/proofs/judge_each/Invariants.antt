@@ -1,5 +1,4 @@
 -- One record after the other.
-use Prim.Native.Nat.{◌-◌}
 use Rattle.tables.specs.Operands.{lend_names}
 use Rattle.values.specs.Truth.{outcome}
 use Rattle.block_truths.specs.Columns.{outcome_at, Right, Standing}
@@ -10,6 +9,3 @@ abbrev pub invariant-loop-j : goal.invariant-loop-j
 invariant-loop-j l =
     Passing (Standing l.at l.row (λ k v. Right (outcome_at (lend_names l.items l.literals l.bytes l.names) l.records l.initial.base l.size l.switches l.condition k) v) l.initial.truths)
     l.initial.base l.size l.n l.initial.truths l.truths l.base l.j
-
-abbrev pub decreases-loop-j : goal.decreases-loop-j
-decreases-loop-j l = l.n - l.j

@@ -1,5 +1,5 @@
 -- The invariant: while all lie in turn, none of the rows passed overlaps an earlier one.
-use mathlib.Core.Path.{ap}
+use mathlib.Core.Path.{refl, ap}
 use mathlib.Core.Bool.{true, not}
 use Prim.Native.Nat.{◌-◌}
 use native.Mathlib.Omega.{arith}
@@ -16,7 +16,7 @@ loop-v-preserved c =
     elim c.if-not-is_group.branch [
       | then-not-is_group w ↦ (
         omega arith,
-        λ e. row_in-turn l.invariant.1 r g (ap not w.if-not-is_group.true) w.wide.ensures w.wide-then-not-is_group.ensures w.wide-then-not-is_group-2.ensures w.in_turn-is w.end-is e,
+        λ e. row_in-turn l.invariant.1 r g (ap not w.if-not-is_group.true) refl refl refl w.in_turn-is w.end-is e,
       )
       | else-not-is_group w ↦ (omega arith, λ e. group_in_turn l.invariant.1 r g (ap not w.if-not-is_group.false) w.in_turn-is w.end-is e)
     ]

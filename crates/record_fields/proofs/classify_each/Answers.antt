@@ -1,7 +1,7 @@
 -- One record after the other.
 use mathlib.Core.Path.{ap, ◌∙◌}
 use mathlib.Core.Bool.{Bool, true}
-use Prim.Native.Nat.{◌-◌}
+use Prim.Native.Nat.{◌<◌}
 use native.Mathlib.Omega.{arith}
 use Rattle.std.proofs.lemmas.Grind.{common_steps}
 use Rattle.tables.specs.Rows.{part}
@@ -19,7 +19,7 @@ class_holds-holds-requires c =
     let c9 = c4 in
     let l = c4.loop-j in
     let a = c9.args in
-    rw (c.row_part-bytes.ensures, at_record a.records.now a.block.from a.block.size l.j l.invariant.starts) (some_bytes (c9.requires.by_index l.j c4.loop-j-test.true))
+    rw (c.row_part-bytes.ensures, at_record a.records.now a.block.from a.block.size l.j l.invariant.starts) (some_bytes (c9.requires.by_index l.j (omega arith)))
 
 pub loop-j-preserved : goal.loop-j-preserved
 loop-j-preserved c =
@@ -27,7 +27,7 @@ loop-j-preserved c =
     let start = c in
     let a = start.args in
     let here = at_record a.records.now a.block.from a.block.size l.j l.invariant.starts in
-    let turn = c.loop-j-test.true in
+    let turn : l.j < a.block.n = omega arith in
     elim c.if-at-j.branch [
       | then-at-j w ↦
           rw w.truths-is (tells start.requires.laid.0 start.requires.laid.2 l.invariant turn (at_place w.if-at-j.true (right_for
@@ -40,4 +40,4 @@ loop-j-preserved c =
     ]
 
 pub returns : goal.returns
-returns c = all_told c.loop-j.invariant c.loop-j-test.false
+returns c = all_told c.loop-j.invariant (omega arith)

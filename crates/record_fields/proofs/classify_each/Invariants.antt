@@ -1,6 +1,5 @@
 -- One record after the other.
 use mathlib.Core.Bool.{true}
-use Prim.Native.Nat.{◌-◌}
 use Rattle.tables.specs.Rows.{part}
 use Rattle.values.specs.Comparison.{side}
 use Rattle.values.specs.Truth.{truth, class_outcome}
@@ -12,6 +11,3 @@ abbrev pub invariant-loop-j : goal.invariant-loop-j
 invariant-loop-j l =
     Passing (Standing l.at l.place (λ k v. Right (class_outcome l.word l.negated (side true l.row (part l.row (record_at l.records l.initial.base l.size k)))) v) l.initial.truths) l.initial.base l.size l.n l.initial.truths
     l.truths l.base l.j
-
-abbrev pub decreases-loop-j : goal.decreases-loop-j
-decreases-loop-j l = l.n - l.j

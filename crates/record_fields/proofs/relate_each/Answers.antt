@@ -2,7 +2,7 @@
 use mathlib.Core.Path.{ap, ap₂, ◌∙◌}
 use mathlib.Core.Bool.{cond}
 use mathlib.Core.List.{List}
-use Prim.Native.Nat.{ℕ, ◌-◌}
+use Prim.Native.Nat.{ℕ, ◌<◌}
 use native.Mathlib.Omega.{arith}
 use Rattle.std.proofs.lemmas.Grind.{common_steps}
 use Rattle.tables.specs.Rows.{part}
@@ -20,7 +20,7 @@ side_bytes-first-requires c =
     λ i. let l = c4.loop-j in
     let a = c10.args in
     rw (at_record a.records.now a.block.from a.block.size l.j l.invariant.starts) (item_inside a.item1 a.row1 _ a.left.now (c10.requires.by_index l.j
-    c.loop-j-test.true).0 i)
+    (omega arith)).0 i)
 
 pub side_bytes-second-requires : goal.side_bytes-second-requires
 side_bytes-second-requires c =
@@ -29,14 +29,14 @@ side_bytes-second-requires c =
     λ i. let l = c4.loop-j in
     let a = c11.args in
     rw (at_record a.records.now a.block.from a.block.size l.j l.invariant.starts) (item_inside a.item2 a.row2 _ a.right.now (c11.requires.by_index l.j
-    c4.loop-j-test.true).1 i)
+    (omega arith)).1 i)
 
 pub side_truth-requires : goal.side_truth-requires
 side_truth-requires c =
     let l = c.loop-j in
     let start = c in
     let a = start.args in
-    let f = start.requires.by_index l.j c.loop-j-test.true in
+    let f = start.requires.by_index l.j (omega arith) in
     rw (c.side_bytes-first.ensures, c.side_bytes-second.ensures, at_record a.records.now a.block.from a.block.size l.j l.invariant.starts) (f.0, f.1, start.requires.laid.3)
 
 pub loop-j-preserved : goal.loop-j-preserved
@@ -45,7 +45,7 @@ loop-j-preserved c =
     let start = c in
     let a = start.args in
     let here = at_record a.records.now a.block.from a.block.size l.j l.invariant.starts in
-    let turn = c.loop-j-test.true in
+    let turn : l.j < a.block.n = omega arith in
     elim c.if-at-j.branch [
       | then-at-j w ↦
           rw w.truths-is (tells start.requires.laid.0 start.requires.laid.2 l.invariant turn (at_place w.if-at-j.true (right_for
@@ -58,4 +58,4 @@ loop-j-preserved c =
     ]
 
 pub returns : goal.returns
-returns c = all_told c.loop-j.invariant c.loop-j-test.false
+returns c = all_told c.loop-j.invariant (omega arith)

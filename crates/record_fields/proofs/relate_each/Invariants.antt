@@ -1,6 +1,5 @@
 -- One record after the other.
 use mathlib.Core.Bool.{cond}
-use Prim.Native.Nat.{◌-◌}
 use Rattle.tables.specs.Rows.{part}
 use Rattle.values.specs.Comparison.{side}
 use Rattle.values.specs.Truth.{relation_outcome}
@@ -12,6 +11,3 @@ abbrev pub invariant-loop-j : goal.invariant-loop-j
 invariant-loop-j l =
     Passing (Standing l.at l.place (λ k v. Right (relation_outcome l.word l.negated (side l.item1 l.row1 (cond l.item1 (part l.row1 (record_at l.records l.initial.base l.size k)) l.left))
     (side l.item2 l.row2 (cond l.item2 (part l.row2 (record_at l.records l.initial.base l.size k)) l.right))) v) l.initial.truths) l.initial.base l.size l.n l.initial.truths l.truths l.base l.j
-
-abbrev pub decreases-loop-j : goal.decreases-loop-j
-decreases-loop-j l = l.n - l.j

@@ -1,7 +1,7 @@
 -- From row to row.
 -- what is lent, and what each row needs of it
 -- the row is judged, and each record that stands there goes on
-use mathlib.Core.Path.{◌≡◌, refl, ap, ◌∙◌}
+use mathlib.Core.Path.{◌≡◌, refl, ◌∙◌}
 use mathlib.Core.List.{List}
 use Prim.Native.Nat.{ℕ, ◌-◌, ◌<◌, ◌≤◌}
 use native.Mathlib.Omega.{arith}
@@ -31,7 +31,7 @@ pub judge_row-requires : goal.judge_row-requires
 judge_row-requires c =
     let lent : (Lent) = (lend_names c.args.items.now c.args.literals.now c.args.bytes.now c.args.names.now) in
     let under : (c.loop-row.row < plan_rows c.args.plan.now) = (omega (arith, c.loop-row.invariant.0, c.loop-row-test.true)) in
-    let row_is : (c.plan_row-condition.result ≡ plan_row c.args.plan.now c.loop-row.row) = (c.plan_row-condition.ensures ∙ ap (plan_row c.args.plan.now) c.wide.ensures) in
+    let row_is : (c.plan_row-condition.result ≡ plan_row c.args.plan.now c.loop-row.row) = c.plan_row-condition.ensures in
     let turn = c in
     let s = c in
     let a = s.args in record {
@@ -46,7 +46,7 @@ place_of-holds-requires c =
     let under : (c.loop-row.row < plan_rows c.args.plan.now) = (omega (arith, c.loop-row.invariant.0, c.loop-row-test.true)) in
     let known : (Sure lent (plan_rows c.args.plan.now) c.loop-row.row (plan_row c.args.plan.now c.loop-row.row)) = (let s = c in
     known-row lent s.args.plan.now s.args.records.now s.args.block.from s.args.block.size s.args.block.n s.args.switches s.requires.walkable under) in
-    let row_is : (c.plan_row-condition.result ≡ plan_row c.args.plan.now c.loop-row.row) = (c.plan_row-condition.ensures ∙ ap (plan_row c.args.plan.now) c.wide.ensures) in
+    let row_is : (c.plan_row-condition.result ≡ plan_row c.args.plan.now c.loop-row.row) = c.plan_row-condition.ensures in
     let turn = c in
     rw row_is (placed few known.holds)
 
@@ -57,7 +57,7 @@ place_of-fails-requires c =
     let under : (c.loop-row.row < plan_rows c.args.plan.now) = (omega (arith, c.loop-row.invariant.0, c.loop-row-test.true)) in
     let known : (Sure lent (plan_rows c.args.plan.now) c.loop-row.row (plan_row c.args.plan.now c.loop-row.row)) = (let s = c in
     known-row lent s.args.plan.now s.args.records.now s.args.block.from s.args.block.size s.args.block.n s.args.switches s.requires.walkable under) in
-    let row_is : (c.plan_row-condition.result ≡ plan_row c.args.plan.now c.loop-row.row) = (c.plan_row-condition.ensures ∙ ap (plan_row c.args.plan.now) c.wide.ensures) in
+    let row_is : (c.plan_row-condition.result ≡ plan_row c.args.plan.now c.loop-row.row) = c.plan_row-condition.ensures in
     let turn = c in
     rw row_is (placed few known.fails)
 
@@ -66,7 +66,7 @@ loop-row-smaller c =
     let lent : (Lent) = (lend_names c.args.items.now c.args.literals.now c.args.bytes.now c.args.names.now) in
     let Here : (List ℕ → List ℕ → ℕ → Type 0) = (λ at counts row. Walking lent c.args.plan.now c.args.records.now c.args.block.from c.args.block.size c.args.block.n c.args.switches at counts row) in
     let under : (c.loop-row.row < plan_rows c.args.plan.now) = (omega (arith, c.loop-row.invariant.0, c.loop-row-test.true)) in
-    let row_is : (c.plan_row-condition.result ≡ plan_row c.args.plan.now c.loop-row.row) = (c.plan_row-condition.ensures ∙ ap (plan_row c.args.plan.now) c.wide.ensures) in
+    let row_is : (c.plan_row-condition.result ≡ plan_row c.args.plan.now c.loop-row.row) = c.plan_row-condition.ensures in
     let goes_on : ((c.loop-row.row < c.least-row-in-loop-row.result)
     × Here c.advance.new.at c.advance.new.counts c.least-row-in-loop-row.result) = (let s = c in
     let a = s.args in
@@ -86,7 +86,7 @@ loop-row-preserved c =
     let lent : (Lent) = (lend_names c.args.items.now c.args.literals.now c.args.bytes.now c.args.names.now) in
     let Here : (List ℕ → List ℕ → ℕ → Type 0) = (λ at counts row. Walking lent c.args.plan.now c.args.records.now c.args.block.from c.args.block.size c.args.block.n c.args.switches at counts row) in
     let under : (c.loop-row.row < plan_rows c.args.plan.now) = (omega (arith, c.loop-row.invariant.0, c.loop-row-test.true)) in
-    let row_is : (c.plan_row-condition.result ≡ plan_row c.args.plan.now c.loop-row.row) = (c.plan_row-condition.ensures ∙ ap (plan_row c.args.plan.now) c.wide.ensures) in
+    let row_is : (c.plan_row-condition.result ≡ plan_row c.args.plan.now c.loop-row.row) = c.plan_row-condition.ensures in
     let goes_on : ((c.loop-row.row < c.least-row-in-loop-row.result)
     × Here c.advance.new.at c.advance.new.counts c.least-row-in-loop-row.result) = (let s = c in
     let a = s.args in

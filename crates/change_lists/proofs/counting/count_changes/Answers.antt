@@ -5,7 +5,7 @@ use lib.ListN.{length}
 use Rattle.mending.specs.Mend.{changes_from}
 use Rattle.mending.proofs.Changes.{byte_same, three_more}
 use Rattle.change_lists.proofs.counting.count_changes.Goals as goal
-use Rattle.change_lists.proofs.counting.count_changes.Goals.{else-old-i, then-old-i}
+use Rattle.change_lists.proofs.counting.count_changes.Goals.{else-was-new, then-was-new}
 
 pub loop-i-init : goal.loop-i-init
 unfolding changes_from
@@ -18,12 +18,11 @@ loop-i-preserved c =
     let new = a.new.now in
     let p = c.requires in
     let l = c.loop-i in
-    let at-loop-test = c.loop-i-test in
-    elim c.if-old-i.branch [
-      | then-old-i w ↦ (
+    elim c.if-was-new.branch [
+      | then-was-new w ↦ (
         omega arith,
         omega (arith, w.count-is),
-        w.count-is ∙ ap (λ (n : ℕ). n + 3) l.invariant.2 ∙ sym (three_more a.at old new p.0 l.i at-loop-test.true w.if-old-i.true),
+        w.count-is ∙ ap (λ (n : ℕ). n + 3) l.invariant.2 ∙ sym (three_more a.at old new p.0 l.i (omega arith) w.if-was-new.true),
       )
-      | else-old-i w ↦ (omega arith, omega (arith, w.count-is), w.count-is ∙ l.invariant.2 ∙ sym (ap length (byte_same a.at old new p.0 l.i at-loop-test.true w.if-old-i.false)))
+      | else-was-new w ↦ (omega arith, omega (arith, w.count-is), w.count-is ∙ l.invariant.2 ∙ sym (ap length (byte_same a.at old new p.0 l.i (omega arith) w.if-was-new.false)))
     ]

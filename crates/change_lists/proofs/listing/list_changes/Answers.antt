@@ -9,7 +9,7 @@ use Rattle.std.proofs.lemmas.Grind.{common_steps}
 use Rattle.mending.specs.Mend.{changes_from}
 use Rattle.mending.proofs.Changes.{byte_same, byte_changed, three_more, three_put, changes-within}
 use Rattle.change_lists.proofs.listing.list_changes.Goals as goal
-use Rattle.change_lists.proofs.listing.list_changes.Goals.{else-old-i, then-old-i}
+use Rattle.change_lists.proofs.listing.list_changes.Goals.{else-was-new, then-was-new}
 
 pub loop-i-init : goal.loop-i-init
 unfolding changes_from
@@ -22,12 +22,11 @@ put_change-requires c =
     let new = a.new.now in
     let p = c.requires in
     let at-loop = c.loop-i in
-    let at-loop-test = c.loop-i-test in
     omega (
       arith,
       p.3,
       at-loop.invariant,
-      three_more a.at old new p.0 at-loop.i at-loop-test.true c.if-old-i.true,
+      three_more a.at old new p.0 at-loop.i (omega arith) c.if-was-new.true,
       changes-within a.at old new (at-loop.i + 1) p.0 (omega arith),
     )
 
@@ -39,28 +38,27 @@ loop-i-preserved c =
     let list = a.list.now in
     let p = c.requires in
     let at-loop = c.loop-i in
-    let at-loop-test = c.loop-i-test in
     let e1 = (a.at + at-loop.i) ∷ (get_or old at-loop.i 0) ∷ (get_or new at-loop.i 0) ∷ [] in
-    let written : List ℕ = changes_from a.at (take at-loop.i old) (take at-loop.i new) in elim c.if-old-i.branch [
-      | then-old-i w ↦ let long : length written + 3 ≤ length list = omega (
+    let written : List ℕ = changes_from a.at (take at-loop.i old) (take at-loop.i new) in elim c.if-was-new.branch [
+      | then-was-new w ↦ let long : length written + 3 ≤ length list = omega (
         arith,
         p.3,
         at-loop.invariant,
-        three_more a.at old new p.0 at-loop.i at-loop-test.true w.if-old-i.true,
+        three_more a.at old new p.0 at-loop.i (omega arith) w.if-was-new.true,
         changes-within a.at old new (at-loop.i + 1) p.0 (omega arith),
-      ) in let grown = three_more a.at old new p.0 at-loop.i at-loop-test.true
-          w.if-old-i.true in let counted : c.if-old-i.count ≡ length written + 3 = w.count-is
+      ) in let grown = three_more a.at old new p.0 at-loop.i (omega arith)
+          w.if-was-new.true in let counted : c.if-was-new.count ≡ length written + 3 = w.count-is
           ∙ ap (λ (n : ℕ). n + 3) at-loop.invariant.1 in (
             omega arith,
             counted ∙ sym grown,
-            ap length (w.list-is ∙ w.put_change.ensures) ∙ length-sets at-loop.list at-loop.count ((a.at + at-loop.i) ∷ w.wide.result ∷ w.wide-then-old-i.result ∷ [])
+            ap length (w.list-is ∙ w.put_change.ensures) ∙ length-sets at-loop.list at-loop.count ((a.at + at-loop.i) ∷ w.from.result ∷ w.from-then-was-new.result ∷ [])
                 ∙ at-loop.invariant.2,
-            w.list-is ∙ w.put_change.ensures ∙ ap₂ (λ (x y : ℕ). sets at-loop.list at-loop.count ((a.at + at-loop.i) ∷ x ∷ y ∷ [])) w.wide.ensures w.wide-then-old-i.ensures
+            w.list-is ∙ w.put_change.ensures ∙ ap₂ (λ (x y : ℕ). sets at-loop.list at-loop.count ((a.at + at-loop.i) ∷ x ∷ y ∷ [])) w.from.ensures w.from-then-was-new.ensures
                 ∙ ap (λ (l : List ℕ). sets l at-loop.count e1) at-loop.invariant.3 ∙ ap (λ (n : ℕ). sets (written ++ drop n list) n e1) at-loop.invariant.1
                 ∙ three_put list written (a.at + at-loop.i) (get_or old at-loop.i 0) (get_or new at-loop.i 0) long
-                ∙ ap₂ (λ (l : List ℕ) (n : ℕ). l ++ drop n list) (sym (byte_changed a.at old new p.0 at-loop.i at-loop-test.true w.if-old-i.true)) (sym counted),
+                ∙ ap₂ (λ (l : List ℕ) (n : ℕ). l ++ drop n list) (sym (byte_changed a.at old new p.0 at-loop.i (omega arith) w.if-was-new.true)) (sym counted),
           )
-      | else-old-i w ↦ let still = sym (byte_same a.at old new p.0 at-loop.i at-loop-test.true w.if-old-i.false) in (
+      | else-was-new w ↦ let still = sym (byte_same a.at old new p.0 at-loop.i (omega arith) w.if-was-new.false) in (
         omega arith,
         w.count-is ∙ at-loop.invariant.1 ∙ ap length still,
         ap length w.list-is ∙ at-loop.invariant.2,

@@ -1,4 +1,4 @@
-use Prim.Native.Nat.{◌+◌, ◌-◌, ◌≤◌}
+use Prim.Native.Nat.{◌+◌, ◌≤◌}
 use mathlib.Core.Path.{◌≡◌}
 use mathlib.Core.List.{◌++◌}
 use lib.ListN.{length, take, drop}
@@ -8,6 +8,3 @@ use Rattle.change_lists.proofs.listing.list_changes.Given as goal
 abbrev pub invariant-loop-i : goal.invariant-loop-i
 invariant-loop-i l = (l.i ≤ length l.old) × (l.count ≡ length (changes_from l.at (take l.i l.old) (take l.i l.new))) × (length l.list ≡ length l.initial.list) ×
     (l.list ≡ changes_from l.at (take l.i l.old) (take l.i l.new) ++ drop l.count l.initial.list)
-
-abbrev pub decreases-loop-i : goal.decreases-loop-i
-decreases-loop-i l = length l.old - l.i

@@ -1,4 +1,4 @@
-use mathlib.Core.Path.{◌≡◌, sym, ap, ap₂, ◌∙◌}
+use mathlib.Core.Path.{◌≡◌, ap₂, ◌∙◌}
 use mathlib.Core.Bool.{false}
 use Rattle.tables.specs.Rows.{is_group, part}
 use Rattle.items.specs.Items.{same}
@@ -8,7 +8,7 @@ use Rattle.contested.proofs.apart.is_apart.Goals as goal
 pub returns : goal.returns
 returns c =
     let a = c.args in
-    let g : is_group a.row ≡ false = sym c.is_group.ensures ∙ c.if-is_group.false in
+    let g : is_group a.row ≡ false = cc in
     rw g
     (apart_flags (part a.row a.old.now) (part a.row a.first.now) (part a.row a.second.now)
     (c.same_bytes.ensures ∙ ap₂ same c.row_part-one.ensures c.row_part-was.ensures)

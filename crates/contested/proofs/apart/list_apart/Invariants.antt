@@ -1,5 +1,5 @@
 use Rattle.tables.specs.Rows.{part}
-use Prim.Native.Nat.{◌-◌, ◌+◌, ◌≤◌}
+use Prim.Native.Nat.{◌+◌, ◌≤◌}
 use mathlib.Core.Path.{◌≡◌, ap}
 use mathlib.Core.List.{◌++◌}
 use lib.ListN.{length, drop}
@@ -11,6 +11,3 @@ abbrev pub invariant-loop-v : goal.invariant-loop-v
 invariant-loop-v l =
     (l.v ≤ l.rows) × (l.count ≡ length (rows_where (apart_at (copies_of l.items l.old l.first l.second)) l.v)) × (length l.list ≡ length l.initial.list) × (l.list ≡ rows_where
     (apart_at (copies_of l.items l.old l.first l.second)) l.v ++ drop l.count l.initial.list)
-
-abbrev pub decreases-loop-v : goal.decreases-loop-v
-decreases-loop-v l = l.rows - l.v

@@ -21,7 +21,7 @@ loop-v-init c =
 pub item_differs-requires : goal.item_differs-requires
 item_differs-requires c =
     let a = c.args in
-    held a.items.now a.first.now a.second.now c.requires c.loop-v.v c.loop-v-test.true c.row_at.ensures
+    held a.items.now a.first.now a.second.now c.requires c.loop-v.v (omega arith) c.row_at.ensures
 
 pub loop-v-preserved : goal.loop-v-preserved
 loop-v-preserved c = grind (arith, common_steps, count_hit, count_miss)

@@ -1,5 +1,5 @@
 -- Two numbers for each row that differs.
-use Prim.Native.Nat.{◌-◌, ◌*◌, ◌≤◌}
+use Prim.Native.Nat.{◌*◌, ◌≤◌}
 use mathlib.Core.Path.{◌≡◌}
 use lib.ListN.{length}
 use Rattle.items.specs.Items.{listed}
@@ -8,6 +8,3 @@ use Rattle.differences.proofs.calls.count_differences.Given as goal
 
 abbrev pub invariant-loop-v : goal.invariant-loop-v
 invariant-loop-v l = (l.v ≤ l.rows) × (l.count ≡ length (listed (entry_at l.items l.first l.second) l.v)) × (l.count ≤ 2 * l.v)
-
-abbrev pub decreases-loop-v : goal.decreases-loop-v
-decreases-loop-v l = l.rows - l.v

@@ -25,8 +25,8 @@ list_row-count-requires c =
     let start = c in
     let a = start.args in
     let e = c.row_at.ensures in (
-      held a.items.now a.first.now a.second.now start.requires.0 c.loop-v.v c.loop-v-test.true e,
-      rw e (listing-fits c.loop-v.invariant c.loop-v-test.true c.requires.1),
+      held a.items.now a.first.now a.second.now start.requires.0 c.loop-v.v (omega arith) e,
+      rw e (listing-fits c.loop-v.invariant (omega arith) c.requires.1),
     )
 
 pub loop-v-preserved : goal.loop-v-preserved
@@ -37,6 +37,6 @@ loop-v-preserved c =
     let at-loop = c.loop-v in
     let row = c.row_at.ensures in
     let called = c.list_row-count.ensures in
-    listing_more at-loop.invariant c.loop-v-test.true c.requires.1
+    listing_more at-loop.invariant (omega arith) c.requires.1
     (called.list_after ∙ ap (λ (r : Row). sets at-loop.list at-loop.count (entry_of r at-loop.v (part r first) (part r second))) row)
     (called.value ∙ ap (λ (r : Row). at-loop.count + length (entry_of r at-loop.v (part r first) (part r second))) row)

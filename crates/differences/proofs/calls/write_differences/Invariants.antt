@@ -1,5 +1,4 @@
 -- The laws of a loop that lists.
-use Prim.Native.Nat.{◌-◌}
 use Rattle.tables.specs.Rows.{row_count}
 use Rattle.items.proofs.Listing.{Listing}
 use Rattle.differences.specs.Differ.{entry_at}
@@ -7,6 +6,3 @@ use Rattle.differences.proofs.calls.write_differences.Given as goal
 
 abbrev pub invariant-loop-v : goal.invariant-loop-v
 invariant-loop-v l = Listing (entry_at l.items l.first l.second) (row_count l.items) l.initial.list l.list l.count l.v
-
-abbrev pub decreases-loop-v : goal.decreases-loop-v
-decreases-loop-v l = l.rows - l.v

@@ -1,22 +1,17 @@
-use Prim.Native.Nat.{◌-◌}
-use native.Mathlib.Omega.{arith}
-use mathlib.Core.Path.{sym, ◌∙◌}
+use mathlib.Core.Bool.{◌&&◌}
+use mathlib.Core.Path.{refl, ◌∙◌}
+use Rattle.std.proofs.Common.{rules, tests}
+use Rattle.std.specs.List.{list_all}
+use Rattle.std.proofs.lemmas.Iterator.{YieldsList-from_slice}
+use Rattle.std.proofs.lemmas.Iterator.Search.{all_from_yields_List}
+use Rattle.std.proofs.lemmas.List.Recursion.{same_from_clauses}
 use Rattle.content.specs.Content.{all}
-use Rattle.content.proofs.Bytes.{all_then, all_end}
 use Rattle.content.specs.Letters.{is_space}
 use Rattle.meters.proofs.kinds.all_spaces.Goals as goal
 
-pub returns-then-not-is_space : goal.returns-then-not-is_space
-returns-then-not-is_space c =
-    let a = c.args in
-    let l = c.loop-i in
-    sym (l.invariant.1 ∙ all_then is_space a.bytes.now l.i c.loop-i-test.true (sym c.is_space.ensures ∙ c.if-not-is_space.true))
-
-pub loop-i-preserved : goal.loop-i-preserved
-loop-i-preserved c =
-    let a = c.args in
-    let l = c.loop-i in
-    (omega arith, l.invariant.1 ∙ all_then is_space a.bytes.now l.i c.loop-i-test.true (sym c.is_space.ensures ∙ c.if-not-is_space.false))
-
 pub returns : goal.returns
-returns c = sym (c.loop-i.invariant.1 ∙ all_end is_space c.args.bytes.now c.loop-i.i c.loop-i-test.false)
+unfolding all
+returns c =
+    let bytes = c.args.bytes.now in
+    all_from_yields_List is_space _ _ _ c.all.ensures.ran (YieldsList-from_slice bytes cc) (λ x b q k. search (rules, tests))
+    ∙ same_from_clauses (list_all is_space) (all is_space) (λ b rest. is_space b && rest) refl (λ _ _. refl) (λ _ _. refl) bytes

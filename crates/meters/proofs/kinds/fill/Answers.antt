@@ -1,18 +1,18 @@
-use Prim.Native.Nat.{◌-◌}
+use native.Mathlib.Omega.{arith}
 use mathlib.Core.Path.{sym, ◌∙◌}
 use borrow.Author.Tests.{eqb-true, eqb-false}
+use Rattle.std.proofs.lemmas.List.{set-get_or}
 use Rattle.meters.proofs.Filling.{filling_more, filling_stop, filling_end}
 use Rattle.meters.proofs.kinds.fill.Goals as goal
 
 pub returns-then-not-is_space : goal.returns-then-not-is_space
 returns-then-not-is_space c =
-    let c4 = c in
-    filling_stop c4.loop-i.invariant c4.loop-i-test.true (eqb-false _ _ (sym c.is_space.ensures ∙ c.if-not-is_space.true))
+    set-get_or c.loop-b.bytes c.loop-b.b-index 0
+    ∙ filling_stop c.loop-b.invariant (omega arith) (eqb-false _ _ (sym c.is_space.ensures ∙ c.if-not-is_space.true))
 
-pub loop-i-preserved : goal.loop-i-preserved
-loop-i-preserved c =
-    let c4 = c in
-    filling_more c4.loop-i.invariant c4.loop-i-test.true (eqb-true _ _ (sym c.is_space.ensures ∙ c.if-not-is_space.false))
+pub loop-b-preserved : goal.loop-b-preserved
+loop-b-preserved c =
+    filling_more c.loop-b.invariant (omega arith) (eqb-true _ _ (sym c.is_space.ensures ∙ c.if-not-is_space.false))
 
 pub returns : goal.returns
-returns c = filling_end c.loop-i.invariant c.loop-i-test.false
+returns c = filling_end c.loop-b.invariant (omega arith)

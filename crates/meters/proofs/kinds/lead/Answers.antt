@@ -1,19 +1,18 @@
-use mathlib.Core.Path.{sym, ap, ◌∙◌}
-use mathlib.Core.Bool.{Bool, cond}
-use Rattle.mending.specs.Mend.{leading, filled}
+use mathlib.Core.Path.{◌≡◌}
+use mathlib.Core.Bool.{true, false}
+use Rattle.content.specs.Content.{all}
+use Rattle.content.specs.Letters.{is_space}
+use Rattle.mending.specs.Mend.{leading}
 use Rattle.meters.proofs.kinds.lead.Goals as goal
 
-pub returns-then-all_spaces : goal.returns-then-all_spaces
+pub returns-then-not-blank : goal.returns-then-not-blank
 unfolding leading
-returns-then-all_spaces c =
-    let a = c.args in
-    let bytes = a.bytes.now in
-    sym (ap (λ (b : Bool). cond b bytes (filled bytes)) (sym c.all_spaces.ensures ∙ c.if-all_spaces.true))
+returns-then-not-blank c =
+    let e : all is_space c.args.bytes.now ≡ false = cc in
+    rw e c.fill.ensures
 
-pub returns : goal.returns
+pub returns-else-not-blank : goal.returns-else-not-blank
 unfolding leading
-returns c =
-    let a = c.args in
-    let bytes = a.bytes.now in
-    c.fill.ensures
-    ∙ sym (ap (λ (b : Bool). cond b bytes (filled bytes)) (sym c.all_spaces.ensures ∙ c.if-all_spaces.false))
+returns-else-not-blank c =
+    let e : all is_space c.args.bytes.now ≡ true = cc in
+    rw e

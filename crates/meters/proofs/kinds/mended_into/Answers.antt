@@ -13,8 +13,8 @@ returns-then-not-is_zoned c =
     let a = c.args in
     c.copy_bytes.ensures ∙ mended_skip a.row.kind a.row.digits a.bytes.now (fails c.is_zoned.ensures (ap not c.if-not-is_zoned.true))
 
-pub returns-then-not-valid_content : goal.returns-then-not-valid_content
-returns-then-not-valid_content c = grind (arith, common_steps, passes, fails, mended_kept)
+pub returns-then-not-valid : goal.returns-then-not-valid
+returns-then-not-valid c = grind (arith, common_steps, passes, fails, mended_kept)
 
-pub returns-else-not-valid_content : goal.returns-else-not-valid_content
-returns-else-not-valid_content c = grind (arith, common_steps, passes, mended_done)
+pub returns-else-not-valid : goal.returns-else-not-valid
+returns-else-not-valid c = grind (arith, common_steps, passes, mended_done)

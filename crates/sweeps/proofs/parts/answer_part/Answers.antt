@@ -23,10 +23,10 @@ judged_at-judged-requires c =
     let start = c in
     let a = start.args in
     let lent = lend_names a.items.now a.literals.now a.bytes.now a.names.now in
-    let within : l.base + a.block.size ≤ length a.records.now = omega (arith, l.invariant.1, inside start.requires.part l.j c.loop-j-test.true) in
+    let within : l.base + a.block.size ≤ length a.records.now = omega (arith, l.invariant.1, inside start.requires.part l.j (omega arith)) in
     let width : l.base + a.block.size - l.base ≡ a.block.size = omega arith in record {
       runnable = runnable lent a.plan.now a.records.now a.block.size a.switches start.requires.sweepable l.base within;
-      settled = rw (width, l.invariant.1) (start.requires.at_len.2.settled l.j c.loop-j-test.true);
+      settled = rw (width, l.invariant.1) (start.requires.at_len.2.settled l.j (omega arith));
     }
 
 pub put_answer-requires : goal.put_answer-requires
@@ -35,7 +35,7 @@ put_answer-requires c =
     let start = c in
     let a = start.args in
     let lent = lend_names a.items.now a.literals.now a.bytes.now a.names.now in
-    let within : l.base + a.block.size ≤ length a.records.now = omega (arith, l.invariant.1, inside start.requires.part l.j c.loop-j-test.true) in (
+    let within : l.base + a.block.size ≤ length a.records.now = omega (arith, l.invariant.1, inside start.requires.part l.j (omega arith)) in (
       rw (ran lent a.plan.now a.records.now a.block.size a.switches start.requires.sweepable l.base within c.judged_at-judged.ensures) (run_fits _ _ _ _),
       omega (
         arith,
@@ -57,7 +57,7 @@ loop-j-preserved c =
       arith,
       l.invariant.1,
       inside start.requires.part l.j
-          c.loop-j-test.true,
+          (omega arith),
     ) in (
       omega arith,
       next_base a.block.from l.j a.block.size l.invariant.1,

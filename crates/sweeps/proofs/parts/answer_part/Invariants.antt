@@ -1,6 +1,6 @@
 -- One record after the other.
 use mathlib.Core.Path.{◌≡◌}
-use Prim.Native.Nat.{◌+◌, ◌-◌, ◌*◌, ◌≤◌}
+use Prim.Native.Nat.{◌+◌, ◌*◌, ◌≤◌}
 use lib.ListN.{drop}
 use lib.Seq.{sets}
 use Rattle.tables.specs.Operands.{lend_names}
@@ -12,6 +12,3 @@ abbrev pub invariant-loop-j : goal.invariant-loop-j
 invariant-loop-j l =
     (l.j ≤ l.n) × (l.base ≡ l.initial.base + l.j * l.size) × (l.to ≡ l.out + l.j * 4)
     × (l.answers ≡ sets l.initial.answers l.out (answers_of (λ content. run_gives (lend_names l.items l.literals l.bytes l.names) l.plan content l.switches) (laid l.j l.size (drop l.initial.base l.records))))
-
-abbrev pub decreases-loop-j : goal.decreases-loop-j
-decreases-loop-j l = l.n - l.j
