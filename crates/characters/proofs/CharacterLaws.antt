@@ -10,8 +10,8 @@ use lib.ListN.{length, get_or, take, drop, replicate, take-append-drop, drop_of_
 use lib.Seq.{take-suc, take-take, take-add, take-append-le, drop-cons, get_or_at, get_or-take}
 use borrow.Author.Tests.{eqb-true, eqb-false}
 use Rattle.content.specs.Content.{unsigned_last, last_byte, but_last}
-use Rattle.compare.specs.declared.Order.{Order}
-use Rattle.compare.specs.declared.Order.TheVariants.{Less, Equal, Greater}
+use Rattle.std.specs.declared.cmp.Ordering.{Ordering}
+use Rattle.std.specs.declared.cmp.Ordering.TheVariants.{Less, Equal, Greater}
 use Rattle.compare.specs.Order.{order}
 use Rattle.compare.specs.Compared.{then_order, byte_order, filled, character_order}
 use Rattle.compare.proofs.OrderLaws.{order_lt, order_eq, order_gt}
@@ -72,7 +72,7 @@ module _ (xs ys : List ℕ) where
   alike_unsigned true t i e same = absurd (false≢true (sym e))
 
 -- how two lists that are filled to n compare from i on
-abbrev order_from : ℕ → List ℕ → List ℕ → ℕ → Order
+abbrev order_from : ℕ → List ℕ → List ℕ → ℕ → Ordering
 order_from n xs ys i = byte_order (drop i (filled n xs)) (drop i (filled n ys))
 
 -- filled to n, the length of the longer, two lists agree before i: what follows decides
@@ -105,12 +105,12 @@ module _ {n : ℕ} {xs ys : List ℕ} {i : ℕ} (agree : Agree n xs ys i) where
   agree_end h = agree.after ∙ ap₂ byte_order (drop_past n xs i (omega arith) h) (drop_past n ys i (omega arith) h)
 
   module _ {x y : ℕ} (h : i < n) (ex : x ≡ get_or xs i 0x20) (ey : y ≡ get_or ys i 0x20) where
-    agree_at : (o : Order) → order x y ≡ o → character_order xs ys ≡ then_order o (order_from n xs ys (i + 1))
+    agree_at : (o : Ordering) → order x y ≡ o → character_order xs ys ≡ then_order o (order_from n xs ys (i + 1))
     unfolding byte_order
     agree_at o e =
         agree.after
         ∙ ap₂ byte_order (drop-filled n xs i (omega arith) h) (drop-filled n ys i (omega arith) h)
-        ∙ ap (λ (t : Order). then_order t (order_from n xs ys (i + 1))) (ap₂ order (sym ex) (sym ey) ∙ e)
+        ∙ ap (λ (t : Ordering). then_order t (order_from n xs ys (i + 1))) (ap₂ order (sym ex) (sym ey) ∙ e)
 
     pub agree_less : x < y → character_order xs ys ≡ Less
     agree_less l = agree_at Less (order_lt x y l)

@@ -3,7 +3,7 @@ ghost use Rattle.std.specs.Prelude.{◌≡◌, true, ◌≤◌, max, min, length
 ghost use Rattle.content.specs.Content.{unsigned_last};
 ghost use Rattle.compare.specs.Compared.{character_order};
 
-use compare::Order;
+use std::cmp::Ordering;
 
 // Character i of a side, whose last byte may hold a sign beside its digit.
 fn character_at(bytes: &[u8], signed_last: bool, i: usize) -> u8
@@ -44,10 +44,8 @@ fn block_same(left: &[u8], right: &[u8], size: usize) -> bool
     ensures { result ≡ true → take size left.now ≡ take size right.now }
 {
     let mut same = true;
-    let mut k: usize = 0;
-    while k < size {
+    for k in 0..size {
         same = same & (left[k] == right[k]);
-        k += 1;
     }
     same
 }
@@ -60,6 +58,7 @@ fn same_blocks(left: &[u8], right: &[u8], size: usize, from: usize) -> usize
 {
     let n = shorter(left.len(), right.len());
     let mut i = from;
+    // By place: where the block begins is the answer.
     while size <= n - i {
         if !block_same(&left[i..], &right[i..], size) {
             return i;
@@ -102,22 +101,26 @@ fn same_start(left: &[u8], left_signed: bool, right: &[u8], right_signed: bool) 
     same_bytes(left, right)
 }
 
-pub fn compare_characters(left: &[u8], left_signed: bool, right: &[u8], right_signed: bool) -> Order
+pub fn compare_characters(
+    left: &[u8],
+    left_signed: bool,
+    right: &[u8],
+    right_signed: bool,
+) -> Ordering
     requires { (1 ≤ length left.now) × (1 ≤ length right.now) }
     ensures { result ≡ character_order (unsigned_last left_signed left.now) (unsigned_last right_signed right.now) }
 {
     let n = longer(left.len(), right.len());
-    let mut i = same_start(left, left_signed, right, right_signed);
-    while i < n {
+    let start = same_start(left, left_signed, right, right_signed);
+    for i in start..n {
         let x = character_at(left, left_signed, i);
         let y = character_at(right, right_signed, i);
         if x < y {
-            return Order::Less;
+            return Ordering::Less;
         }
         if y < x {
-            return Order::Greater;
+            return Ordering::Greater;
         }
-        i += 1;
     }
-    Order::Equal
+    Ordering::Equal
 }

@@ -5,16 +5,8 @@ pub mod classes; // class tests
 pub mod orders; // what relation and sign words accept
 pub mod switches; // switches
 
-// How two sides compare.
-#[derive(Clone, Copy)]
-pub enum Order {
-    Less,
-    Equal,
-    Greater,
-}
-
 // What a numeric field holds: whether its content is valid, its sign and its digits.
-#[derive(Clone, Copy)]
+#[derive(Debug, Clone, Copy, PartialEq, Eq)]
 pub struct Number {
     pub valid: bool,
     pub minus: bool,

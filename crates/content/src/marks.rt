@@ -32,18 +32,12 @@ pub fn marks() -> [u64; 16]
     MARKS
 }
 
-fn wide(x: u8) -> usize
-    ensures { result ≡ x }
-{
-    x as usize
-}
-
 // The byte's mark, and above it those of the bytes after it.
 fn mark_of(marks: &[u64; 16], b: u8) -> u64
     requires { agree marks.now ≡ true }
     ensures { Marked b result }
 {
-    let row = wide(b / 16);
+    let row = (b / 16) as usize;
     marks[row] >> (b % 16 * 4)
 }
 

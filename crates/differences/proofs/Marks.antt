@@ -7,7 +7,7 @@ use mathlib.Core.Bool.{Bool, true, false, cond, not, ◌&&◌}
 use lib.ListN.{length, drop}
 use lib.Seq.{sets}
 use Rattle.compare.specs.declared.Number.{Number}
-use Rattle.compare.specs.declared.Order.{Order}
+use Rattle.std.specs.declared.cmp.Ordering.{Ordering}
 use Rattle.content.specs.Content.{signed, value}
 use Rattle.compare.specs.Order.{is_equal, relation_holds}
 use Rattle.compare.specs.Compared.{number_of, scaled_order}
@@ -78,7 +78,7 @@ module _ (r : Row) (xs ys : List ℕ) where
     pub mark_invalid : not (one.valid && other.valid) ≡ true → letter_i ≡ mark r xs ys
     mark_invalid h = rw (n, fails valid_read h)
 
-    pub mark_valid : not (one.valid && other.valid) ≡ false → {order : Order} {b : Bool} (t : Bool)
+    pub mark_valid : not (one.valid && other.valid) ≡ false → {order : Ordering} {b : Bool} (t : Bool)
         → order ≡ scaled_order (signed one.minus one.digits) r.scale (signed other.minus other.digits) r.scale
         → b ≡ relation_holds 7 order → b ≡ t → cond t letter_b letter_v ≡ mark r xs ys
     mark_valid v {order} t g h k =

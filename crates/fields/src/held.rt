@@ -70,6 +70,7 @@ pub fn first_wrong(row: Row, bytes: &[u8]) -> usize
 {
     let marks = marks();
     let mut at: usize = 0;
+    // There is a wrong byte, so that no end is looked for.
     while is_right(&marks, row, at == 0, at + 1 == bytes.len(), bytes[at]) {
         at += 1;
     }

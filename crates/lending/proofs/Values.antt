@@ -14,7 +14,7 @@ use borrow.Author.Tests.{lt-ltb, not-false}
 use Rattle.content.specs.declared.Row as Rules
 use Rattle.tables.specs.Rows.{row_count, row_at, is_numeric, part}
 use Rattle.tables.specs.Operands.{Lent}
-use Rattle.compare.specs.declared.Order.TheVariants.{Less, Equal, Greater}
+use Rattle.std.specs.declared.cmp.Ordering.TheVariants.{Less, Equal, Greater}
 use Rattle.compare.specs.Order.{is_greater, relation_holds}
 use Rattle.compare.specs.Compared.{then_order, byte_order, filled, scaled_order, character_order}
 use Rattle.values.specs.Comparison.{Side, side, numeric, value_of, characters, comparison}

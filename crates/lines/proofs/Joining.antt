@@ -6,6 +6,7 @@ use mathlib.Core.Logic.{◌⊎◌, inl, inr}
 use Prim.Native.Nat.{ℕ, zero, suc, ◌+◌, ◌-◌, ◌≤◌, ◌<◌}
 use native.Mathlib.Omega.{arith}
 use native.Mathlib.Nat.{add-zero}
+use native.Mathlib.Numerals.{add-one}
 use lib.ListN.{length, take, drop, replicate, length-append, length-drop, take-append-drop, drop_of_length-le, length-replicate}
 use lib.Seq.{paste, length-take-le, take_all, take_at, drop_at, drop-drop, take-append-le, take-append-add}
 use lib.Dec.{leb, ltb}
@@ -163,11 +164,10 @@ one_more : (n x : ℕ) → replicate n x ++ (x ∷ []) ≡ replicate (suc n) x
 one_more zero x = refl
 one_more (suc n) x = ap (λ (l : List ℕ). x ∷ l) (one_more n x)
 
-pub another_space : {out : List ℕ} {at count left end : ℕ} {after : List ℕ} {last : ℕ} {final : List ℕ} → left ≤ count → 0 < left
-    → Puts out at (replicate (count - left) 0x20) end after → Puts after end (0x20 ∷ []) last final → Puts out at (replicate (count - (left - 1)) 0x20) last final
-another_space {out} {at} {count} {left} {end} {after} {last} {final} few some P Q =
-    let e : count - (left - 1) ≡ suc (count - left) = omega (arith, few, some) in
-    rw e (subst (λ (l : List ℕ). Puts out at l last final) (one_more (count - left) 0x20) (joined P Q))
+pub another_space : {out : List ℕ} {at n end : ℕ} {after : List ℕ} {last : ℕ} {final : List ℕ} → Puts out at (replicate n 0x20) end after
+    → Puts after end (0x20 ∷ []) last final → Puts out at (replicate (n + 1) 0x20) last final
+another_space {out} {at} {n} {end} {after} {last} {final} P Q =
+    rw (add-one n) (subst (λ (l : List ℕ). Puts out at l last final) (one_more n 0x20) (joined P Q))
 
 -- a column
 pub wide_enough : {out : List ℕ} {at width end : ℕ} {text after : List ℕ} → width ≤ length text → Puts out at text end after

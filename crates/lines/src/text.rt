@@ -9,13 +9,9 @@ pub fn put(out: &mut [u8], at: usize, text: &[u8]) -> usize
     if at >= out.len() {
         return at;
     }
-    let room = out.len() - at;
-    let mut i: usize = 0;
-    while (i < text.len()) & (i < room) {
-        out[at + i] = text[i];
-        i += 1;
-    }
-    at + i
+    let n = text.len().min(out.len() - at);
+    out[at..at + n].copy_from_slice(&text[..n]);
+    at + n
 }
 
 // So many spaces.
@@ -23,10 +19,8 @@ pub fn put_spaces(out: &mut [u8], at: usize, count: usize) -> usize
     ensures { Puts out.old at (replicate count 0x20) result out.new }
 {
     let mut end = at;
-    let mut left = count;
-    while left > 0 {
+    for _ in 0..count {
         end = put(out, end, b" ");
-        left -= 1;
     }
     end
 }

@@ -4,11 +4,12 @@ ghost use Rattle.values.specs.Comparison.{side, comparison};
 ghost use Rattle.values.specs.Truth.{Fit};
 ghost use Rattle.literal_sides.specs.Ranges.{Held};
 
-use compare::{Number, Order};
+use compare::Number;
 use content::Row;
 use fields::held::valid_content;
 use numbers::reading::read_number;
 use scaled::compare_scaled;
+use std::cmp::Ordering;
 use tables::rows::is_numeric;
 use values::sides::compare_sides;
 
@@ -17,13 +18,7 @@ pub fn number_at(names: &[u32], at: usize) -> usize
     requires { at < length names.now }
     ensures { result ≡ get_or names.now at 0 }
 {
-    wide(names[at])
-}
-
-fn wide(x: u32) -> usize
-    ensures { result ≡ x }
-{
-    x as usize
+    names[at] as usize
 }
 
 // What a field holds, for all its comparisons.
@@ -49,7 +44,7 @@ pub fn compare_literal(
     number: Number,
     literal: Row,
     value: &[u8],
-) -> Order
+) -> Ordering
     requires fit { Fit (side item row bytes.now) × Fit (side false literal value.now) }
     requires held { Held row bytes.now number }
     ensures { result ≡ comparison (side item row bytes.now) (side false literal value.now) }

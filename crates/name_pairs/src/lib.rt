@@ -8,16 +8,16 @@ ghost use Rattle.values.specs.Names.{pair_sound, literal_side};
 ghost use Rattle.values.specs.Comparison.{comparison};
 ghost use Rattle.literal_sides.specs.Ranges.{Literals};
 
-use compare::Order;
 use compare::orders::relation_holds;
 use content::Row;
 use content::relations::GREATER;
 use literal_sides::literals::{compare_literal, held};
+use std::cmp::Ordering;
 use tables::rows::{is_numeric, row_at, row_part};
 use typing::sides::sides_fit;
 
 // How the two ends of a range compare, by their own kinds.
-fn compare_ends(literals: &[u32], bytes: &[u8], low: usize, high: usize) -> Order
+fn compare_ends(literals: &[u32], bytes: &[u8], low: usize, high: usize) -> Ordering
     requires { Literals literals.now bytes.now × (low < row_count literals.now) × (high < row_count literals.now) }
     ensures { result ≡ comparison (literal_side (lend [] literals.now bytes.now) low) (literal_side (lend [] literals.now bytes.now) high) }
 {

@@ -33,12 +33,10 @@ fn places_sound(item: Row, literals: &[u32], bytes: &[u8], names: &[u32], v: usi
     requires { Literals literals.now bytes.now × (v * name_width + 17 < length names.now) }
     ensures { result ≡ every (place_of literals.now bytes.now names.now item v) 8 }
 {
-    let mut k: usize = 0;
-    while k < 8 {
+    for k in 0..8 {
         if !place_sound(item, literals, bytes, names, v, k) {
             return false;
         }
-        k += 1;
     }
     true
 }

@@ -7,10 +7,11 @@ ghost use Rattle.values.specs.Names.{literal_side, in_range, name_holds};
 ghost use Rattle.values.specs.Truth.{name_outcome, Named, Fit};
 ghost use Rattle.literal_sides.specs.Ranges.{Held, Literals, Pairs};
 
+use compare::Number;
 use compare::orders::relation_holds;
-use compare::{Number, Order};
 use content::Row;
 use literal_sides::literals::{compare_literal, held, number_at};
+use std::cmp::Ordering;
 use tables::Outcome;
 use tables::rows::{NAME_WIDTH, row_at, row_part};
 use values::sides::stop_at;
@@ -23,7 +24,7 @@ fn compare_end(
     literals: &[u32],
     bytes: &[u8],
     end: usize,
-) -> Order
+) -> Ordering
     requires fit { Fit (side true row part.now) × Held row part.now number }
     requires literals { Literals literals.now bytes.now × (end < row_count literals.now) }
     ensures { result ≡ comparison (side true row part.now) (literal_side (lend [] literals.now bytes.now) end) }
@@ -72,14 +73,12 @@ fn some_range(
 {
     let at = v * NAME_WIDTH;
     let pairs = number_at(names, at + 1);
-    let mut k: usize = 0;
-    while k < pairs {
+    for k in 0..pairs {
         let low = number_at(names, at + 2 + k * 2);
         let high = number_at(names, at + 3 + k * 2);
         if in_range(row, part, number, literals, bytes, low, high) {
             return true;
         }
-        k += 1;
     }
     false
 }

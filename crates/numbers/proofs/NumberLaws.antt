@@ -16,7 +16,7 @@ use lib.Seq.{take-suc, take_all, take-add, length-take-le}
 use borrow.Author.Tests.{eqb-true, eqb-false}
 use Rattle.content.specs.Content.{all, is_digit, last_byte, but_last, number_from, signed}
 use Rattle.content.specs.Packed.{left_half, right_half, packed_from}
-use Rattle.compare.specs.declared.Order.TheVariants.{Less, Equal, Greater}
+use Rattle.std.specs.declared.cmp.Ordering.TheVariants.{Less, Equal, Greater}
 use Rattle.compare.specs.Order.{order, orderℤ}
 use Rattle.compare.specs.Compared.{scaled_order}
 use Rattle.compare.proofs.OrderLaws.{order_lt, order_eq, order_gt}

@@ -14,12 +14,6 @@ use eight_digits::digits::{all_digits, digits_value};
 use field_signs::signs::{is_minus, is_sign, is_signed_digit};
 use packed::halves::{digit_and_sign, left_half, may_lead, two_digits};
 
-fn wide(x: u8) -> u64
-    ensures { result ≡ x }
-{
-    x as u64
-}
-
 // Whether there are digits alone, eight at once; those that are more than eights come first.
 pub fn only_digits(bytes: &[u8]) -> bool
     ensures { result ≡ all is_digit bytes.now }
@@ -27,6 +21,7 @@ pub fn only_digits(bytes: &[u8]) -> bool
     let head = bytes.len() % 8;
     let mut fine = all_digits(short_word(&bytes[..head]));
     let mut i = head;
+    // By place: a word is read by its end in the field.
     while i < bytes.len() {
         fine = fine & all_digits(field_word(bytes, i + 8, 8));
         i += 8;
@@ -44,6 +39,7 @@ fn read_digits(bytes: &[u8]) -> Number
     let mut fine = all_digits(first);
     let mut n = digits_value(first);
     let mut i = head;
+    // By place, as above.
     while i < bytes.len() {
         let word = field_word(bytes, i + 8, 8);
         fine = fine & all_digits(word);
@@ -64,12 +60,9 @@ fn read_pairs(bytes: &[u8]) -> Number
 {
     let mut fine = true;
     let mut n: u64 = 0;
-    let mut i: usize = 0;
-    while i < bytes.len() {
-        let b = bytes[i];
-        fine = fine & two_digits(b);
-        n = n * 100 + wide(left_half(b)) * 10 + wide(b % 16);
-        i += 1;
+    for b in bytes {
+        fine = fine & two_digits(*b);
+        n = n * 100 + left_half(*b) as u64 * 10 + (*b % 16) as u64;
     }
     Number {
         valid: fine,
@@ -90,7 +83,7 @@ fn read_packed(row: Row, bytes: &[u8]) -> Number
     Number {
         valid: pairs.valid & digit_and_sign(row, b) & may_lead(row, bytes[0]),
         minus: is_minus(row, bytes),
-        digits: pairs.digits * 10 + wide(left_half(b)),
+        digits: pairs.digits * 10 + left_half(b) as u64,
     }
 }
 
@@ -133,7 +126,7 @@ fn read_display(row: Row, bytes: &[u8]) -> Number
         return Number {
             valid: rest.valid & is_signed_digit(b),
             minus: is_minus(row, bytes),
-            digits: rest.digits * 10 + wide(b % 16),
+            digits: rest.digits * 10 + (b % 16) as u64,
         };
     }
     Number {

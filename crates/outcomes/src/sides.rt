@@ -43,10 +43,12 @@ fn value_outcome(
 {
     let left = read_number(row1, bytes1);
     let right = read_number(row2, bytes2);
-    if item1 & !left.valid {
+    let left_stops = item1 & !left.valid;
+    if left_stops {
         return stop_at(row1, bytes1);
     }
-    if item2 & !right.valid {
+    let right_stops = item2 & !right.valid;
+    if right_stops {
         return stop_at(row2, bytes2);
     }
     let order = compare_scaled(

@@ -7,37 +7,32 @@ ghost use Rattle.content.specs.Content.{signed};
 ghost use Rattle.compare.specs.Order.{order, orderℤ};
 ghost use Rattle.compare.specs.Compared.{scaled_order};
 
-use compare::Order;
 use compare::orders::order_of;
+use std::cmp::Ordering;
 
 fn power_of_ten(s: u32) -> u64
     requires { s ≤ 18 }
     ensures { result ≡ 10 ^ s }
 {
-    let mut p: u64 = 1;
-    let mut i: u32 = 0;
-    while i < s {
-        p *= 10;
-        i += 1;
-    }
-    p
+    10u64.pow(s)
 }
 
 // d × 10^k against another number.
-fn raised_first(d: u64, k: u32, other: u64) -> Order
+fn raised_first(d: u64, k: u32, other: u64) -> Ordering
     requires { k ≤ 18 }
     ensures { result ≡ order (d * 10 ^ k) other }
 {
     let p = power_of_ten(k);
     let whole = other / p;
     if d == whole {
-        return order_of(0, other % p);
+        let rest = other % p;
+        return order_of(0, rest);
     }
     order_of(d, whole)
 }
 
 // A number against d × 10^k.
-fn raised_second(other: u64, d: u64, k: u32) -> Order
+fn raised_second(other: u64, d: u64, k: u32) -> Ordering
     requires { k ≤ 18 }
     ensures { result ≡ order other (d * 10 ^ k) }
 {
@@ -49,7 +44,7 @@ fn raised_second(other: u64, d: u64, k: u32) -> Order
     order_of(whole, d)
 }
 
-fn compare_magnitudes(d1: u64, s1: u32, d2: u64, s2: u32) -> Order
+fn compare_magnitudes(d1: u64, s1: u32, d2: u64, s2: u32) -> Ordering
     requires { (s1 ≤ 18) × (s2 ≤ 18) }
     ensures { result ≡ order (d1 * 10 ^ s2) (d2 * 10 ^ s1) }
 {
@@ -63,7 +58,7 @@ fn compare_magnitudes(d1: u64, s1: u32, d2: u64, s2: u32) -> Order
 }
 
 // Two values, each a sign and a magnitude, at their scales. Zero has one value whatever its sign.
-pub fn compare_scaled(minus1: bool, d1: u64, s1: u32, minus2: bool, d2: u64, s2: u32) -> Order
+pub fn compare_scaled(minus1: bool, d1: u64, s1: u32, minus2: bool, d2: u64, s2: u32) -> Ordering
     requires { (s1 ≤ 18) × (s2 ≤ 18) }
     ensures { result ≡ scaled_order (signed minus1 d1) s1 (signed minus2 d2) s2 }
 {
@@ -72,28 +67,28 @@ pub fn compare_scaled(minus1: bool, d1: u64, s1: u32, minus2: bool, d2: u64, s2:
             return compare_magnitudes(d2, s2, d1, s1);
         }
         if (d1 == 0) & (d2 == 0) {
-            return Order::Equal;
+            return Ordering::Equal;
         }
-        return Order::Less;
+        return Ordering::Less;
     }
     if minus2 {
         if (d1 == 0) & (d2 == 0) {
-            return Order::Equal;
+            return Ordering::Equal;
         }
-        return Order::Greater;
+        return Ordering::Greater;
     }
     compare_magnitudes(d1, s1, d2, s2)
 }
 
 // A value against 0.
-pub fn compare_zero(minus: bool, d: u64) -> Order
+pub fn compare_zero(minus: bool, d: u64) -> Ordering
     ensures { result ≡ orderℤ (signed minus d) (pos 0) }
 {
     if d == 0 {
-        return Order::Equal;
+        return Ordering::Equal;
     }
     if minus {
-        return Order::Less;
+        return Ordering::Less;
     }
-    Order::Greater
+    Ordering::Greater
 }

@@ -10,8 +10,8 @@ use lib.Bits.{bit_and, bit_or, and_mask, or_shifted}
 use lib.Pow.{pow_mono, shl_exact}
 use lib.ListN.{length, get_or, take, drop, replicate, length-drop, length-append, length-replicate, replicate-append-replicate}
 use lib.Seq.{take-suc, take_all, length-take-le}
-use Rattle.compare.specs.declared.Order.{Order}
-use Rattle.compare.specs.declared.Order.TheVariants.{Less, Equal, Greater}
+use Rattle.std.specs.declared.cmp.Ordering.{Ordering}
+use Rattle.std.specs.declared.cmp.Ordering.TheVariants.{Less, Equal, Greater}
 use Rattle.compare.specs.Order.{order}
 use Rattle.compare.specs.Compared.{then_order, byte_order, filled, character_order}
 use Rattle.compare.proofs.OrderLaws.{order_lt, order_eq, order_gt}
@@ -107,12 +107,12 @@ plain-filled xs n e h f =
     f ∙ ap (λ (k : ℕ). k * 2 ^ (8 * (n - length xs)) + word_from 0 (replicate (n - length xs) 0x20)) (whole xs e h) ∙ filled_is n xs refl
 
 -- the first pair of bytes that differs decides, in the words too
-then_equal : (o : Order) → then_order o Equal ≡ o
+then_equal : (o : Ordering) → then_order o Equal ≡ o
 then_equal Less = refl
 then_equal Equal = refl
 then_equal Greater = refl
 
-then_then : (a b c : Order) → then_order (then_order a b) c ≡ then_order a (then_order b c)
+then_then : (a b c : Ordering) → then_order (then_order a b) c ≡ then_order a (then_order b c)
 then_then Less b c = refl
 then_then Equal b c = refl
 then_then Greater b c = refl
@@ -121,12 +121,12 @@ byte_order_lem : (m n x y : ℕ) → x < 256 → y < 256 → order (m * 256 + x)
 byte_order_lem m n x y h g = by (dec_lt m n) (dec_lt n m)
   where
     by : Dec (m < n) → Dec (n < m) → order (m * 256 + x) (n * 256 + y) ≡ then_order (order m n) (order x y)
-    by (yes l) d = order_lt (m * 256 + x) (n * 256 + y) (omega arith) ∙ sym (ap (λ (o : Order). then_order o (order x y)) (order_lt m n l))
-    by (no l) (yes k) = order_gt (m * 256 + x) (n * 256 + y) (omega arith) ∙ sym (ap (λ (o : Order). then_order o (order x y)) (order_gt m n k))
+    by (yes l) d = order_lt (m * 256 + x) (n * 256 + y) (omega arith) ∙ sym (ap (λ (o : Ordering). then_order o (order x y)) (order_lt m n l))
+    by (no l) (yes k) = order_gt (m * 256 + x) (n * 256 + y) (omega arith) ∙ sym (ap (λ (o : Ordering). then_order o (order x y)) (order_gt m n k))
     by (no l) (no k) =
         let same : m ≡ n = omega arith in
         order_same (m * 256 + x) (n * 256 + y) x y (λ e. omega arith) (λ e. omega arith) (λ e. omega arith)
-        ∙ sym (ap (λ (o : Order). then_order o (order x y)) (order_eq m n same))
+        ∙ sym (ap (λ (o : Ordering). then_order o (order x y)) (order_eq m n same))
 
 words-order : {xs ys : List ℕ} → Bytes xs → Bytes ys → length xs ≡ length ys → (m n : ℕ)
     → order (word_from m xs) (word_from n ys) ≡ then_order (order m n) (byte_order xs ys)
@@ -136,7 +136,7 @@ words-order none (more l b) e m n = absurd (omega arith)
 words-order (more l a) none e m n = absurd (omega arith)
 words-order (more {x} {xs} l a) (more {x = y} {xs = ys} k b) e m n =
     words-order a b (omega arith) (m * 256 + x) (n * 256 + y)
-    ∙ ap (λ (o : Order). then_order o (byte_order xs ys)) (byte_order_lem m n x y l k)
+    ∙ ap (λ (o : Ordering). then_order o (byte_order xs ys)) (byte_order_lem m n x y l k)
     ∙ then_then (order m n) (order x y) (byte_order xs ys)
 
 bytes-append : {xs ys : List ℕ} → Bytes xs → Bytes ys → Bytes (xs ++ ys)

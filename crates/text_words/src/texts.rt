@@ -39,22 +39,14 @@ pub fn filled_text(bytes: &[u8], end: usize, size: usize, n: usize) -> u64
     fill(word_before(bytes, end) & mask(size), size, n)
 }
 
-fn wide(x: u8) -> u64
-    ensures { (result ≡ x) × (result < 256) }
-{
-    x as u64
-}
-
 // The same of a text that may have fewer than 8 bytes before its end, as a literal's: byte by byte.
 pub fn short_filled(bytes: &[u8], n: usize) -> u64
     requires { (1 ≤ length bytes.now) × (length bytes.now ≤ n) × (n ≤ 8) }
     ensures { result ≡ text_word n bytes.now }
 {
     let mut word: u64 = 0;
-    let mut i: usize = 0;
-    while i < bytes.len() {
-        word = word * 256 + wide(bytes[i]);
-        i += 1;
+    for b in bytes {
+        word = word * 256 + *b as u64;
     }
     fill(word, bytes.len(), n)
 }

@@ -13,7 +13,7 @@ use Rattle.content.specs.declared.Row.{Row}
 use Rattle.tables.specs.Rows.{is_group, is_numeric}
 use Rattle.tables.proofs.Bytes.{numeric-kinds}
 use Rattle.compare.specs.declared.Number.{Number}
-use Rattle.compare.specs.declared.Order.{Order}
+use Rattle.std.specs.declared.cmp.Ordering.{Ordering}
 use Rattle.compare.specs.Order.{relation_holds}
 use Rattle.compare.specs.Compared.{number_of}
 use Rattle.values.specs.Comparison.{Side, side, comparison, moved, wrong_byte, fault}
@@ -109,7 +109,7 @@ module _ (word : ℕ) (negated : Bool) {s s' o o' : Side} (left : s ≡ s') (rig
   object-stops f g stop =
       stops_there (is_group s.row) o g stop _ ∙ sym (goes_on s.row.kind (fault s o.row) _ f) ∙ ap₂ (relation_outcome word negated) left right
 
-  pub relation_goes : not (nowhere (fault s o.row)) ≡ false → not (nowhere (fault o s.row)) ≡ false → {order : Order} → order ≡ comparison s o
+  pub relation_goes : not (nowhere (fault s o.row)) ≡ false → not (nowhere (fault o s.row)) ≡ false → {order : Ordering} → order ≡ comparison s o
       → truth (turned negated (relation_holds word order)) ≡ relation_outcome word negated s' o'
   relation_goes f g k =
       ap (λ r. truth (turned negated (relation_holds word r))) k

@@ -18,8 +18,8 @@ use Rattle.tables.specs.Names.{name_item, name_pairs, name_low, name_high, names
 use Rattle.tables.proofs.Tests.{both, four}
 use Rattle.tables.proofs.Lines.{every_sound, lines_sound, AllSound}
 use Rattle.tables.proofs.Bytes.{part_length}
-use Rattle.compare.specs.declared.Order.{Order}
-use Rattle.compare.specs.declared.Order.TheVariants.{Less, Equal, Greater}
+use Rattle.std.specs.declared.cmp.Ordering.{Ordering}
+use Rattle.std.specs.declared.cmp.Ordering.TheVariants.{Less, Equal, Greater}
 use Rattle.compare.specs.Order.{relation_holds}
 use Rattle.values.specs.Comparison.{Side, comparison}
 use Rattle.values.specs.Names.{every, item_side, literal_side, comparable, pair_sound, place_sound, name_sound, lent_lines}
@@ -30,7 +30,7 @@ use Rattle.std.specs.Prelude.{Ok}
 pub single_value : (item value : Side) → relation_holds 8 (comparison item value) && relation_holds 9 (comparison item value) ≡ relation_holds 7 (comparison item value)
 single_value item value = by (comparison item value)
   where
-    by : (o : Order) → relation_holds 8 o && relation_holds 9 o ≡ relation_holds 7 o
+    by : (o : Ordering) → relation_holds 8 o && relation_holds 9 o ≡ relation_holds 7 o
     by Less = refl
     by Equal = refl
     by Greater = refl

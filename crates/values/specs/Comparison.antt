@@ -6,7 +6,7 @@ use Rattle.content.specs.declared.Row.{Row}
 use Rattle.tables.specs.Tokens.{is_item}
 use Rattle.tables.specs.Rows.{is_group, is_numeric}
 use Rattle.tables.specs.Operands.{Lent, row_of, operand_bytes}
-use Rattle.compare.specs.declared.Order.{Order}
+use Rattle.std.specs.declared.cmp.Ordering.{Ordering}
 use Rattle.compare.specs.Compared.{scaled_order, character_order}
 
 -- One side of a relation: an item or a literal, with its row and its bytes.
@@ -39,7 +39,7 @@ abbrev pub characters : Side → Side → List ℕ
 characters s other = cond (gives_digits s other) (digit_characters s.row.kind s.bytes) s.bytes
 
 -- "Two numeric sides: .." by value, "Other pairs: .." by characters
-unfoldable pub comparison : Side → Side → Order
+unfoldable pub comparison : Side → Side → Ordering
 comparison s o =
     cond (numeric s && numeric o)
     (scaled_order (value_of s) s.row.scale (value_of o) o.row.scale)

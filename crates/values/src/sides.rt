@@ -7,10 +7,10 @@ ghost use Rattle.values.specs.Comparison.{side, comparison, wrong_byte, fault};
 ghost use Rattle.values.specs.Truth.{Fit, Near, or_stop};
 
 use characters::filled::compare_characters;
-use compare::Order;
 use content::Row;
 use field_digits::digits::digit_bytes;
 use fields::held::{first_wrong, valid_content};
+use std::cmp::Ordering;
 use tables::rows::{is_group, is_numeric};
 use tables::{Outcome, Stop};
 
@@ -62,7 +62,7 @@ pub fn compare_sides(
     item2: bool,
     row2: Row,
     bytes2: &[u8],
-) -> Order
+) -> Ordering
     requires fit { Fit (side item1 row1 bytes1.now) × Fit (side item2 row2 bytes2.now) }
     requires row2_value { (is_numeric row1 && is_numeric row2) ≡ false }
     ensures { result ≡ comparison (side item1 row1 bytes1.now) (side item2 row2 bytes2.now) }

@@ -7,8 +7,8 @@ use Rattle.scaled.proofs.raised_first.Goals as goal
 pub nonzero_div-whole : goal.nonzero_div-whole
 nonzero_div-whole c = omega (arith, ten_pos c.args.k)
 
-pub nonzero_rem-other : goal.nonzero_rem-other
-nonzero_rem-other c = omega (arith, ten_pos c.args.k)
+pub nonzero_rem-rest : goal.nonzero_rem-rest
+nonzero_rem-rest c = omega (arith, ten_pos c.args.k)
 
 pub returns : goal.returns
 returns c =

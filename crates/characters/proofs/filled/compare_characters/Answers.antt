@@ -10,26 +10,26 @@ loop-i-init c =
     let s = c in
     let l = unsigned_length s.args.left_signed s.args.left.now s.requires.0 in
     let r = unsigned_length s.args.right_signed s.args.right.now s.requires.1 in
-    let start = c.same_start-i.ensures in
+    let start = c.same_start-start.ensures in
     let n = c.longer-n.ensures ∙ sym (ap₂ max l r) in
-    (omega arith, agree-start c.same_start-i.result n (omega arith) (omega arith) start.2)
+    agree-start c.same_start-start.result n (omega arith) (omega arith) start.2
 
 pub returns-then-x-y : goal.returns-then-x-y
 returns-then-x-y c =
     sym
-    (agree_less c.loop-i.invariant.1 c.loop-i-test.true
+    (agree_less c.loop-i.invariant c.loop-i-test.true
     c.character_at-x.ensures c.character_at-y.ensures c.if-x-y.true)
 
 pub returns-then-y-x : goal.returns-then-y-x
 returns-then-y-x c =
     sym
-    (agree_greater c.loop-i.invariant.1 c.loop-i-test.true
+    (agree_greater c.loop-i.invariant c.loop-i-test.true
     c.character_at-x.ensures c.character_at-y.ensures c.if-y-x.true)
 
 pub loop-i-preserved : goal.loop-i-preserved
 loop-i-preserved c =
-    let more = agree_more c.loop-i.invariant.1 c.loop-i-test.true in
-    (omega arith, more c.character_at-x.ensures c.character_at-y.ensures c.if-x-y.false c.if-y-x.false)
+    let more = agree_more c.loop-i.invariant c.loop-i-test.true in
+    more c.character_at-x.ensures c.character_at-y.ensures c.if-x-y.false c.if-y-x.false
 
 pub returns : goal.returns
-returns c = sym (agree_end c.loop-i.invariant.1 c.loop-i-test.false)
+returns c = sym (agree_end c.loop-i.invariant c.loop-i-test.false)

@@ -4,4 +4,4 @@ use borrow.Author.Rules.{rules}
 use Rattle.content.proofs.marks.mark_of.Goals as goal
 
 pub returns : goal.returns
-returns c = rw c.wide-row.ensures (marked c.args.marks.now c.args.b c.requires (search rules))
+returns c = marked c.args.marks.now c.args.b c.requires (search rules)

@@ -1,5 +1,5 @@
 -- The invariant: none of the ranges passed holds the item.
-use Prim.Native.Nat.{◌-◌, ◌≤◌, ℕ}
+use Prim.Native.Nat.{ℕ}
 use mathlib.Core.Path.{◌≡◌}
 use mathlib.Core.Bool.{Bool, true, false}
 use mathlib.Core.List.{List, []}
@@ -15,7 +15,4 @@ lies item literals bytes names v j =
     in_range item (literal_side (lend [] literals bytes) (name_low names v j)) (literal_side (lend [] literals bytes) (name_high names v j))
 
 abbrev pub invariant-loop-k : goal.invariant-loop-k
-invariant-loop-k l = (l.k ≤ l.pairs) × (some (lies (side true l.row l.part) l.literals l.bytes l.names l.v) l.k ≡ false)
-
-abbrev pub decreases-loop-k : goal.decreases-loop-k
-decreases-loop-k l = l.pairs - l.k
+invariant-loop-k l = some (lies (side true l.row l.part) l.literals l.bytes l.names l.v) l.k ≡ false

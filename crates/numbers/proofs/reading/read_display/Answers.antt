@@ -1,9 +1,9 @@
 -- Rests on what the callees return, by the kind: the digits beside the sign are those of a field of kind 3.
-use mathlib.Core.Path.{◌≡◌, ap, ap₂, ◌∙◌}
+use mathlib.Core.Path.{◌≡◌, ap, ◌∙◌}
 use mathlib.Core.List.{List}
-use Prim.Native.Nat.{ℕ, ◌+◌, ◌-◌, ◌*◌}
+use Prim.Native.Nat.{ℕ, ◌+◌, ◌-◌, ◌*◌, ◌%◌}
 use native.Mathlib.Omega.{arith}
-use lib.ListN.{length}
+use lib.ListN.{length, get_or}
 use Rattle.content.specs.Content.{number_from}
 use Rattle.content.proofs.WrongByte.{valid_digits, valid_signed, valid_leading, valid_trailing}
 use Rattle.compare.specs.declared.Number.{Number}
@@ -52,7 +52,7 @@ overflow_add-result c =
     let four = c.if-kind-eq-SIGNED.true in
     let few = rw four at start.requires.in_bounds.1 in
     let rest = rest_number digits.read_digits-rest.ensures (rw four at digits.plain_digits.ensures) in
-    omega (arith, few, number-room bytes (length bytes - 1) (omega arith) few, c.wide.ensures, rest)
+    omega (arith, few, number-room bytes (length bytes - 1) (omega arith) few, rest)
 
 pub returns-then-kind-eq-SIGNED : goal.returns-then-kind-eq-SIGNED
 returns-then-kind-eq-SIGNED c count =
@@ -61,7 +61,7 @@ returns-then-kind-eq-SIGNED c count =
     let bytes = start.args.bytes.now in
     let four = c.if-kind-eq-SIGNED.true in
     let rest = rest_number digits.read_digits-rest.ensures (rw four at digits.plain_digits.ensures) in
-    let number = ap₂ (λ (m n : ℕ). m * 10 + n) rest c.wide.ensures ∙ number_last bytes start.requires.in_bounds.0 in
+    let number = ap (λ (m : ℕ). m * 10 + get_or bytes (length bytes - 1) 0 % 16) rest ∙ number_last bytes start.requires.in_bounds.0 in
     rw (
       number,
       c.is_minus-then-kind-eq-SIGNED.ensures,

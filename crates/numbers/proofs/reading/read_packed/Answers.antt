@@ -20,7 +20,6 @@ overflow_add-result c =
     let bytes = pairs.args.bytes.now in
     omega (
       arith,
-      c.wide.ensures,
       c.left_half.ensures,
       ap (λ (r : Number). r.digits) pairs.read_pairs-pairs.ensures,
       packed-room bytes (length bytes - 1) 9 (omega arith) (omega arith),
@@ -31,7 +30,6 @@ returns c =
     let pairs = c in
     let start = pairs in
     rw (
-      c.wide.ensures,
       c.left_half.ensures,
       c.is_minus.ensures,
       c.may_lead.ensures,

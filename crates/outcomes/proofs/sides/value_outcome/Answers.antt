@@ -6,8 +6,8 @@ use Rattle.values.proofs.Reading.{by_value}
 use Rattle.values.proofs.Faults.{number_faulty, object-stops, relation_goes}
 use Rattle.outcomes.proofs.sides.value_outcome.Goals as goal
 
-pub returns-then-item2-right : goal.returns-then-item2-right
-returns-then-item2-right c =
+pub returns-then-right_stops : goal.returns-then-right_stops
+returns-then-right_stops c =
     let two = c in
     let start = two in
     let a = start.args in
@@ -16,7 +16,7 @@ returns-then-item2-right c =
     let one = number_faulty s o.row start.requires.1.kind two.read_number-left.ensures in
     let other = number_faulty o s.row start.requires.0.kind two.read_number-right.ensures in
     object-stops a.word a.negated {s = s} {s' = s} {o = o} {o' = o} refl refl
-    (sym one ∙ c.if-item1-left.false) (sym other ∙ c.if-item2-right.true) c.stop_at-then-item2-right.ensures
+    (sym one ∙ c.if-left_stops.false) (sym other ∙ c.if-right_stops.true) c.stop_at-then-right_stops.ensures
 
 pub returns : goal.returns
 returns c =
@@ -33,5 +33,5 @@ returns c =
     let order = rw (one, other) at c.compare_scaled-order.ensures in
     rw c.relation_holds.ensures at c.truth_value.ensures
     ∙ relation_goes a.word a.negated {s = s} {s' = s} {o = o} {o' = o} refl refl
-    (sym (number_faulty s o.row n one) ∙ go.if-item1-left.false) (sym (number_faulty o s.row m other) ∙ go.if-item2-right.false)
+    (sym (number_faulty s o.row n one) ∙ go.if-left_stops.false) (sym (number_faulty o s.row m other) ∙ go.if-right_stops.false)
     (order ∙ sym (by_value s o m n))
