@@ -12,7 +12,6 @@ use borrow.Author.Tests.{eq-eqb, ne_eqb, eqb-true, lt-ltb, le-ltb, not-true, not
 use Rattle.std.specs.Cmp.Lexicographic.{pointwise}
 use Rattle.description.specs.Grammar.{all, is_name_byte, same}
 use Rattle.description.proofs.Bytes.{and_both}
-use Rattle.keywords.proofs.Same.{same_lengths}
 use Rattle.spelling.specs.Names.{leading, names_at, every_name}
 use Rattle.spelling.specs.Meanings.{count, position}
 use Rattle.spelling.proofs.Cutting.{same_true}
@@ -60,6 +59,18 @@ module _ (rest : List ℕ) (n : ℕ) (e : n ≡ length (leading rest)) where
 
   pub part_is : take n rest ≡ leading rest
   part_is = rw e (leading-first rest)
+
+-- words of unequal lengths are not the same
+same_lengths : (u v : List ℕ) → (length u ≡ length v → ⊥) → false ≡ same u v
+unfolding same
+same_lengths [] [] h = absurd (h refl)
+same_lengths [] (b ∷ v) h = refl
+same_lengths (a ∷ u) [] h = refl
+same_lengths (a ∷ u) (b ∷ v) h = by (eqb a b) (same_lengths u v (λ e. h (ap suc e)))
+  where
+    by : (t : Bool) → false ≡ same u v → false ≡ t && same u v
+    by true e = e
+    by false e = refl
 
 -- a word beside the name at the head of some bytes
 pub too_short : (word rest : List ℕ) → length rest < length word → false ≡ same word (leading rest)
