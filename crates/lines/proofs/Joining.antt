@@ -164,9 +164,9 @@ one_more : (n x : ℕ) → replicate n x ++ (x ∷ []) ≡ replicate (suc n) x
 one_more zero x = refl
 one_more (suc n) x = ap (λ (l : List ℕ). x ∷ l) (one_more n x)
 
-pub another_space : {out : List ℕ} {at n end : ℕ} {after : List ℕ} {last : ℕ} {final : List ℕ} → Puts out at (replicate n 0x20) end after
+pub another_space : {out : List ℕ} {at : ℕ} (n : ℕ) {end : ℕ} {after : List ℕ} {last : ℕ} {final : List ℕ} → Puts out at (replicate n 0x20) end after
     → Puts after end (0x20 ∷ []) last final → Puts out at (replicate (n + 1) 0x20) last final
-another_space {out} {at} {n} {end} {after} {last} {final} P Q =
+another_space {out} {at} n {end} {after} {last} {final} P Q =
     rw (add-one n) (subst (λ (l : List ℕ). Puts out at l last final) (one_more n 0x20) (joined P Q))
 
 -- a column

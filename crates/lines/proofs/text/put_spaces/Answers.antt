@@ -11,7 +11,7 @@ pub loop-init : goal.loop-init
 loop-init c = put_nothing c.args.out.now c.args.at
 
 pub loop-preserved : goal.loop-preserved
-loop-preserved c = another_space c.loop.invariant c.put-end.ensures
+loop-preserved c = another_space c.loop.counter c.loop.invariant c.put-end.ensures
 
 pub returns : goal.returns
 returns c =
