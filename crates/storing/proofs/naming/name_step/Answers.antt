@@ -8,18 +8,18 @@ use Rattle.text_bytes.proofs.Laws.{inked_le}
 use Rattle.storing.proofs.Steps.{below, named_step, named-over, named-fault}
 use Rattle.storing.proofs.naming.name_step.Goals as goal
 
-pub returns-then-read : goal.returns-then-read
-returns-then-read c = named-over c.requires c.item_row-item.ensures c.start_of.ensures c.read_name.ensures c.in_ok-read.was c.if-read.true c.passed_by.ensures
+pub returns-then-t : goal.returns-then-t
+returns-then-t c = named-over c.requires c.item_row-item.ensures c.start_of.ensures c.read_name.ensures c.in_ok-read.was c.if-t.true c.passed_by.ensures
 
 pub store_name-requires : goal.store_name-requires
 store_name-requires c = grind (arith, common_steps, inked_le, below)
 
 pub overflow_add-next : goal.overflow_add-next
-overflow_add-next c = omega (arith, below c.requires c.item_row-item.ensures c.start_of.ensures c.read_name.ensures c.in_ok-read.was c.if-read.false)
+overflow_add-next c = omega (arith, below c.requires c.item_row-item.ensures c.start_of.ensures c.read_name.ensures c.in_ok-read.was c.if-t.false)
 
 pub returns : goal.returns
 returns c =
-    named_step c.requires c.item_row-item.ensures c.start_of.ensures c.read_name.ensures c.in_ok-read.was c.if-read.false refl
+    named_step c.requires c.item_row-item.ensures c.start_of.ensures c.read_name.ensures c.in_ok-read.was c.if-t.false refl
     (rw c.next_ink-named.ensures at c.store_name.ensures)
 
 pub returns-in_err-read : goal.returns-in_err-read
