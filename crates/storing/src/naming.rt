@@ -61,7 +61,9 @@ fn put_row(names: &mut [u32], i: usize, row: &[u32])
     ensures { names.new ≡ sets names.old (i * name_width) row.now }
 {
     let at = i * NAME_WIDTH;
-    names[at..at + NAME_WIDTH].copy_from_slice(row);
+    for k in 0..NAME_WIDTH {
+        names[at + k] = row[k];
+    }
 }
 
 // The row of a name, whose pairs are in `row`, and the place of the name.
