@@ -78,7 +78,7 @@ content_of (refused number place) = []
 -- an output: what is written, and the rest of it as it was; a refusal changes nothing
 abbrev pub output_of : Result Counts ReadRefusal → List ℕ → List ℕ → List ℕ
 output_of (Ok c) out before = out ++ drop (length out) before
-output_of (Err refusal) out before = before
+output_of (Err r) out before = before
 
 -- The whole answer of `read`, and its three outputs.
 pub record ReadAs (reading : Reading) (tokens literals content : List ℕ) (r : Result Counts ReadRefusal) (tokens_after literals_after content_after : List ℕ) : Type 0 where
@@ -104,7 +104,7 @@ line_of (unprinted number place) = []
 
 abbrev pub line_out : Result ℕ PrintRefusal → List ℕ → List ℕ → List ℕ
 line_out (Ok n) out before = out ++ drop (length out) before
-line_out (Err refusal) out before = before
+line_out (Err r) out before = before
 
 -- The whole answer of `print`, and its output.
 pub record PrintedAs (print : Print) (before : List ℕ) (r : Result ℕ PrintRefusal) (after : List ℕ) : Type 0 where

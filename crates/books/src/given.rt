@@ -1,11 +1,21 @@
 // What is given where there is room.
 ghost use Rattle.std.specs.Prelude.{◌≡◌, ◌*◌, ◌≤◌, length, take};
+ghost use Rattle.literal_bytes.specs.Written.{written_over};
 ghost use Rattle.books.specs.Calls.{Gives};
 ghost use Rattle.content.specs.Kinds.{row_width};
 
 use crate::{Counts, ReadRefusal};
 use content::Row;
 use lexer::Gathered;
+use literal_bytes::copies::copy_bytes;
+
+// Numbers over the start of an output.
+fn copy_numbers(from: &[u32], to: &mut [u32])
+    requires { length from.now ≤ length to.old }
+    ensures { to.new ≡ written_over from.now to.old }
+{
+    to[..from.len()].copy_from_slice(from);
+}
 
 // What was gathered. A refusal changes no output.
 pub fn give(
@@ -35,9 +45,9 @@ pub fn give(
     if content.len() < b {
         return Err(ReadRefusal::Room(b));
     }
-    out[..n].copy_from_slice(&tokens[..n]);
-    literals[..v].copy_from_slice(&rows[..v]);
-    content[..b].copy_from_slice(&bytes[..b]);
+    copy_numbers(&tokens[..n], out);
+    copy_numbers(&rows[..v], literals);
+    copy_bytes(&bytes[..b], content);
     Ok(Counts {
         tokens: n,
         literals: v,

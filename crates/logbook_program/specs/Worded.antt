@@ -39,7 +39,7 @@ item_with items byte = cond (nat_lt 64 (row_count items)) 64 (first_with items b
 -- tokens as words: how many bytes they have, none where they can't be printed
 abbrev pub count_in : Result ℕ PrintRefusal → ℕ
 count_in (Ok n) = n
-count_in (Err refusal) = 0
+count_in (Err r) = 0
 
 pub record Words (description literals bytes tokens out : List ℕ) (r : ℕ) (after : List ℕ) : Type 0 where
   pub printed : Result ℕ PrintRefusal

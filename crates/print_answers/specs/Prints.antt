@@ -6,7 +6,7 @@ use Rattle.answers.specs.Answer.{narrowed}
 
 abbrev pub print_count : Result ℕ PrintRefusal → ℕ
 print_count (Ok n) = n
-print_count (Err refusal) = 0
+print_count (Err r) = 0
 
 -- one count, or the place
 abbrev pub print_numbers : Result ℕ PrintRefusal → List ℕ

@@ -17,6 +17,13 @@ use tables::rows::{row_at, row_part};
 use tables::tokens::{ITEM, LITERAL, NAME, SPAN, SWITCH_ON};
 use vocabulary::spellings::{AT_SWITCHES, copy_word, word_size};
 
+// Inlined, the proofs of `token_size` and `put_token` didn't close.
+fn wide(x: u32) -> usize
+    ensures { result ≡ x }
+{
+    x as usize
+}
+
 fn literal_size(row: Row, bytes: &[u8]) -> usize
     requires { literal_sound bytes.now row ≡ true }
     ensures { result ≡ length (written (literal_of row bytes.now)) }
@@ -25,7 +32,7 @@ fn literal_size(row: Row, bytes: &[u8]) -> usize
     if row.kind == Row::ALPHANUMERIC {
         return quoted_size(part);
     }
-    pointed_size(row.scale as usize, part)
+    pointed_size(wide(row.scale), part)
 }
 
 fn put_literal(row: Row, bytes: &[u8], out: &mut [u8])
@@ -37,7 +44,7 @@ fn put_literal(row: Row, bytes: &[u8], out: &mut [u8])
         put_quoted(part, out);
         return;
     }
-    put_pointed(row.scale as usize, part, out);
+    put_pointed(wide(row.scale), part, out);
 }
 
 fn name_size(description: &[u8], place: u32) -> usize
@@ -66,7 +73,7 @@ pub(crate) fn token_size(
     requires { Printable description.now items places.now literals.now bytes.now token }
     ensures { result ≡ length (word_of (known_at description.now items places.now) literals.now bytes.now token) }
 {
-    let v = (token % SPAN) as usize;
+    let v = wide(token % SPAN);
     let kind = token / SPAN;
     if kind == ITEM {
         return name_size(description, places[v]);
@@ -96,7 +103,7 @@ pub(crate) fn put_token(
     requires token_in_bounds { length (word_of (known_at description.now items places.now) literals.now bytes.now token) ≤ length out.old }
     ensures { out.new ≡ written_over (word_of (known_at description.now items places.now) literals.now bytes.now token) out.old }
 {
-    let v = (token % SPAN) as usize;
+    let v = wide(token % SPAN);
     let kind = token / SPAN;
     if kind == ITEM {
         put_name(description, places[v], out);
