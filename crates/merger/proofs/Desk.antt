@@ -150,6 +150,9 @@ module _ (copies : Copies) (verdict : Verdict) (rows : ℕ) (counted : rows ≡ 
       → Leaves (merge_with [] copies verdict out list) (Err refusal) out list
   room_refuses e f = rw (sym rooms ∙ sym e ∙ f) (record { answered = refl; record_is = refl; contested_are = refl })
 
+  abbrev counts : ℕ → Result Merged Refusal
+  counts n = Ok (record { bytes = length copies.old; rows = n })
+
   module _ {line : Check} (e : line ≡ first_of (rooms_for (length copies.old) rows (length out) (length list))) (f : line ≡ Ok tt) where
     pub bytes_fit : length copies.old ≤ length out
     bytes_fit = room_fact (length copies.old) (length out) (lines_sound (rooms_for (length copies.old) rows (length out) (length list)) (sym e ∙ f)).0
@@ -161,7 +164,7 @@ module _ (copies : Copies) (verdict : Verdict) (rows : ℕ) (counted : rows ≡ 
         → left ≡ contested copies verdict ++ drop (length (contested copies verdict)) list
         → Leaves (merge_with [] copies verdict out list) (Ok (record { bytes = length copies.old; rows = rows })) merged left
     both_written m l =
-        rw (sym rooms ∙ sym e ∙ f) (record { answered = ap (λ (n : ℕ). Ok {E = Refusal} (record { bytes = length copies.old; rows = n })) counted; record_is = m; contested_are = l })
+        rw (sym rooms ∙ sym e ∙ f) (record { answered = ap counts counted; record_is = m; contested_are = l })
 
 -- the same with a record's output of that length
 pub ready_for : (copies : Copies) {n m : ℕ} → Ready copies n → m ≡ length copies.old → Ready copies m

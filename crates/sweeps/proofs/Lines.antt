@@ -8,7 +8,7 @@ use native.Mathlib.Nat.{zero-div}
 use lib.ListN.{length, take, drop, length-drop}
 use lib.Seq.{length-take-le}
 use lib.Dec.{eqb, leb}
-use Rattle.std.specs.Prelude.{Ok, Err}
+use Rattle.std.specs.Prelude.{Result, Ok, Err}
 use borrow.Author.Tests.{le-leb, lt-leb, eq-eqb, ne_eqb}
 use Rattle.tables.specs.declared.Refusal.{Refusal}
 use Rattle.tables.specs.declared.Refusal.TheVariants.{Room}
@@ -97,6 +97,9 @@ module _ (lent : Lent) (plan file : List ℕ) (size switches : ℕ) where
         → judged ≡ run_gives lent plan (take size (drop from file)) switches
     ran e = run-answers lent plan (take (from + size - from) (drop from file)) switches runnable e ∙ ap (λ (n : ℕ). run_gives lent plan (take n (drop from file)) switches) width
 
+  abbrev counted : ℕ → Result ℕ Unswept
+  counted n = Ok n
+
   module _ (output : List ℕ) where
     pub unruly : {refusal : Refusal} → first_of (rule_lines lent plan) ≡ Refused refusal → Leaves (sweep_gives lent plan file size switches output) (Err (Barred refusal)) output
     unfolding sweep_gives
@@ -132,7 +135,7 @@ module _ (lent : Lent) (plan file : List ℕ) (size switches : ℕ) where
           written l e =
               let enough = le-leb (length numbers) (length output) (omega (arith, count)) in
               let line : room_check numbers output ≡ Sound = rw enough in
-              rw (swept (tried ∙ line)) (record { answered = ap (Ok {E = Unswept}) (sym count); left = e ∙ ap (λ (n : ℕ). numbers ++ drop n output) (sym count) })
+              rw (swept (tried ∙ line)) (record { answered = ap counted (sym count); left = e ∙ ap (λ (n : ℕ). numbers ++ drop n output) (sym count) })
 
         -- no record, no number
         pub empty : length file ≡ 0 → Leaves (sweep_gives lent plan file size switches output) (Ok 0) output
