@@ -12,8 +12,7 @@ fn number_of(part: usize, word: &[u8]) -> u32
     ensures { result ≡ number_of part word.now }
 {
     match part {
-        BYTES => digits(word, 16),
-        RECORD => digits(word, 16),
+        BYTES | RECORD => digits(word, 16),
         _ => token_of(word),
     }
 }
@@ -22,10 +21,7 @@ fn number_of(part: usize, word: &[u8]) -> u32
 fn repeats(word: &[u8]) -> bool
     ensures { result ≡ is_repeat word.now }
 {
-    if word.len() > 1 {
-        return word[0] == b'x';
-    }
-    false
+    word.len() > 1 && word[0] == b'x'
 }
 
 fn add(store: &mut [u32], part: usize, word: &[u8])
@@ -37,8 +33,7 @@ fn add(store: &mut [u32], part: usize, word: &[u8])
     }
     match first(word) {
         b'[' => put(store, MARK, get(store, part)),
-        b']' => {}
-        0 => {}
+        b']' | 0 => {}
         _ => push(store, part, number_of(part, word)),
     }
 }
@@ -47,6 +42,7 @@ fn list(store: &mut [u32], part: usize, text: &[u8])
     ensures { store.new ≡ added_all store.old part (spaced text.now) }
 {
     let mut at: usize = 0;
+    // The step is a word.
     while at < text.len() {
         let end = find(text, at, b' ');
         add(store, part, &text[at..end]);
@@ -54,22 +50,14 @@ fn list(store: &mut [u32], part: usize, text: &[u8])
     }
 }
 
-fn wide(byte: u8) -> u32
-    ensures { result ≡ byte }
-{
-    byte as u32
-}
-
 fn quoted(store: &mut [u32], part: usize, text: &[u8])
     ensures { store.new ≡ pushed_all store.old part (before 0x22 (drop 1 text.now)) }
 {
-    let mut i: usize = 1;
-    while i < text.len() {
+    for i in 1..text.len() {
         if text[i] == b'"' {
             return;
         }
-        push(store, part, wide(text[i]));
-        i += 1;
+        push(store, part, u32::from(text[i]));
     }
 }
 

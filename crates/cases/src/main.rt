@@ -109,6 +109,7 @@ fn line(rt: &impl Print, store: &mut [u32], line: &[u8]) {
 
 fn lines(rt: &impl Print, store: &mut [u32], text: &[u8]) {
     let mut at: usize = 0;
+    // The step is a line.
     while at < text.len() {
         let end = find(text, at, b'\n');
         line(rt, store, &text[at..end]);

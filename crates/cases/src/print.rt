@@ -18,10 +18,8 @@ fn next_number(rt: &impl Print, n: u32) {
 }
 
 fn numbers(rt: &impl Print, all: &[u32]) {
-    let mut i: usize = 0;
-    while i < all.len() {
-        next_number(rt, all[i]);
-        i += 1;
+    for n in all {
+        next_number(rt, *n);
     }
 }
 

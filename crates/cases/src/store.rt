@@ -72,10 +72,8 @@ pub(crate) fn push(store: &mut [u32], part: usize, number: u32)
 fn again(store: &mut [u32], part: usize, from: u32, end: u32)
     ensures { store.new ≡ again_from store.old part from (end - from) }
 {
-    let mut i = from;
-    while i < end {
+    for i in from..end {
         push(store, part, get(store, place(part, i)));
-        i += 1;
     }
 }
 
@@ -85,10 +83,8 @@ pub(crate) fn repeat(store: &mut [u32], part: usize, times: u32)
 {
     let from = get(store, MARK);
     let end = get(store, part);
-    let mut done: u32 = 1;
-    while done < times {
+    for done in 1..times {
         again(store, part, from, end);
-        done += 1;
     }
 }
 
@@ -107,10 +103,8 @@ pub(crate) fn keep(store: &mut [u32], part: usize, numbers: &[u32])
     ensures { store.new ≡ kept_as store.old part numbers.now }
 {
     put(store, part, 0);
-    let mut i: usize = 0;
-    while i < numbers.len() {
-        push(store, part, numbers[i]);
-        i += 1;
+    for number in numbers {
+        push(store, part, *number);
     }
 }
 

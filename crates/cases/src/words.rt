@@ -21,8 +21,8 @@ fn of_one(byte: u8) -> u32
         b'>' => GREATER,
         b'<' => LESS,
         b'=' => EQUAL,
-        b'a'..=b'z' => (byte - b'a') as u32,
-        b'A'..=b'Z' => FIRST_LITERAL + (byte - b'A') as u32,
+        b'a'..=b'z' => u32::from(byte - b'a'),
+        b'A'..=b'Z' => FIRST_LITERAL + u32::from(byte - b'A'),
         _ => NONE,
     }
 }
@@ -31,8 +31,8 @@ fn of_two(first: u8, second: u8) -> u32
     ensures { result ≡ of_two first second }
 {
     match first {
-        b's' => FIRST_ON + (second % 16) as u32,
-        b'o' => FIRST_OFF + (second % 16) as u32,
+        b's' => FIRST_ON + u32::from(second % 16),
+        b'o' => FIRST_OFF + u32::from(second % 16),
         b'O' => OR,
         b'>' => GREATER_OR_EQUAL,
         b'<' => LESS_OR_EQUAL,
@@ -100,10 +100,7 @@ pub(crate) fn token_of(word: &[u8]) -> u32
 pub(crate) fn first(text: &[u8]) -> u8
     ensures { result ≡ first_of text.now }
 {
-    if text.len() > 0 {
-        return text[0];
-    }
-    0
+    text.first().copied().unwrap_or(0)
 }
 
 // Where a byte stands next, from a place on, or the end.
@@ -112,14 +109,12 @@ pub(crate) fn find(text: &[u8], start: usize, byte: u8) -> usize
     ensures lower_bound { (start ≤ result) × (result ≤ length text.now) }
     ensures value { result ≡ start + length (before byte (drop start text.now)) }
 {
-    let mut at = start;
-    while at < text.len() {
+    for at in start..text.len() {
         if text[at] == byte {
             return at;
         }
-        at += 1;
     }
-    at
+    text.len()
 }
 
 // 16 for a byte that is no digit.
@@ -127,8 +122,8 @@ fn digit(byte: u8) -> u32
     ensures { result ≡ digit_of byte }
 {
     match byte {
-        b'0'..=b'9' => (byte - b'0') as u32,
-        b'a'..=b'f' => (byte - b'a') as u32 + 10,
+        b'0'..=b'9' => u32::from(byte - b'0'),
+        b'a'..=b'f' => u32::from(byte - b'a') + 10,
         _ => 16,
     }
 }
@@ -157,10 +152,8 @@ pub(crate) fn digits(text: &[u8], radix: u32) -> u32
     ensures { result ≡ digits_from radix 0 text.now }
 {
     let mut value: u32 = 0;
-    let mut i: usize = 0;
-    while i < text.len() {
-        value = append(value, digit(text[i]), radix);
-        i += 1;
+    for byte in text {
+        value = append(value, digit(*byte), radix);
     }
     value
 }

@@ -21,10 +21,8 @@ fn item(rt: &impl Print, row: u32, mark: u32) {
 
 // A line for each row and mark.
 fn items(rt: &impl Print, list: &[u32]) {
-    let mut at: usize = 0;
-    while list.len() - at >= 2 {
-        item(rt, list[at], list[at + 1]);
-        at += 2;
+    for pair in list.chunks_exact(2) {
+        item(rt, pair[0], pair[1]);
     }
 }
 

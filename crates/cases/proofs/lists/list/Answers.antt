@@ -7,7 +7,7 @@ pub loop-at-preserved : goal.loop-at-preserved
 loop-at-preserved c =
     let next = one_word c.args.part c.args.text.now c.loop-at.store c.add.new.store c.loop-at.at c.find-end.result _ c.loop-at-test.true
     c.find-end.ensures.value refl c.add.ensures in
-    (c.add.auto.store ∙ c.loop-at.invariant.0, next ∙ c.loop-at.invariant.1)
+    next ∙ c.loop-at.invariant
 
 pub returns : goal.returns
-returns c = sym (no_word c.args.part c.args.text.now c.loop-at.store c.loop-at.at c.loop-at-test.false) ∙ c.loop-at.invariant.1
+returns c = sym (no_word c.args.part c.args.text.now c.loop-at.store c.loop-at.at c.loop-at-test.false) ∙ c.loop-at.invariant

@@ -4,12 +4,12 @@ use Rattle.cases.specs.Stores.{pushed_all}
 use Rattle.cases.proofs.Storing.{keeps_one, keeps_all}
 use Rattle.cases.proofs.store.keep.Goals as goal
 
-pub loop-i-preserved : goal.loop-i-preserved
-loop-i-preserved c =
-    let next = keeps_one c.args.part c.args.numbers.now c.loop-i.store c.push.new.store c.loop-i.i c.loop-i-test.true c.push.ensures in
-    (c.push.auto.store ∙ c.loop-i.invariant.0, omega (arith, c.loop-i-test.true), next ∙ c.loop-i.invariant.2)
+pub loop-number-preserved : goal.loop-number-preserved
+loop-number-preserved c =
+    let next = keeps_one c.args.part c.args.numbers.now c.loop-number.store c.push.new.store c.loop-number.number-index (omega arith) c.push.ensures in
+    next ∙ c.loop-number.invariant
 
 pub returns : goal.returns
 returns c =
-    sym (keeps_all c.args.part c.args.numbers.now c.loop-i.store c.loop-i.i c.loop-i-test.false) ∙ c.loop-i.invariant.2
+    sym (keeps_all c.args.part c.args.numbers.now c.loop-number.store c.loop-number.number-index (omega arith)) ∙ c.loop-number.invariant
     ∙ ap (λ s. pushed_all s c.args.part c.args.numbers.now) c.put.ensures

@@ -1,10 +1,7 @@
 -- `repeat` meets its contract.
-use Rattle.std.proofs.Common.{◌≡◌, ◌-◌, length}
+use Rattle.std.proofs.Common.{◌≡◌, ◌-◌}
 use Rattle.cases.specs.Stores.{times_more}
 use Rattle.cases.proofs.store.repeat.Given as goal
 
 abbrev pub invariant-loop-done : goal.invariant-loop-done
-invariant-loop-done l = (length l.store ≡ length l.initial.store) × (times_more l.store l.part l.from (l.end - l.from) (l.times - l.done) ≡ times_more l.initial.store l.part l.from (l.end - l.from) (l.times - 1))
-
-abbrev pub decreases-loop-done : goal.decreases-loop-done
-decreases-loop-done l = l.times - l.done
+invariant-loop-done l = times_more l.store l.part l.from (l.end - l.from) (l.times - l.done) ≡ times_more l.initial.store l.part l.from (l.end - l.from) (l.times - 1)

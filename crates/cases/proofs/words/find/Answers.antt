@@ -4,12 +4,11 @@ use Rattle.cases.proofs.Wording.{found_here, not_here, nowhere}
 use Rattle.cases.proofs.words.find.Goals as goal
 
 pub returns-then-text-at-clause-value : goal.returns-then-text-at-clause-value
-returns-then-text-at-clause-value c = omega (arith, found_here c.args.text.now c.args.byte c.loop-at.at c.loop-at-test.true c.if-text-at.true, c.loop-at.invariant.2)
+returns-then-text-at-clause-value c = omega (arith, found_here c.args.text.now c.args.byte c.loop-at.at (omega arith) c.if-text-at.true)
 
 pub loop-at-preserved : goal.loop-at-preserved
 loop-at-preserved c =
-    let next = not_here c.args.text.now c.args.byte c.loop-at.at c.loop-at-test.true c.if-text-at.false in
-    (omega (arith, c.loop-at.invariant.0), omega (arith, c.loop-at-test.true), omega (arith, next, c.loop-at.invariant.2))
+    omega (arith, not_here c.args.text.now c.args.byte c.loop-at.at (omega arith) c.if-text-at.false)
 
 pub returns-clause-value : goal.returns-clause-value
-returns-clause-value c = omega (arith, nowhere c.args.text.now c.args.byte c.loop-at.at c.loop-at-test.false, c.loop-at.invariant.2)
+returns-clause-value c = omega (arith, nowhere c.args.text.now c.args.byte c.loop-at.at (omega arith))

@@ -1,10 +1,7 @@
 -- `find` meets its contract.
-use Rattle.std.proofs.Common.{◌≡◌, ◌+◌, ◌-◌, ◌≤◌, length, drop}
+use Rattle.std.proofs.Common.{◌≡◌, ◌+◌, length, drop}
 use Rattle.cases.specs.Words.{before}
 use Rattle.cases.proofs.words.find.Given as goal
 
 abbrev pub invariant-loop-at : goal.invariant-loop-at
-invariant-loop-at l = (l.start ≤ l.at) × (l.at ≤ length l.text) × (l.at + length (before l.byte (drop l.at l.text)) ≡ l.start + length (before l.byte (drop l.start l.text)))
-
-abbrev pub decreases-loop-at : goal.decreases-loop-at
-decreases-loop-at l = length l.text - l.at
+invariant-loop-at l = l.at + length (before l.byte (drop l.at l.text)) ≡ l.start + length (before l.byte (drop l.start l.text))
