@@ -10,14 +10,11 @@ use tables::{Judged, Refusal, Written};
 
 // What plan, run, expand and plan again gave.
 #[derive(Clone, Copy)]
-pub enum Shown {
-    Refused(Refusal),
-    Calls {
-        count: usize,
-        judged: Judged,
-        expanded: Written,
-        again: Written,
-    },
+pub struct Shown {
+    pub count: usize,
+    pub judged: Judged,
+    pub expanded: Written,
+    pub again: Written,
 }
 
 pub fn show<'a>(
@@ -31,12 +28,12 @@ pub fn show<'a>(
     rows: &mut [u32],
     form: &mut [u32],
     second: &mut [u32],
-) -> Shown
+) -> Result<Shown, Refusal>
     ensures { Shows (lend_names items.now literals.now bytes.now names.now) tokens.now «record».now switches rows.old form.old second.old result rows.new form.new second.new }
 {
     let planned = plan(items, literals, bytes, names, tokens, rows);
     match planned {
-        Written::Refused(refusal) => Shown::Refused(refusal),
+        Written::Refused(refusal) => Err(refusal),
         Written::Count(count) => {
             let judged = run(
                 items,
@@ -49,18 +46,18 @@ pub fn show<'a>(
             );
             let expanded = expand(items, literals, bytes, names, tokens, form);
             match expanded {
-                Written::Refused(refusal) => Shown::Calls {
+                Written::Refused(refusal) => Ok(Shown {
                     count,
                     judged,
                     expanded,
                     again: Written::Refused(refusal),
-                },
-                Written::Count(length) => Shown::Calls {
+                }),
+                Written::Count(length) => Ok(Shown {
                     count,
                     judged,
                     expanded,
                     again: plan(items, literals, bytes, names, &form[..length], second),
-                },
+                }),
             }
         }
     }
