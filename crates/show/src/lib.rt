@@ -10,6 +10,7 @@ use tables::{Judged, Refusal};
 
 // What plan, run, expand and plan again gave.
 #[derive(Clone, Copy)]
+<<<<<<< HEAD
 pub enum Shown {
     Refused(Refusal),
     Calls {
@@ -18,6 +19,13 @@ pub enum Shown {
         expanded: Result<usize, Refusal>,
         again: Result<usize, Refusal>,
     },
+=======
+pub struct Shown {
+    pub count: usize,
+    pub judged: Judged,
+    pub expanded: Written,
+    pub again: Written,
+>>>>>>> hB/main
 }
 
 pub fn show<'a>(
@@ -31,13 +39,18 @@ pub fn show<'a>(
     rows: &mut [u32],
     form: &mut [u32],
     second: &mut [u32],
-) -> Shown
+) -> Result<Shown, Refusal>
     ensures { Shows (lend_names items.now literals.now bytes.now names.now) tokens.now «record».now switches rows.old form.old second.old result rows.new form.new second.new }
 {
     let planned = plan(items, literals, bytes, names, tokens, rows);
     match planned {
+<<<<<<< HEAD
         Err(refusal) => Shown::Refused(refusal),
         Ok(count) => {
+=======
+        Written::Refused(refusal) => Err(refusal),
+        Written::Count(count) => {
+>>>>>>> hB/main
             let judged = run(
                 items,
                 literals,
@@ -49,6 +62,7 @@ pub fn show<'a>(
             );
             let expanded = expand(items, literals, bytes, names, tokens, form);
             match expanded {
+<<<<<<< HEAD
                 Err(refusal) => Shown::Calls {
                     count,
                     judged,
@@ -56,11 +70,20 @@ pub fn show<'a>(
                     again: Err(refusal),
                 },
                 Ok(length) => Shown::Calls {
+=======
+                Written::Refused(refusal) => Ok(Shown {
+                    count,
+                    judged,
+                    expanded,
+                    again: Written::Refused(refusal),
+                }),
+                Written::Count(length) => Ok(Shown {
+>>>>>>> hB/main
                     count,
                     judged,
                     expanded,
                     again: plan(items, literals, bytes, names, &form[..length], second),
-                },
+                }),
             }
         }
     }

@@ -101,11 +101,11 @@ module _ (lent : Lent) (plan file : List ℕ) (size switches : ℕ) where
   counted n = Ok n
 
   module _ (output : List ℕ) where
-    pub unruly : {refusal : Refusal} → first_of (rule_lines lent plan) ≡ Refused refusal → Leaves (sweep_gives lent plan file size switches output) (Err (Barred refusal)) output
+    pub unruly : {refusal : Refusal} → first_of (rule_lines lent plan) ≡ Err refusal → Leaves (sweep_gives lent plan file size switches output) (Err (Barred refusal)) output
     unfolding sweep_gives
     unruly e = rw e (record { answered = refl; left = refl })
 
-    module _ (rules : first_of (rule_lines lent plan) ≡ Sound) where
+    module _ (rules : first_of (rule_lines lent plan) ≡ Ok tt) where
       pub uneven : evenly size (length file) ≡ false → Leaves (sweep_gives lent plan file size switches output) (Err Uneven) output
       unfolding sweep_gives
       uneven e = rw (rules, e) (record { answered = refl; left = refl })
@@ -115,7 +115,7 @@ module _ (lent : Lent) (plan file : List ℕ) (size switches : ℕ) where
         unfolding sweep_gives
         swept e = rw (rules, sizes, e)
 
-        pub short : {refusal : Refusal} → (length file ≡ 0 → ⊥) → record_check lent (take size file) ≡ Refused refusal
+        pub short : {refusal : Refusal} → (length file ≡ 0 → ⊥) → record_check lent (take size file) ≡ Err refusal
             → Leaves (sweep_gives lent plan file size switches output) (Err (Barred refusal)) output
         short some e = rw (swept (line_refused _ (held lent size file some e))) (record { answered = refl; left = refl })
 
@@ -134,7 +134,7 @@ module _ (lent : Lent) (plan file : List ℕ) (size switches : ℕ) where
               → Leaves (sweep_gives lent plan file size switches output) (Ok (length file / size * 4)) after
           written l e =
               let enough = le-leb (length numbers) (length output) (omega (arith, count)) in
-              let line : room_check numbers output ≡ Sound = rw enough in
+              let line : room_check numbers output ≡ Ok tt = rw enough in
               rw (swept (tried ∙ line)) (record { answered = ap counted (sym count); left = e ∙ ap (λ (n : ℕ). numbers ++ drop n output) (sym count) })
 
         -- no record, no number
