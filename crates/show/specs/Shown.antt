@@ -1,11 +1,5 @@
 -- Demand 3 of what the calls returned: a plan, its run, the expanded form, and the plan of that.
-<<<<<<< HEAD
-use Rattle.std.specs.Prelude.{◌≡◌, List, ℕ, ◌≤◌, length, take, Err, Ok}
-=======
 use Rattle.std.specs.Prelude.{◌≡◌, List, ℕ, ◌≤◌, length, take, Result, Ok, Err}
-use Rattle.tables.specs.declared.Written.{Written}
-use Rattle.tables.specs.declared.Written.TheVariants.{Count, Refused as Unwritten}
->>>>>>> hB/main
 use Rattle.tables.specs.declared.Judged.{Judged}
 use Rattle.tables.specs.declared.Refusal.{Refusal}
 use Rattle.tables.specs.Operands.{Lent}
@@ -41,16 +35,8 @@ module _ (lent : Lent) (tokens content : List ℕ) (switches : ℕ) (rows form s
     pub plans_again : length (expanded tree) ≤ length form → length (expanded tree) ≤ 256 → count ≤ length second →
         (again ≡ Ok count) × (take count second_after ≡ take count rows_after)
 
-<<<<<<< HEAD
-  abbrev pub Shows : Shown → List ℕ → List ℕ → List ℕ → Type 0
-  Shows (Refused refusal) rows_after form_after second_after =
-      Leaves (plan_gives lent tokens rows) (Err refusal) rows_after × (form_after ≡ form) × (second_after ≡ second)
-  Shows (Calls count judged formed again) rows_after form_after second_after =
-      ShownCalls count judged formed again rows_after form_after second_after
-=======
   abbrev pub Shows : Result Shown Refusal → List ℕ → List ℕ → List ℕ → Type 0
   Shows (Err refusal) rows_after form_after second_after =
-      Leaves (plan_gives lent tokens rows) (Unwritten refusal) rows_after × (form_after ≡ form) × (second_after ≡ second)
+      Leaves (plan_gives lent tokens rows) (Err refusal) rows_after × (form_after ≡ form) × (second_after ≡ second)
   Shows (Ok s) rows_after form_after second_after =
       ShownCalls s.count s.judged s.expanded s.again rows_after form_after second_after
->>>>>>> hB/main

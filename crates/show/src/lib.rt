@@ -10,22 +10,11 @@ use tables::{Judged, Refusal};
 
 // What plan, run, expand and plan again gave.
 #[derive(Clone, Copy)]
-<<<<<<< HEAD
-pub enum Shown {
-    Refused(Refusal),
-    Calls {
-        count: usize,
-        judged: Judged,
-        expanded: Result<usize, Refusal>,
-        again: Result<usize, Refusal>,
-    },
-=======
 pub struct Shown {
     pub count: usize,
     pub judged: Judged,
-    pub expanded: Written,
-    pub again: Written,
->>>>>>> hB/main
+    pub expanded: Result<usize, Refusal>,
+    pub again: Result<usize, Refusal>,
 }
 
 pub fn show<'a>(
@@ -44,13 +33,8 @@ pub fn show<'a>(
 {
     let planned = plan(items, literals, bytes, names, tokens, rows);
     match planned {
-<<<<<<< HEAD
-        Err(refusal) => Shown::Refused(refusal),
+        Err(refusal) => Err(refusal),
         Ok(count) => {
-=======
-        Written::Refused(refusal) => Err(refusal),
-        Written::Count(count) => {
->>>>>>> hB/main
             let judged = run(
                 items,
                 literals,
@@ -62,23 +46,13 @@ pub fn show<'a>(
             );
             let expanded = expand(items, literals, bytes, names, tokens, form);
             match expanded {
-<<<<<<< HEAD
-                Err(refusal) => Shown::Calls {
+                Err(refusal) => Ok(Shown {
                     count,
                     judged,
                     expanded,
                     again: Err(refusal),
-                },
-                Ok(length) => Shown::Calls {
-=======
-                Written::Refused(refusal) => Ok(Shown {
-                    count,
-                    judged,
-                    expanded,
-                    again: Written::Refused(refusal),
                 }),
-                Written::Count(length) => Ok(Shown {
->>>>>>> hB/main
+                Ok(length) => Ok(Shown {
                     count,
                     judged,
                     expanded,
