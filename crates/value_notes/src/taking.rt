@@ -12,7 +12,10 @@ use value_weights::Weighed;
 fn passed(tally: Tally) -> Tally
     ensures { result ≡ record { over = true; values = tally.values; literals = tally.literals; bytes = tally.bytes } }
 {
-    Tally { over: true, ..tally }
+    Tally {
+        over: true,
+        ..tally
+    }
 }
 
 fn take_single(low: Row, found: Found, tally: Tally, row: &mut [u32], notes: &mut [u32]) -> Tally
