@@ -57,7 +57,7 @@ const ENTRIES: [u8; 119] = *b"\
 const NAMES: [u32; 0] = [];
 
 // What is judged: the tokens of a rule, or its plan.
-#[derive(Clone, Copy)]
+#[derive(Clone, Copy, Debug, PartialEq, Eq)]
 enum By {
     Tokens,
     Plan,
@@ -160,20 +160,15 @@ fn row_line(rt: &impl Print, literals: &[u32], bytes: &[u8], k: usize, row: Plan
 // The plan, row by row.
 fn plan_table(rt: &impl Print, literals: &[u32], bytes: &[u8], plan: &[u32]) {
     let rows = plan.len() / 5;
-    let mut k: usize = 0;
-    while k < rows {
+    for k in 0..rows {
         row_line(rt, literals, bytes, k, plan_row(plan, k));
-        k += 1;
     }
 }
 
 fn holds(row: Row, byte: usize) -> bool {
     let start = row.offset as usize;
     let size = row.size as usize;
-    if byte < start {
-        return false;
-    }
-    byte - start < size
+    start <= byte && byte - start < size
 }
 
 // The elementary item that has a byte of the record, of at most 64.
@@ -182,15 +177,11 @@ fn item_at(rows: &[u32], byte: usize) -> u32 {
     if 64 < count {
         return 0;
     }
-    let mut v: usize = 0;
-    while v < count {
+    for v in 0..count {
         let row = row_at(rows, v);
-        if !is_group(row) {
-            if holds(row, byte) {
-                return v as u32;
-            }
+        if !is_group(row) && holds(row, byte) {
+            return v as u32;
         }
-        v += 1;
     }
     0
 }
@@ -276,17 +267,8 @@ fn each_entry<'a>(
     entries: &'a [u8],
 ) {
     let size = entry_size(rows);
-    let count = entries.len() / size;
-    let mut n: usize = 0;
-    let mut at: usize = 0;
-    while n < count {
-        if entries.len() - at < size {
-            return;
-        }
-        let end = at + size;
-        n += 1;
-        entry_line(rt, rows, literals, bytes, by, numbers, n, &entries[at..end]);
-        at = end;
+    for (i, entry) in entries.chunks_exact(size).enumerate() {
+        entry_line(rt, rows, literals, bytes, by, numbers, i + 1, entry);
     }
 }
 
@@ -458,7 +440,7 @@ fn unguarded(rt: &impl Print, rows: &[u32], literals: &[u32], bytes: &[u8], toke
 }
 
 // Which of the two rules is shown.
-#[derive(Clone, Copy)]
+#[derive(Clone, Copy, Debug, PartialEq, Eq)]
 enum Shown {
     Guarded,
     Unguarded,
