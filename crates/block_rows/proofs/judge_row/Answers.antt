@@ -13,9 +13,8 @@ judge_record-truth-requires c = first_readable c.requires.judgeable
 
 pub returns-then-relation-subject : goal.returns-then-relation-subject
 returns-then-relation-subject c =
-    let start = c in
-    let a = start.args in
+    let a = c.args in
     let t = both (eqb a.condition.relation 0) _ c.if-relation-subject.true in
     once (lend_names a.items.now a.literals.now a.bytes.now a.names.now) a.records.now a.block.from a.block.size a.block.n a.switches a.condition
-    a.at.now a.row c.fill.new.numbers _ start.requires.judgeable.laid.few (eqb-true a.condition.relation 0 t.0) (not-true _ t.1)
+    a.at.now a.row c.fill.new.numbers _ c.requires.judgeable.laid.few (eqb-true a.condition.relation 0 t.0) (not-true _ t.1)
     c.judge_record-truth.ensures c.fill.ensures

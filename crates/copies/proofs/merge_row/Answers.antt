@@ -10,11 +10,9 @@ use Rattle.copies.proofs.merge_row.Goals as goal
 
 pub put_part-requires : goal.put_part-requires
 put_part-requires c =
-    let c4 = c in
-    let c11 = c4 in
-    let a = c11.args in
-    let pre = c11.requires in
-    let got = c.merged_item-item.ensures ∙ chosen_from a.verdict c4.row_part.ensures c.row_part-2.ensures c.row_part-3.ensures
+    let a = c.args in
+    let pre = c.requires in
+    let got = c.merged_item-item.ensures ∙ chosen_from a.verdict c.row_part.ensures c.row_part-2.ensures c.row_part-3.ensures
     in (
       ap length got ∙ merged_length a.verdict _ _ _ a.row.size (part_length a.row a.old.now pre.0) (part_length a.row a.first.now
           (omega (arith, pre))) (part_length a.row a.second.now (omega (arith, pre))),

@@ -17,15 +17,13 @@ loop-v-init c = (omega arith, ap length c.copy_bytes.ensures, c.copy_bytes.ensur
 
 pub loop-v-preserved : goal.loop-v-preserved
 loop-v-preserved c =
-    let c4 = c in
-    let c16 = c4 in
-    let a = c16.args in
-    let turn = c4.loop-v in
+    let a = c.args in
+    let turn = c.loop-v in
     let copies = copies_of a.items.now a.old.now a.first.now a.second.now in (
       omega arith,
       c.out-in-loop-v-1.given ∙ turn.invariant.1,
       c.merge_row.ensures ∙ ap (λ (r : Row). cond (is_elementary r) (replaced r
-          (merged_item a.verdict (part r a.old.now) (part r a.first.now) (part r a.second.now)) turn.out) turn.out) c4.row_at.ensures
+          (merged_item a.verdict (part r a.old.now) (part r a.first.now) (part r a.second.now)) turn.out) turn.out) c.row_at.ensures
           ∙ ap (λ (l : List ℕ). cond (is_elementary (row_at a.items.now turn.v)) (replaced (row_at a.items.now turn.v) ((merged_at copies a.verdict)
           turn.v) l) l) turn.invariant.2 ∙ sym (rewritten_more a.items.now (merged_at copies a.verdict) a.old.now turn.v),
     )

@@ -4,5 +4,4 @@ use Rattle.name_lines.proofs.put_name.Goals as goal
 
 pub returns : goal.returns
 returns c =
-    let named = c in
-    joined (joined named.put-level.ensures named.put-named.ensures) c.put.ensures
+    joined (joined c.put-level.ensures c.put-named.ensures) c.put.ensures

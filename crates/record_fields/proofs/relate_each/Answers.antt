@@ -15,46 +15,40 @@ use Rattle.record_fields.proofs.relate_each.Goals.{then-at-j, else-at-j}
 
 pub side_bytes-first-requires : goal.side_bytes-first-requires
 side_bytes-first-requires c =
-    let c4 = c in
-    let c10 = c4 in
-    λ i. let l = c4.loop-j in
-    let a = c10.args in
-    rw (at_record a.records.now a.block.from a.block.size l.j l.invariant.starts) (item_inside a.item1 a.row1 _ a.left.now (c10.requires.by_index l.j
+    λ i. let l = c.loop-j in
+    let a = c.args in
+    rw (at_record a.records.now a.block.from a.block.size l.j l.invariant.starts) (item_inside a.item1 a.row1 _ a.left.now (c.requires.by_index l.j
     (omega arith)).0 i)
 
 pub side_bytes-second-requires : goal.side_bytes-second-requires
 side_bytes-second-requires c =
-    let c4 = c in
-    let c11 = c4 in
-    λ i. let l = c4.loop-j in
-    let a = c11.args in
-    rw (at_record a.records.now a.block.from a.block.size l.j l.invariant.starts) (item_inside a.item2 a.row2 _ a.right.now (c11.requires.by_index l.j
+    λ i. let l = c.loop-j in
+    let a = c.args in
+    rw (at_record a.records.now a.block.from a.block.size l.j l.invariant.starts) (item_inside a.item2 a.row2 _ a.right.now (c.requires.by_index l.j
     (omega arith)).1 i)
 
 pub side_truth-requires : goal.side_truth-requires
 side_truth-requires c =
     let l = c.loop-j in
-    let start = c in
-    let a = start.args in
-    let f = start.requires.by_index l.j (omega arith) in
-    rw (c.side_bytes-first.ensures, c.side_bytes-second.ensures, at_record a.records.now a.block.from a.block.size l.j l.invariant.starts) (f.0, f.1, start.requires.laid.3)
+    let a = c.args in
+    let f = c.requires.by_index l.j (omega arith) in
+    rw (c.side_bytes-first.ensures, c.side_bytes-second.ensures, at_record a.records.now a.block.from a.block.size l.j l.invariant.starts) (f.0, f.1, c.requires.laid.3)
 
 pub loop-j-preserved : goal.loop-j-preserved
 loop-j-preserved c =
     let l = c.loop-j in
-    let start = c in
-    let a = start.args in
+    let a = c.args in
     let here = at_record a.records.now a.block.from a.block.size l.j l.invariant.starts in
     let turn : l.j < a.block.n = omega arith in
     elim c.if-at-j.branch [
       | then-at-j w ↦
-          rw w.truths-is (tells start.requires.laid.0 start.requires.laid.2 l.invariant turn (at_place w.if-at-j.true (right_for
+          rw w.truths-is (tells c.requires.laid.0 c.requires.laid.2 l.invariant turn (at_place w.if-at-j.true (right_for
           (ap₂ (λ (x y : List ℕ). relation_outcome a.word a.negated (side a.item1 a.row1 x) (side a.item2 a.row2 y))
           (w.side_bytes-first.ensures ∙ ap (λ (x : List ℕ). cond a.item1 (part a.row1 x) a.left.now) here)
           (w.side_bytes-second.ensures ∙ ap (λ (x : List ℕ). cond a.item2 (part a.row2 x) a.right.now) here))
           w.side_truth.ensures)))
       | else-at-j w ↦
-          rw w.truths-is (leaves start.requires.laid.0 start.requires.laid.2 l.invariant turn (off_place w.if-at-j.false))
+          rw w.truths-is (leaves c.requires.laid.0 c.requires.laid.2 l.invariant turn (off_place w.if-at-j.false))
     ]
 
 pub returns : goal.returns

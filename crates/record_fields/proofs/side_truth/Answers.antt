@@ -7,7 +7,6 @@ use Rattle.record_fields.proofs.side_truth.Goals as goal
 
 pub value_truth-requires : goal.value_truth-requires
 value_truth-requires c =
-    let start = c in
-    let a = start.args in
-    let n = both (is_numeric a.row1) (is_numeric a.row2) (sym start.requires.2 ∙ c.if-numeric.true) in
-    (numeral start.requires.0 n.0, numeral start.requires.1 n.1)
+    let a = c.args in
+    let n = both (is_numeric a.row1) (is_numeric a.row2) (sym c.requires.2 ∙ c.if-numeric.true) in
+    (numeral c.requires.0 n.0, numeral c.requires.1 n.1)

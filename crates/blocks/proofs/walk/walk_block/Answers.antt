@@ -20,23 +20,20 @@ overflow_cast-rows c =
     omega (arith, few)
 
 pub loop-row-init : goal.loop-row-init
-loop-row-init c =
-    let s = c in (
-      refl,
-      (c.start.auto.at ∙ s.requires.at_len.0, c.fill.auto.numbers ∙ s.requires.at_len.1, refl),
-      begins _ _ _ _ _ _ _ s.requires.walkable c.start.ensures c.fill.ensures c.least-row.ensures,
-    )
+loop-row-init c = (
+  refl,
+  (c.start.auto.at ∙ c.requires.at_len.0, c.fill.auto.numbers ∙ c.requires.at_len.1, refl),
+  begins _ _ _ _ _ _ _ c.requires.walkable c.start.ensures c.fill.ensures c.least-row.ensures,
+)
 
 pub judge_row-requires : goal.judge_row-requires
 judge_row-requires c =
     let lent : (Lent) = (lend_names c.args.items.now c.args.literals.now c.args.bytes.now c.args.names.now) in
     let under : (c.loop-row.row < plan_rows c.args.plan.now) = (omega (arith, c.loop-row.invariant.0, c.loop-row-test.true)) in
     let row_is : (c.plan_row-condition.result ≡ plan_row c.args.plan.now c.loop-row.row) = c.plan_row-condition.ensures in
-    let turn = c in
-    let s = c in
-    let a = s.args in record {
-      judgeable = rw row_is (judgeable lent a.plan.now a.records.now a.block.from a.block.size a.block.n a.switches s.requires.walkable under);
-      at_len = (turn.loop-row.invariant.1.0, turn.loop-row.invariant.1.2);
+    let a = c.args in record {
+      judgeable = rw row_is (judgeable lent a.plan.now a.records.now a.block.from a.block.size a.block.n a.switches c.requires.walkable under);
+      at_len = (c.loop-row.invariant.1.0, c.loop-row.invariant.1.2);
     }
 
 pub place_of-holds-requires : goal.place_of-holds-requires
@@ -44,10 +41,8 @@ place_of-holds-requires c =
     let lent : (Lent) = (lend_names c.args.items.now c.args.literals.now c.args.bytes.now c.args.names.now) in
     let few : (plan_rows c.args.plan.now ≤ 128) = (few_rows lent c.args.plan.now c.args.records.now c.args.block.from c.args.block.size c.args.block.n c.args.switches c.requires.walkable) in
     let under : (c.loop-row.row < plan_rows c.args.plan.now) = (omega (arith, c.loop-row.invariant.0, c.loop-row-test.true)) in
-    let known : (Sure lent (plan_rows c.args.plan.now) c.loop-row.row (plan_row c.args.plan.now c.loop-row.row)) = (let s = c in
-    known-row lent s.args.plan.now s.args.records.now s.args.block.from s.args.block.size s.args.block.n s.args.switches s.requires.walkable under) in
+    let known : (Sure lent (plan_rows c.args.plan.now) c.loop-row.row (plan_row c.args.plan.now c.loop-row.row)) = (known-row lent c.args.plan.now c.args.records.now c.args.block.from c.args.block.size c.args.block.n c.args.switches c.requires.walkable under) in
     let row_is : (c.plan_row-condition.result ≡ plan_row c.args.plan.now c.loop-row.row) = c.plan_row-condition.ensures in
-    let turn = c in
     rw row_is (placed few known.holds)
 
 pub place_of-fails-requires : goal.place_of-fails-requires
@@ -55,10 +50,8 @@ place_of-fails-requires c =
     let lent : (Lent) = (lend_names c.args.items.now c.args.literals.now c.args.bytes.now c.args.names.now) in
     let few : (plan_rows c.args.plan.now ≤ 128) = (few_rows lent c.args.plan.now c.args.records.now c.args.block.from c.args.block.size c.args.block.n c.args.switches c.requires.walkable) in
     let under : (c.loop-row.row < plan_rows c.args.plan.now) = (omega (arith, c.loop-row.invariant.0, c.loop-row-test.true)) in
-    let known : (Sure lent (plan_rows c.args.plan.now) c.loop-row.row (plan_row c.args.plan.now c.loop-row.row)) = (let s = c in
-    known-row lent s.args.plan.now s.args.records.now s.args.block.from s.args.block.size s.args.block.n s.args.switches s.requires.walkable under) in
+    let known : (Sure lent (plan_rows c.args.plan.now) c.loop-row.row (plan_row c.args.plan.now c.loop-row.row)) = (known-row lent c.args.plan.now c.args.records.now c.args.block.from c.args.block.size c.args.block.n c.args.switches c.requires.walkable under) in
     let row_is : (c.plan_row-condition.result ≡ plan_row c.args.plan.now c.loop-row.row) = c.plan_row-condition.ensures in
-    let turn = c in
     rw row_is (placed few known.fails)
 
 pub loop-row-smaller : goal.loop-row-smaller
@@ -68,15 +61,14 @@ loop-row-smaller c =
     let under : (c.loop-row.row < plan_rows c.args.plan.now) = (omega (arith, c.loop-row.invariant.0, c.loop-row-test.true)) in
     let row_is : (c.plan_row-condition.result ≡ plan_row c.args.plan.now c.loop-row.row) = c.plan_row-condition.ensures in
     let goes_on : ((c.loop-row.row < c.least-row-in-loop-row.result)
-    × Here c.advance.new.at c.advance.new.counts c.least-row-in-loop-row.result) = (let s = c in
-    let a = s.args in
+    × Here c.advance.new.at c.advance.new.counts c.least-row-in-loop-row.result) = (let a = c.args in
     let l = c.loop-row in
     let e = row_is in
     let judged = c.judge_row in
     let went = c.advance in
     let holds = c.place_of-holds.ensures in
     let fails = c.place_of-fails.ensures in
-    onward lent a.plan.now a.records.now a.block.from a.block.size a.block.n a.switches s.requires.walkable l.at l.counts
+    onward lent a.plan.now a.records.now a.block.from a.block.size a.block.n a.switches c.requires.walkable l.at l.counts
     judged.new.truths went.new.at went.new.counts l.row c.least-row-in-loop-row.result l.invariant.2
     under (rw e at judged.ensures) (rw (holds, fails, e) at went.ensures.by_index) went.ensures.by_index_2 c.least-row-in-loop-row.ensures) in
     omega (arith, goes_on.0, c.least-row-in-loop-row.ensures.most)
@@ -88,15 +80,14 @@ loop-row-preserved c =
     let under : (c.loop-row.row < plan_rows c.args.plan.now) = (omega (arith, c.loop-row.invariant.0, c.loop-row-test.true)) in
     let row_is : (c.plan_row-condition.result ≡ plan_row c.args.plan.now c.loop-row.row) = c.plan_row-condition.ensures in
     let goes_on : ((c.loop-row.row < c.least-row-in-loop-row.result)
-    × Here c.advance.new.at c.advance.new.counts c.least-row-in-loop-row.result) = (let s = c in
-    let a = s.args in
+    × Here c.advance.new.at c.advance.new.counts c.least-row-in-loop-row.result) = (let a = c.args in
     let l = c.loop-row in
     let e = row_is in
     let judged = c.judge_row in
     let went = c.advance in
     let holds = c.place_of-holds.ensures in
     let fails = c.place_of-fails.ensures in
-    onward lent a.plan.now a.records.now a.block.from a.block.size a.block.n a.switches s.requires.walkable l.at l.counts
+    onward lent a.plan.now a.records.now a.block.from a.block.size a.block.n a.switches c.requires.walkable l.at l.counts
     judged.new.truths went.new.at went.new.counts l.row c.least-row-in-loop-row.result l.invariant.2
     under (rw e at judged.ensures) (rw (holds, fails, e) at went.ensures.by_index) went.ensures.by_index_2 c.least-row-in-loop-row.ensures) in
     let kept = c.advance.auto in
@@ -107,7 +98,6 @@ loop-row-preserved c =
 pub returns : goal.returns
 returns c =
     let lent : (Lent) = (lend_names c.args.items.now c.args.literals.now c.args.bytes.now c.args.names.now) in
-    let s = c in
-    let a = s.args in
+    let a = c.args in
     let l = c.loop-row in
-    ends lent a.plan.now a.records.now a.block.from a.block.size a.block.n a.switches s.requires.walkable l.invariant.2 (omega (arith, l.invariant.0, c.loop-row-test.false))
+    ends lent a.plan.now a.records.now a.block.from a.block.size a.block.n a.switches c.requires.walkable l.invariant.2 (omega (arith, l.invariant.0, c.loop-row-test.false))

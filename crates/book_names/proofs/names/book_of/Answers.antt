@@ -6,43 +6,32 @@ use Rattle.book_names.proofs.names.book_of.Goals as goal
 
 pub offset_bounds-places-n : goal.offset_bounds-places-n
 offset_bounds-places-n c =
-    let c13 = c in
-    let c24 = c13 in
-    let p = c24.requires in
-    let f = (few c13.describe-described.result c13.describe-described.ensures (omega arith) p.0 (omega arith) (omega arith) p.1 p.2 c.in-Counts.is)
+    let p = c.requires in
+    let f = (few c.describe-described.result c.describe-described.ensures (omega arith) p.0 (omega arith) (omega arith) p.1 p.2 c.in-Counts.is)
     in
     omega (arith, f.0)
 
 pub slice_bounds-copy_numbers-count : goal.slice_bounds-copy_numbers-count
 slice_bounds-copy_numbers-count c =
-    let c13 = c in
-    let c24 = c13 in
-    let p = c24.requires in
-    (few c13.describe-described.result c13.describe-described.ensures (omega arith) p.0 (omega arith) (omega arith) p.1 p.2 c.in-Counts.is).2
+    let p = c.requires in
+    (few c.describe-described.result c.describe-described.ensures (omega arith) p.0 (omega arith) (omega arith) p.1 p.2 c.in-Counts.is).2
 
 pub slice_bounds-copy_numbers-start : goal.slice_bounds-copy_numbers-start
 slice_bounds-copy_numbers-start c =
-    let c13 = c in
-    let c24 = c13 in
-    let p = c24.requires in
-    (few c13.describe-described.result c13.describe-described.ensures (omega arith) p.0 (omega arith) (omega arith) p.1 p.2 c.in-Counts.is).2
+    let p = c.requires in
+    (few c.describe-described.result c.describe-described.ensures (omega arith) p.0 (omega arith) (omega arith) p.1 p.2 c.in-Counts.is).2
 
 pub copy_numbers-requires : goal.copy_numbers-requires
 copy_numbers-requires c =
-    let c14 = c in
-    let c25 = c14 in
-    let p = c25.requires in
-    let f = (few c14.describe-described.result c14.describe-described.ensures (omega arith) p.0 (omega arith) (omega arith) p.1 p.2 c.in-Counts.is)
+    let p = c.requires in
+    let f = (few c.describe-described.result c.describe-described.ensures (omega arith) p.0 (omega arith) (omega arith) p.1 p.2 c.in-Counts.is)
     in
     (omega (arith, f.1, f.3), omega (arith, f.1, f.4))
 
 pub returns-in-Counts : goal.returns-in-Counts
 returns-in-Counts c =
-    let c6 = c in
-    let c17 = c6 in
-    let c28 = c17 in
-    let p = c28.requires in
-    described_book c17.describe-described.result c17.describe-described.ensures (omega arith) p.0 (omega arith) (omega arith) p.1 p.2 c6.in-Counts.is
+    let p = c.requires in
+    described_book c.describe-described.result c.describe-described.ensures (omega arith) p.0 (omega arith) (omega arith) p.1 p.2 c.in-Counts.is
     c.copy_numbers.ensures
 
 pub returns-in-Faulty : goal.returns-in-Faulty

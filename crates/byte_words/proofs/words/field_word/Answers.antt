@@ -4,7 +4,6 @@ use Rattle.byte_words.proofs.words.field_word.Goals as goal
 
 pub returns : goal.returns
 returns c =
-    let start = c in
     rw (c.word_before.ensures, c.mask.ensures)
-    (field_is (bytes_of start.args.bytes.now (λ i. (c.shared_slice_known-1.given i).fits))
-    start.args.end start.args.size start.requires.le_end.0 start.requires.le_end.1 start.requires.le_size.1)
+    (field_is (bytes_of c.args.bytes.now (λ i. (c.shared_slice_known-1.given i).fits))
+    c.args.end c.args.size c.requires.le_end.0 c.requires.le_end.1 c.requires.le_size.1)

@@ -4,5 +4,4 @@ use Rattle.byte_words.proofs.words.first_four.Goals as goal
 
 pub returns : goal.returns
 returns c =
-    let start = c in
-    four_listed (bytes_of start.args.bytes.now (λ i. (c.shared_slice_known-1.given i).fits)) start.requires c.join.ensures
+    four_listed (bytes_of c.args.bytes.now (λ i. (c.shared_slice_known-1.given i).fits)) c.requires c.join.ensures

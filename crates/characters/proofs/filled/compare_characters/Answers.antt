@@ -7,9 +7,8 @@ use Rattle.characters.proofs.filled.compare_characters.Goals as goal
 
 pub loop-i-init : goal.loop-i-init
 loop-i-init c =
-    let s = c in
-    let l = unsigned_length s.args.left_signed s.args.left.now s.requires.0 in
-    let r = unsigned_length s.args.right_signed s.args.right.now s.requires.1 in
+    let l = unsigned_length c.args.left_signed c.args.left.now c.requires.0 in
+    let r = unsigned_length c.args.right_signed c.args.right.now c.requires.1 in
     let start = c.same_start-start.ensures in
     let n = c.longer-n.ensures ∙ sym (ap₂ max l r) in
     agree-start c.same_start-start.result n (omega arith) (omega arith) start.2

@@ -6,7 +6,6 @@ use Rattle.characters.proofs.filled.same_blocks.Goals as goal
 
 pub loop-i-preserved : goal.loop-i-preserved
 loop-i-preserved c =
-    let l = c in
-    let a = l.args in
+    let a = c.args in
     let block = c.block_same.ensures (c.if-not-block_same.false) in
-    (omega arith, alike_block a.left.now a.right.now l.loop-i.i a.size (omega arith) (omega arith) l.loop-i.invariant.1 block)
+    (omega arith, alike_block a.left.now a.right.now c.loop-i.i a.size (omega arith) (omega arith) c.loop-i.invariant.1 block)

@@ -14,8 +14,6 @@ returns-then-kind-eq-UNSIGNED c = rw c.if-kind-eq-UNSIGNED.true (c.only_digits.e
 
 pub returns : goal.returns
 returns c =
-    let c4 = c in
-    let start = c4 in
-    let bytes = start.args.bytes.now in
-    let five : start.args.row.kind ≡ 5 = eqb-true _ 5 (rw (ne_eqb _ 2 c4.if-kind-eq-ALPHANUMERIC.false, ne_eqb _ 3 c4.if-kind-eq-UNSIGNED.false) at start.requires.0) in
-    rw (c.is_sign.ensures, c.only_digits-2.ensures, but_first_lem bytes, five) (sym (valid_leading _ bytes start.requires.1))
+    let bytes = c.args.bytes.now in
+    let five : c.args.row.kind ≡ 5 = eqb-true _ 5 (rw (ne_eqb _ 2 c.if-kind-eq-ALPHANUMERIC.false, ne_eqb _ 3 c.if-kind-eq-UNSIGNED.false) at c.requires.0) in
+    rw (c.is_sign.ensures, c.only_digits-2.ensures, but_first_lem bytes, five) (sym (valid_leading _ bytes c.requires.1))

@@ -34,12 +34,10 @@ test_field-requires c =
     let fits : (fits_word (row_of lent c.args.condition.subject) ≡ true) = (rw c.row_of-row.ensures at
     (sym c.fits_word.ensures ∙ (both c.fits_word.result c.is_item.result c.if-not-fits_word-is_item.false).0)) in
     let item : (is_item c.args.condition.subject ≡ true) = (sym c.is_item.ensures ∙ (both c.fits_word.result c.is_item.result c.if-not-fits_word-is_item.false).1) in
-    let e = c in
-    let s = c in
-    let m = word_size (row_of lent s.args.condition.subject) fits in
+    let m = word_size (row_of lent c.args.condition.subject) fits in
     record {
-      laid = (s.requires.judgeable.0.laid, s.requires.judgeable.1, s.requires.judgeable.2);
-      field_of = rw e.row_of-row.ensures (field_of s.requires.judgeable.0 subject item m);
+      laid = (c.requires.judgeable.0.laid, c.requires.judgeable.1, c.requires.judgeable.2);
+      field_of = rw c.row_of-row.ensures (field_of c.requires.judgeable.0 subject item m);
     }
 
 pub returns : goal.returns
@@ -49,17 +47,15 @@ returns c =
     let fits : (fits_word (row_of lent c.args.condition.subject) ≡ true) = (rw c.row_of-row.ensures at
     (sym c.fits_word.ensures ∙ (both c.fits_word.result c.is_item.result c.if-not-fits_word-is_item.false).0)) in
     let item : (is_item c.args.condition.subject ≡ true) = (sym c.is_item.ensures ∙ (both c.fits_word.result c.is_item.result c.if-not-fits_word-is_item.false).1) in
-    let bits = c in
-    let e = bits in
-    let s = c in
+    let e = c in
     let row = e in
     record {
       judges_all = λ _. (
-          retold (rw (bits.bits_of.ensures, row.row_of-row.ensures) at c.test_field.ensures)
-          (λ k _ v h. numeric-right lent s.args.records.now s.args.block.from s.args.block.size s.args.switches s.args.condition
-          (bytes_of s.args.records.now (λ i. (c.type_inv.records i).fits))
-          (bytes_of s.args.bytes.now (λ i. (c.type_inv.bytes i).fits)) k s.requires.relation_value fits item
-          (item_inside s.requires.judgeable.0 subject item) h)
+          retold (rw (c.bits_of.ensures, row.row_of-row.ensures) at c.test_field.ensures)
+          (λ k _ v h. numeric-right lent c.args.records.now c.args.block.from c.args.block.size c.args.switches c.args.condition
+          (bytes_of c.args.records.now (λ i. (c.type_inv.records i).fits))
+          (bytes_of c.args.bytes.now (λ i. (c.type_inv.bytes i).fits)) k c.requires.relation_value fits item
+          (item_inside c.requires.judgeable.0 subject item) h)
           );
       truths_unchanged = λ e. absurd (true≢false e);
       value = (sym (rw (fits, item)));

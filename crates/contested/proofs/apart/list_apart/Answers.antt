@@ -33,11 +33,9 @@ bounds-list-count c =
 
 pub loop-v-preserved : goal.loop-v-preserved
 loop-v-preserved c =
-    let c4 = c in
-    let c10 = c4 in
-    let a = c10.args in
-    let turn = c4.loop-v in
-    let pre = c10.requires in
+    let a = c.args in
+    let turn = c.loop-v in
+    let pre = c.requires in
     let copies = copies_of a.items.now a.old.now a.first.now a.second.now in
     let same = c.is_apart.ensures ∙ ap (λ (r : Row). is_elementary r && changed_apart (part r a.old.now) (part r a.first.now) (part
     r a.second.now)) c.row_at.ensures in

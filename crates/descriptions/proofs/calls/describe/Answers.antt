@@ -7,46 +7,35 @@ use Rattle.descriptions.proofs.calls.describe.Goals as goal
 
 pub returns-then-not-found : goal.returns-then-not-found
 returns-then-not-found c =
-    let at-parse = c in
-    let start = at-parse in
-    let p = at-parse.parse-parsed in
+    let p = c.parse-parsed in
     let P = p.ensures in
-    answers_faulty start.args.text.now p.new.entries _ _ _ p.new.rows p.result.found P.read P.lays P.sooner
-    start.args.rows.now start.args.places.now start.args.names.now start.args.name_places.now start.args.literals.now start.args.bytes.now
+    answers_faulty c.args.text.now p.new.entries _ _ _ p.new.rows p.result.found P.read P.lays P.sooner
+    c.args.rows.now c.args.places.now c.args.names.now c.args.name_places.now c.args.literals.now c.args.bytes.now
     c.in-None.is (not-true _ c.if-not-found.true)
 
 pub give-requires : goal.give-requires
 give-requires c =
-    let at-parse = c in
-    let start = at-parse in
-    let p = at-parse.parse-parsed in
+    let p = c.parse-parsed in
     let P = p.ensures in
-    let at-whole = c in
-    ready start.args.text.now p.new.entries _ _ _ p.new.rows p.result.found P.read P.lays P.sooner
-    at-whole.in-None.is (not-false _ at-whole.if-not-found.false)
+    ready c.args.text.now p.new.entries _ _ _ p.new.rows p.result.found P.read P.lays P.sooner
+    c.in-None.is (not-false _ c.if-not-found.false)
     (omega (arith, p.auto.entries)) (omega (arith, p.auto.rows)) (omega (arith, p.auto.named)) (omega (arith, p.auto.spots))
     (omega (arith, p.auto.notes))
 
 pub returns-in-Some : goal.returns-in-Some
 returns-in-Some c =
-    let at-parse = c in
-    let start = at-parse in
-    let p = at-parse.parse-parsed in
+    let p = c.parse-parsed in
     let P = p.ensures in
-    answers-over start.args.text.now p.new.entries _ _ _ p.new.rows p.result.found P.read P.lays P.sooner
-    start.args.rows.now start.args.places.now start.args.names.now start.args.name_places.now start.args.literals.now start.args.bytes.now
+    answers-over c.args.text.now p.new.entries _ _ _ p.new.rows p.result.found P.read P.lays P.sooner
+    c.args.rows.now c.args.places.now c.args.names.now c.args.name_places.now c.args.literals.now c.args.bytes.now
     c.in-Some.is
 
 pub returns-else-not-found : goal.returns-else-not-found
 returns-else-not-found c =
-    let c12 = c in
-    let at-whole = c12 in
-    let at-parse = at-whole in
-    let start = at-parse in
-    let p = at-parse.parse-parsed in
+    let p = c.parse-parsed in
     let P = p.ensures in
-    answers-given start.args.text.now p.new.entries _ _ _ p.new.rows p.result.found P.read P.lays P.sooner
-    at-whole.in-None.is (not-false _ at-whole.if-not-found.false)
+    answers-given c.args.text.now p.new.entries _ _ _ p.new.rows p.result.found P.read P.lays P.sooner
+    c.in-None.is (not-false _ c.if-not-found.false)
     (omega (arith, p.auto.entries)) (omega (arith, p.auto.rows)) (omega (arith, p.auto.named)) (omega (arith, p.auto.spots))
     (omega (arith, p.auto.notes))
     c.give.ensures

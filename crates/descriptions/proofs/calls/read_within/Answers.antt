@@ -4,16 +4,10 @@ use Rattle.descriptions.proofs.calls.read_within.Goals as goal
 
 pub returns-then-found-end : goal.returns-then-found-end
 returns-then-found-end c =
-    let at-read-entries = c in
-    let at-readable = at-read-entries in
-    let start = at-readable in
-    within_whole start.args.text.now _ _ _ _ at-read-entries.read_entries-found.result at-readable.readable-end.ensures
-    at-read-entries.read_entries-found.ensures.read_by c.if-found-end.true
+    within_whole c.args.text.now _ _ _ _ c.read_entries-found.result c.readable-end.ensures
+    c.read_entries-found.ensures.read_by c.if-found-end.true
 
 pub returns : goal.returns
 returns c =
-    let at-read-entries = c in
-    let at-readable = at-read-entries in
-    let start = at-readable in
-    within_rest start.args.text.now _ _ _ _ at-read-entries.read_entries-found.result at-readable.readable-end.ensures
-    at-read-entries.read_entries-found.ensures.read_by c.if-found-end.false
+    within_rest c.args.text.now _ _ _ _ c.read_entries-found.result c.readable-end.ensures
+    c.read_entries-found.ensures.read_by c.if-found-end.false

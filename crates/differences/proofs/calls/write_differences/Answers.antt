@@ -22,10 +22,9 @@ overflow_cast-v c =
 
 pub list_row-count-requires : goal.list_row-count-requires
 list_row-count-requires c =
-    let start = c in
-    let a = start.args in
+    let a = c.args in
     let e = c.row_at.ensures in (
-      held a.items.now a.first.now a.second.now start.requires.0 c.loop-v.v (omega arith) e,
+      held a.items.now a.first.now a.second.now c.requires.0 c.loop-v.v (omega arith) e,
       rw e (listing-fits c.loop-v.invariant (omega arith) c.requires.1),
     )
 

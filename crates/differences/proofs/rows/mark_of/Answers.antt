@@ -9,10 +9,8 @@ use Rattle.differences.proofs.rows.mark_of.Goals as goal
 
 pub read_number-one-requires : goal.read_number-one-requires
 read_number-one-requires c =
-    let test = c in
-    first_field test.requires (passes test.is_numeric.ensures (ap not test.if-not-is_numeric.false)) c.row_part.ensures
+    first_field c.requires (passes c.is_numeric.ensures (ap not c.if-not-is_numeric.false)) c.row_part.ensures
 
 pub read_number-other-requires : goal.read_number-other-requires
 read_number-other-requires c =
-    let test = c in
-    second_field test.requires (passes test.is_numeric.ensures (ap not test.if-not-is_numeric.false)) c.row_part-2.ensures
+    second_field c.requires (passes c.is_numeric.ensures (ap not c.if-not-is_numeric.false)) c.row_part-2.ensures

@@ -29,20 +29,18 @@ pub returns-then-is_order-relation : goal.returns-then-is_order-relation
 returns-then-is_order-relation c =
     let not_short : (let a = c.args in
     Here a.tokens.now (a.at + 1) c.peek-after.result 262149 262151 × (a.carry.relation ≡ 0 → ⊥)) = (short_here _ _ _ _ _ _ c.peek-after.ensures (omega arith) (c.is_order.ensures ∙ order-within _) c.if-is_order-relation.true) in
-    let b = c in
-    let e = b.peek-here.ensures in
-    let a = b.args in
+    let e = c.peek-here.ensures in
+    let a = c.args in
     let ((l, h, i), n) = not_short in
     reads_on _ 1 _ _ _ 1 _ c.read_object.result
-    (part_not _ _ e a.carry c.peek-after.ensures b.if-here-eq-NOT.true n l h)
+    (part_not _ _ e a.carry c.peek-after.ensures c.if-here-eq-NOT.true n l h)
     (omega arith) (omega arith) c.read_object.ensures.reads
 
 pub returns-then-here-eq-NOT : goal.returns-then-here-eq-NOT
 returns-then-here-eq-NOT c =
-    let b = c in
-    let e = b.peek-here.ensures in
+    let e = c.peek-here.ensures in
     let far = no_short _ _ _ _ (c.is_order.ensures ∙ order-within _) c.if-is_order-relation.false in
-    rw c.copied-then-here-eq-NOT.ensures (reads_logical _ _ e _ c.peek-after.ensures b.if-here-eq-NOT.true far)
+    rw c.copied-then-here-eq-NOT.ensures (reads_logical _ _ e _ c.peek-after.ensures c.if-here-eq-NOT.true far)
 
 pub overflow_sub-here : goal.overflow_sub-here
 overflow_sub-here c =
@@ -60,20 +58,18 @@ pub returns-then-is_order-relation-2 : goal.returns-then-is_order-relation-2
 returns-then-is_order-relation-2 c =
     let short : (let a = c.args in
     Here a.tokens.now a.at c.peek-here.result 262149 262151 × (a.carry.relation ≡ 0 → ⊥)) = (short_here _ _ _ _ _ _ c.peek-here.ensures (omega arith) (c.is_order-2.ensures ∙ order-within _) c.if-is_order-relation-2.true) in
-    let b = c in
-    let e = b.peek-here.ensures in
-    let a = b.args in
+    let e = c.peek-here.ensures in
+    let a = c.args in
     let ((l, h, i), n) = short in
     reads_on _ 1 _ _ _ 1 _ c.read_object-then-is_order-relation-2.result
-    (part_short _ _ e a.carry b.if-here.false b.if-here-2.false b.if-here-eq-NOT.false n l h)
+    (part_short _ _ e a.carry c.if-here.false c.if-here-2.false c.if-here-eq-NOT.false n l h)
     (omega arith) (omega arith) c.read_object-then-is_order-relation-2.ensures.reads
 
 pub returns : goal.returns
 returns c =
-    let b = c in
-    let e = b.peek-here.ensures in
-    let a = b.args in
+    let e = c.peek-here.ensures in
+    let a = c.args in
     let far = no_short _ _ _ _ (c.is_order-2.ensures ∙ order-within _) c.if-is_order-relation-2.false in
     reads_on _ 1 _ _ _ 1 _ c.read_simple.result
-    (part_other _ _ e a.carry b.if-here.false b.if-here-2.false b.if-here-eq-NOT.false far)
+    (part_other _ _ e a.carry c.if-here.false c.if-here-2.false c.if-here-eq-NOT.false far)
     (omega arith) (omega arith) c.read_simple.ensures.reads

@@ -41,8 +41,7 @@ write_relation-end-requires c =
     let begun : (let a = c.args in Front (a.subject ∷ []) a.out.now 1 (set a.out.now 0 a.subject)) = (let a = c.args in
     front_store (front_none a.out.now) a.subject (omega (arith, full-some a.subject a.relation a.object))) in
     let room : (let a = c.args in 1 + length (stated a.relation) ≤ length a.out.now) = (let a = c.args in omega (arith, full-least a.subject a.relation a.object c.if-relation-eq0.false)) in
-    let b = c in
-    rw (front_rest begun) (b.requires.0, omega (arith, room, length-drop 1 b.args.out.now))
+    rw (front_rest begun) (c.requires.0, omega (arith, room, length-drop 1 c.args.out.now))
 
 pub bounds-out-end : goal.bounds-out-end
 bounds-out-end c =
@@ -57,10 +56,9 @@ bounds-out-end c =
     let w = c.write_relation-end in
     let e = w.ensures.value in let g = w.ensures.out_after in
     front_part begun (stated a.relation) w.new.out w.result e (omega (arith, room)) g) in
-    let object-room : (1 + c.write_relation-end.result < length c.args.out.now) = (let b = c in
-    let a = b.args in
-    let e = ap length (full-object a.subject a.relation a.object b.if-relation-eq0.false c.if-relation-lt10.true) in
-    omega (arith, related.size, b.requires.1, length-append (stated a.relation) (a.object ∷ []))) in
+    let object-room : (1 + c.write_relation-end.result < length c.args.out.now) = (let a = c.args in
+    let e = ap length (full-object a.subject a.relation a.object c.if-relation-eq0.false c.if-relation-lt10.true) in
+    omega (arith, related.size, c.requires.1, length-append (stated a.relation) (a.object ∷ []))) in
     rw (front_length related) object-room
 
 pub returns-then-relation-lt10 : goal.returns-then-relation-lt10
@@ -80,10 +78,9 @@ returns-then-relation-lt10 c =
     let a = b.args in
     let e = ap length (full-object a.subject a.relation a.object b.if-relation-eq0.false c.if-relation-lt10.true) in
     omega (arith, related.size, b.requires.1, length-append (stated a.relation) (a.object ∷ []))) in
-    let b = c in
-    let a = b.args in
+    let a = c.args in
     let f = front_store related a.object object-room in
-    rw (full-object a.subject a.relation a.object b.if-relation-eq0.false c.if-relation-lt10.true) (record {
+    rw (full-object a.subject a.relation a.object c.if-relation-eq0.false c.if-relation-lt10.true) (record {
       value = f.size;
       out_after = f.holds;
     })
@@ -101,10 +98,9 @@ returns c =
     let w = c.write_relation-end in
     let e = w.ensures.value in let g = w.ensures.out_after in
     front_part begun (stated a.relation) w.new.out w.result e (omega (arith, room)) g) in
-    let b = c in
-    let a = b.args in
+    let a = c.args in
     let f = related in
-    rw (full_no_object a.subject a.relation a.object b.if-relation-eq0.false c.if-relation-lt10.false) (record {
+    rw (full_no_object a.subject a.relation a.object c.if-relation-eq0.false c.if-relation-lt10.false) (record {
       value = f.size;
       out_after = f.holds;
     })

@@ -20,20 +20,18 @@ row_of-row-requires c =
 pub classify_each-requires : goal.classify_each-requires
 classify_each-requires c =
     let class_test : (test_of c.args.condition.relation ≡ Class c.in-Class.word c.in-Class.negated) = (sym c.test_of-test.ensures ∙ c.in-Class.is) in
-    let start = c in
     let t = class_test in record {
-      laid = (start.requires.0.laid, start.requires.1, start.requires.2);
-      by_index = (λ k l. item_fits t c.row_of-row.ensures (start.requires.0.readable k l));
+      laid = (c.requires.0.laid, c.requires.1, c.requires.2);
+      by_index = (λ k l. item_fits t c.row_of-row.ensures (c.requires.0.readable k l));
     }
 
 pub returns-in-Class : goal.returns-in-Class
 returns-in-Class c =
     let class_test : (test_of c.args.condition.relation ≡ Class c.in-Class.word c.in-Class.negated) = (sym c.test_of-test.ensures ∙ c.in-Class.is) in
-    let start = c in
     let t = class_test in
     record {
       judges_at = λ _. retold_at c.classify_each.ensures
-          (λ k l v. right_for (class_is t c.row_of-row.ensures (start.requires.0.readable k l) start.args.switches));
+          (λ k l v. right_for (class_is t c.row_of-row.ensures (c.requires.0.readable k l) c.args.switches));
       truths_unchanged = λ e. absurd (true≢false e);
       value = rw t;
     }

@@ -14,51 +14,40 @@ use Rattle.field_rows.proofs.rows.judge_relation.Goals as goal
 
 pub row_of-row1-requires : goal.row_of-row1-requires
 row_of-row1-requires c =
-    let c8 = c in
-    (read_relation (first_readable c8.requires.judgeable.0) c8.requires.relation_value).0.within.there
+    (read_relation (first_readable c.requires.judgeable.0) c.requires.relation_value).0.within.there
 
 pub row_of-row2-requires : goal.row_of-row2-requires
 row_of-row2-requires c =
-    let c9 = c in
-    (read_relation (first_readable c9.requires.judgeable.0) c9.requires.relation_value).1.within.there
+    (read_relation (first_readable c.requires.judgeable.0) c.requires.relation_value).1.within.there
 
 pub operand_bytes-left-requires : goal.operand_bytes-left-requires
 operand_bytes-left-requires c =
-    let c10 = c in
-    within_unnamed (read_relation (first_readable c10.requires.judgeable.0) c10.requires.relation_value).0
+    within_unnamed (read_relation (first_readable c.requires.judgeable.0) c.requires.relation_value).0
 
 pub operand_bytes-right-requires : goal.operand_bytes-right-requires
 operand_bytes-right-requires c =
-    let c11 = c in
-    within_unnamed (read_relation (first_readable c11.requires.judgeable.0) c11.requires.relation_value).1
+    within_unnamed (read_relation (first_readable c.requires.judgeable.0) c.requires.relation_value).1
 
 pub relate_each-requires : goal.relate_each-requires
 relate_each-requires c =
-    let c4 = c in
-    let c7 = c4 in
-    let c17 = c7 in
-    let start = c17 in
-    let a = start.args in
+    let a = c.args in
     let lent = lend_names a.items.now a.literals.now a.bytes.now a.names.now in record {
-      laid = (start.requires.judgeable.0.laid, start.requires.judgeable.1, start.requires.judgeable.2, ap₂ ◌&&◌ c.is_numeric.ensures c.is_numeric-2.ensures);
-      by_index = (λ k l. let s = read_relation (start.requires.judgeable.0.readable k l) start.requires.relation_value in
+      laid = (c.requires.judgeable.0.laid, c.requires.judgeable.1, c.requires.judgeable.2, ap₂ ◌&&◌ c.is_numeric.ensures c.is_numeric-2.ensures);
+      by_index = (λ k l. let s = read_relation (c.requires.judgeable.0.readable k l) c.requires.relation_value in
           let content = record_at a.records.now a.block.from a.block.size k in (
-            side_fits_lem lent _ content a.condition.subject c4.is_item-item1.ensures c7.row_of-row1.ensures c4.operand_bytes-left.ensures
+            side_fits_lem lent _ content a.condition.subject c.is_item-item1.ensures c.row_of-row1.ensures c.operand_bytes-left.ensures
                 s.0,
-            side_fits_lem lent _ content a.condition.object c.is_item-item2.ensures c7.row_of-row2.ensures c4.operand_bytes-right.ensures
+            side_fits_lem lent _ content a.condition.object c.is_item-item2.ensures c.row_of-row2.ensures c.operand_bytes-right.ensures
                 s.1,
           ));
     }
 
 pub returns : goal.returns
 returns c =
-    let c6 = c in
-    let c9 = c6 in
-    let start = c9 in
-    let a = start.args in
+    let a = c.args in
     let lent = lend_names a.items.now a.literals.now a.bytes.now a.names.now in
     retold_at c.relate_each.ensures
     (λ k l v. let content = record_at a.records.now a.block.from a.block.size k in
-    right_for (relation_is lent content a.switches a.condition.subject a.condition.relation a.condition.object start.requires.relation_value
-    (side_here lent _ content a.condition.subject c6.is_item-item1.ensures c9.row_of-row1.ensures c9.operand_bytes-left.ensures)
-    (side_here lent _ content a.condition.object c6.is_item-item2.ensures c9.row_of-row2.ensures c6.operand_bytes-right.ensures)))
+    right_for (relation_is lent content a.switches a.condition.subject a.condition.relation a.condition.object c.requires.relation_value
+    (side_here lent _ content a.condition.subject c.is_item-item1.ensures c.row_of-row1.ensures c.operand_bytes-left.ensures)
+    (side_here lent _ content a.condition.object c.is_item-item2.ensures c.row_of-row2.ensures c.operand_bytes-right.ensures)))

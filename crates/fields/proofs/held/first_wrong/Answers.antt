@@ -8,22 +8,19 @@ use Rattle.fields.proofs.held.first_wrong.Goals as goal
 
 pub loop-row-init : goal.loop-row-init
 loop-row-init c =
-    let start = c in
-    let a = start.args in
-    (some_left (right_at a.row.kind a.row.digits (length a.bytes.now)) a.bytes.now 0 (some_wrong a.row.kind a.row.digits a.bytes.now start.requires), refl)
+    let a = c.args in
+    (some_left (right_at a.row.kind a.row.digits (length a.bytes.now)) a.bytes.now 0 (some_wrong a.row.kind a.row.digits a.bytes.now c.requires), refl)
 
 pub loop-row-preserved : goal.loop-row-preserved
 loop-row-preserved c =
     let l = c.loop-row in
-    let start = c in
-    let bytes = start.args.bytes.now in
-    let right = right_at start.args.row.kind start.args.row.digits (length bytes) in
+    let bytes = c.args.bytes.now in
+    let right = right_at c.args.row.kind c.args.row.digits (length bytes) in
     let next = l.invariant.1 ∙ wrong_then right bytes l.at l.invariant.0 (sym c.is_right.ensures ∙ c.loop-row-test.true) in
-    (some_left right bytes (l.at + 1) (sym (ap nowhere next) ∙ some_wrong start.args.row.kind start.args.row.digits bytes start.requires), next)
+    (some_left right bytes (l.at + 1) (sym (ap nowhere next) ∙ some_wrong c.args.row.kind c.args.row.digits bytes c.requires), next)
 
 pub returns : goal.returns
 returns c =
     let l = c.loop-row in
-    let start = c in
-    let bytes = start.args.bytes.now in
-    l.invariant.1 ∙ wrong_then (right_at start.args.row.kind start.args.row.digits (length bytes)) bytes l.at l.invariant.0 (sym c.is_right.ensures ∙ c.loop-row-test.false)
+    let bytes = c.args.bytes.now in
+    l.invariant.1 ∙ wrong_then (right_at c.args.row.kind c.args.row.digits (length bytes)) bytes l.at l.invariant.0 (sym c.is_right.ensures ∙ c.loop-row-test.false)

@@ -11,21 +11,18 @@ returns-then-kind-eq-UNSIGNED c = rw (c.if-kind-eq-UNSIGNED.true, valid_digits) 
 
 pub returns-then-kind-eq-SIGNED : goal.returns-then-kind-eq-SIGNED
 returns-then-kind-eq-SIGNED c =
-    let start = c in
-    rw (c.if-kind-eq-SIGNED.true, valid_signed start.args.row.digits start.args.bytes.now start.requires)
+    rw (c.if-kind-eq-SIGNED.true, valid_signed c.args.row.digits c.args.bytes.now c.requires)
     (ap₂ ◌&&◌ c.all_digits-then-kind-eq-SIGNED.ensures c.is_signed_digit.ensures)
 
 pub returns-then-kind-eq-SIGN_LEADING : goal.returns-then-kind-eq-SIGN_LEADING
 returns-then-kind-eq-SIGN_LEADING c =
-    let start = c in
-    rw (c.if-kind-eq-SIGN_LEADING.true, valid_leading start.args.row.digits start.args.bytes.now start.requires)
+    rw (c.if-kind-eq-SIGN_LEADING.true, valid_leading c.args.row.digits c.args.bytes.now c.requires)
     (ap₂ ◌&&◌ c.is_sign.ensures
-    (c.all_digits-then-kind-eq-SIGN_LEADING.ensures ∙ ap (all is_digit) (but_first_lem start.args.bytes.now)))
+    (c.all_digits-then-kind-eq-SIGN_LEADING.ensures ∙ ap (all is_digit) (but_first_lem c.args.bytes.now)))
 
 pub returns-then-kind-eq-SIGN_TRAILING : goal.returns-then-kind-eq-SIGN_TRAILING
 returns-then-kind-eq-SIGN_TRAILING c =
-    let start = c in
-    rw (c.if-kind-eq-SIGN_TRAILING.true, valid_trailing start.args.row.digits start.args.bytes.now start.requires)
+    rw (c.if-kind-eq-SIGN_TRAILING.true, valid_trailing c.args.row.digits c.args.bytes.now c.requires)
     (ap₂ ◌&&◌ c.all_digits-then-kind-eq-SIGN_TRAILING.ensures c.is_sign-then-kind-eq-SIGN_TRAILING.ensures)
 
 pub returns-then-kind-eq-ALPHABETIC : goal.returns-then-kind-eq-ALPHABETIC
@@ -33,13 +30,11 @@ returns-then-kind-eq-ALPHABETIC c = rw (c.if-kind-eq-ALPHABETIC.true, valid_lett
 
 pub returns-then-is_packed : goal.returns-then-is_packed
 returns-then-is_packed c =
-    let start = c in
     c.packed_valid.ensures
-    ∙ sym (valid_packed start.args.row.kind start.args.row.digits start.args.bytes.now start.requires (sym c.is_packed.ensures ∙ c.if-is_packed.true))
+    ∙ sym (valid_packed c.args.row.kind c.args.row.digits c.args.bytes.now c.requires (sym c.is_packed.ensures ∙ c.if-is_packed.true))
 
 pub returns : goal.returns
 returns c =
-    let kinds = c in
     sym
-    (valid_other _ _ _ kinds.if-kind-eq-UNSIGNED.false kinds.if-kind-eq-SIGNED.false kinds.if-kind-eq-SIGN_LEADING.false
-    kinds.if-kind-eq-SIGN_TRAILING.false kinds.if-kind-eq-ALPHABETIC.false (sym c.is_packed.ensures ∙ c.if-is_packed.false))
+    (valid_other _ _ _ c.if-kind-eq-UNSIGNED.false c.if-kind-eq-SIGNED.false c.if-kind-eq-SIGN_LEADING.false
+    c.if-kind-eq-SIGN_TRAILING.false c.if-kind-eq-ALPHABETIC.false (sym c.is_packed.ensures ∙ c.if-is_packed.false))

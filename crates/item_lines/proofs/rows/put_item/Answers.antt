@@ -4,18 +4,11 @@ use Rattle.item_lines.proofs.rows.put_item.Goals as goal
 
 pub returns : goal.returns
 returns c =
-    let back7 = c in
-    let back12 = back7 in
-    let back17 = back12 in
-    let back22 = back17 in
-    let back27 = back22 in
-    let back31 = back27 in
-    let back35 = back31 in
-    let line1 = with_number-column (begun _ _) back35.put_number_column-number.ensures in
-    let line2 = with_column line1 _ _ back31.put_column-named.ensures in
-    let line3 = with_column line2 _ _ back27.put_kind-kind.ensures in
-    let line4 = with_number-column line3 back22.put_number_column-offset.ensures in
-    let line5 = with_number-column line4 back17.put_number_column-size.ensures in
-    let line6 = with_number-column line5 back12.put_number_column-digits.ensures in
-    let line7 = with_number line6 back7.put_number-scale.ensures in
+    let line1 = with_number-column (begun _ _) c.put_number_column-number.ensures in
+    let line2 = with_column line1 _ _ c.put_column-named.ensures in
+    let line3 = with_column line2 _ _ c.put_kind-kind.ensures in
+    let line4 = with_number-column line3 c.put_number_column-offset.ensures in
+    let line5 = with_number-column line4 c.put_number_column-size.ensures in
+    let line6 = with_number-column line5 c.put_number_column-digits.ensures in
+    let line7 = with_number line6 c.put_number-scale.ensures in
     with_text line7 c.put.ensures

@@ -23,42 +23,32 @@ pub returns-then-text-le2048 : goal.returns-then-text-le2048
 returns-then-text-le2048 c =
     let a = c.args in
     let book = book_in (known_at a.description.now a.items a.places.now) a.literals a.content a.rows.now a.bytes.now in
-    let s = c in
-    let l = s.loop-held in
-    let start = s in
-    whole_end book start.args.text.now _ _ _ l.invariant.0 l.invariant.1 l.invariant.5 s.step.result s.step.ensures (rw c.in-Ok-None.field-0-is at c.in-Ok-None.is) c.if-text-le2048.true
+    let l = c.loop-held in
+    whole_end book c.args.text.now _ _ _ l.invariant.0 l.invariant.1 l.invariant.5 c.step.result c.step.ensures (rw c.in-Ok-None.field-0-is at c.in-Ok-None.is) c.if-text-le2048.true
 
 pub returns-in-Ok-None : goal.returns-in-Ok-None
 returns-in-Ok-None c =
     let a = c.args in
     let book = book_in (known_at a.description.now a.items a.places.now) a.literals a.content a.rows.now a.bytes.now in
-    let s = c in
-    let l = s.loop-held in
-    let start = s in
-    long_end book start.args.text.now _ _ _ l.invariant.0 l.invariant.1 l.invariant.5 s.step.result s.step.ensures (rw c.in-Ok-None.field-0-is at c.in-Ok-None.is) c.if-text-le2048.false
+    let l = c.loop-held in
+    long_end book c.args.text.now _ _ _ l.invariant.0 l.invariant.1 l.invariant.5 c.step.result c.step.ensures (rw c.in-Ok-None.field-0-is at c.in-Ok-None.is) c.if-text-le2048.false
 
 pub returns-in-Err : goal.returns-in-Err
 returns-in-Err c =
     let a = c.args in
     let book = book_in (known_at a.description.now a.items a.places.now) a.literals a.content a.rows.now a.bytes.now in
-    let s = c in
-    let l = s.loop-held in
-    let start = s in
-    fault_end book start.args.text.now _ _ _ l.invariant.0 l.invariant.1 l.invariant.5 s.step.result s.step.ensures
+    let l = c.loop-held in
+    fault_end book c.args.text.now _ _ _ l.invariant.0 l.invariant.1 l.invariant.5 c.step.result c.step.ensures
     c.in-Err.is c.early.ensures
 
 pub returns-then-text-le2048-2 : goal.returns-then-text-le2048-2
 returns-then-text-le2048-2 c =
     let a = c.args in
     let book = book_in (known_at a.description.now a.items a.places.now) a.literals a.content a.rows.now a.bytes.now in
-    let l = c in
-    let start = l in
-    whole_past book start.args.text.now _ _ _ l.loop-held.invariant.0 l.loop-held.invariant.1 l.loop-held.invariant.5 c.loop-held-test.false c.if-text-le2048-2.true
+    whole_past book c.args.text.now _ _ _ c.loop-held.invariant.0 c.loop-held.invariant.1 c.loop-held.invariant.5 c.loop-held-test.false c.if-text-le2048-2.true
 
 pub returns : goal.returns
 returns c =
     let a = c.args in
     let book = book_in (known_at a.description.now a.items a.places.now) a.literals a.content a.rows.now a.bytes.now in
-    let l = c in
-    let start = l in
-    long_past book start.args.text.now _ _ _ l.loop-held.invariant.0 l.loop-held.invariant.1 l.loop-held.invariant.5 c.loop-held-test.false c.if-text-le2048-2.false
+    long_past book c.args.text.now _ _ _ c.loop-held.invariant.0 c.loop-held.invariant.1 c.loop-held.invariant.5 c.loop-held-test.false c.if-text-le2048-2.false

@@ -8,14 +8,12 @@ use Rattle.literal_bytes.proofs.copies.copy_number.Goals as goal
 -- src/copies.rt:29:16
 pub slice_bounds-copy_bytes-end : goal.slice_bounds-copy_bytes-end
 slice_bounds-copy_bytes-end c =
-    let c4 = c in
-    first-length c4.args.word.now c4.args.to.now c.point_place-point.result c.point_place-point.ensures c4.requires
+    first-length c.args.word.now c.args.to.now c.point_place-point.result c.point_place-point.ensures c.requires
 
 -- src/copies.rt:29:5
 pub copy_bytes-requires : goal.copy_bytes-requires
 copy_bytes-requires c =
-    let c5 = c in
-    first-room c5.args.word.now c5.args.to.now c.point_place-point.result c.point_place-point.ensures c5.requires
+    first-room c.args.word.now c.args.to.now c.point_place-point.result c.point_place-point.ensures c.requires
 
 pub copy_bytes-requires-then-point-word : goal.copy_bytes-requires-then-point-word
 copy_bytes-requires-then-point-word c = grind (arith, common_steps, rest_room)

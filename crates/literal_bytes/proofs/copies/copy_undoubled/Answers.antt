@@ -11,8 +11,7 @@ use Rattle.literal_bytes.proofs.copies.copy_undoubled.Goals as goal
 -- src/copies.rt:53:9
 pub bounds-to-n : goal.bounds-to-n
 bounds-to-n c =
-    let c5 = c in
-    omega (arith, copied-length c.loop-i.invariant.copied, kept_left c.loop-i.invariant c.loop-i-test.true, c5.requires)
+    omega (arith, copied-length c.loop-i.invariant.copied, kept_left c.loop-i.invariant c.loop-i-test.true, c.requires)
 
 -- src/copies.rt:51:5
 pub loop-i-preserved : goal.loop-i-preserved

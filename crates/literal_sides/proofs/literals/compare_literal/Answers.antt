@@ -21,10 +21,9 @@ compare_scaled-requires c =
 
 pub returns-then-is_numeric : goal.returns-then-is_numeric
 returns-then-is_numeric c =
-    let start = c in
-    let a = start.args in
+    let a = c.args in
     let n = both _ _ c.if-is_numeric.true in
     let m = sym c.is_numeric.ensures ∙ n.0 in
     let o = sym c.is_numeric-2.ensures ∙ n.1 in
-    rw (start.requires.held.counts m, c.read_number-right.ensures) at c.compare_scaled.ensures
+    rw (c.requires.held.counts m, c.read_number-right.ensures) at c.compare_scaled.ensures
     ∙ sym (by_value (side a.item a.row a.bytes.now) (side false a.literal a.value.now) m o)

@@ -20,59 +20,32 @@ slice_bounds-spell-start c =
 pub overflow_add-k : goal.overflow_add-k
 overflow_add-k c =
     let begins : (c.next_ink-p.result ≤ length c.args.text.now) = (ink_within _ _ _ c.next_ink-p.ensures c.requires) in
-    let p3 = c in
-    let p4 = p3 in
-    let p6 = p4 in
     omega (
       arith,
-      span_end p6.args.text.now p6.args.n p4.next_ink-p.result c.spell-span.result.length
-          c.spell-span.result.state p4.next_ink-p.ensures p3.if-p-n.false c.spell-span.ensures.0 c.spell-span.ensures.1 begins,
+      span_end c.args.text.now c.args.n c.next_ink-p.result c.spell-span.result.length
+          c.spell-span.result.state c.next_ink-p.ensures c.if-p-n.false c.spell-span.ensures.0 c.spell-span.ensures.1 begins,
     )
 
 pub returns-then-period_at : goal.returns-then-period_at
 returns-then-period_at c =
-    let p2 = c in
-    let p3 = p2 in
-    let p5 = p3 in
-    let p7 = p5 in
-    let p8 = p7 in
-    let p10 = p8 in
-    span_ended p10.args.text.now p10.args.n p8.next_ink-p.result p5.spell-span.result.length p5.spell-span.result.state
-    p8.next_ink-p.ensures p7.if-p-n.false p5.spell-span.ensures.0 p5.spell-span.ensures.1 (sym p3.is_whole.ensures ∙ p2.if-is_whole.true) (sym
+    span_ended c.args.text.now c.args.n c.next_ink-p.result c.spell-span.result.length c.spell-span.result.state
+    c.next_ink-p.ensures c.if-p-n.false c.spell-span.ensures.0 c.spell-span.ensures.1 (sym c.is_whole.ensures ∙ c.if-is_whole.true) (sym
     c.period_at.ensures ∙ c.if-period_at.true)
 
 pub returns-then-is_whole : goal.returns-then-is_whole
 returns-then-is_whole c =
-    let p2 = c in
-    let p3 = p2 in
-    let p5 = p3 in
-    let p7 = p5 in
-    let p8 = p7 in
-    let p10 = p8 in
-    span_open p10.args.text.now p10.args.n p8.next_ink-p.result p5.spell-span.result.length p5.spell-span.result.state
-    p8.next_ink-p.ensures p7.if-p-n.false p5.spell-span.ensures.0 p5.spell-span.ensures.1 (sym p3.is_whole.ensures ∙ p2.if-is_whole.true) (sym
+    span_open c.args.text.now c.args.n c.next_ink-p.result c.spell-span.result.length c.spell-span.result.state
+    c.next_ink-p.ensures c.if-p-n.false c.spell-span.ensures.0 c.spell-span.ensures.1 (sym c.is_whole.ensures ∙ c.if-is_whole.true) (sym
     c.period_at.ensures ∙ c.if-period_at.false)
 
 pub returns-then-span-eq3 : goal.returns-then-span-eq3
 returns-then-span-eq3 c =
-    let p2 = c in
-    let p3 = p2 in
-    let p5 = p3 in
-    let p7 = p5 in
-    let p8 = p7 in
-    let p10 = p8 in
-    span_point p10.args.text.now p10.args.n p8.next_ink-p.result p5.spell-span.result.length p5.spell-span.result.state
-    p8.next_ink-p.ensures p7.if-p-n.false p5.spell-span.ensures.0 p5.spell-span.ensures.1 (sym p3.is_whole.ensures ∙ p2.if-is_whole.false)
+    span_point c.args.text.now c.args.n c.next_ink-p.result c.spell-span.result.length c.spell-span.result.state
+    c.next_ink-p.ensures c.if-p-n.false c.spell-span.ensures.0 c.spell-span.ensures.1 (sym c.is_whole.ensures ∙ c.if-is_whole.false)
     c.if-span-eq3.true
 
 pub returns : goal.returns
 returns c =
-    let p2 = c in
-    let p3 = p2 in
-    let p5 = p3 in
-    let p7 = p5 in
-    let p8 = p7 in
-    let p10 = p8 in
-    span_fault p10.args.text.now p10.args.n p8.next_ink-p.result p5.spell-span.result.length p5.spell-span.result.state
-    p8.next_ink-p.ensures p7.if-p-n.false p5.spell-span.ensures.0 p5.spell-span.ensures.1 (sym p3.is_whole.ensures ∙ p2.if-is_whole.false)
+    span_fault c.args.text.now c.args.n c.next_ink-p.result c.spell-span.result.length c.spell-span.result.state
+    c.next_ink-p.ensures c.if-p-n.false c.spell-span.ensures.0 c.spell-span.ensures.1 (sym c.is_whole.ensures ∙ c.if-is_whole.false)
     c.if-span-eq3.false

@@ -23,35 +23,21 @@ returns-then-state-eq7 c = rw (c.if-state-eq7.true, eqb_no _ 0x22 c.if-b-eq34-2.
 pub returns-then-state-le2 : goal.returns-then-state-le2
 unfolding step
 returns-then-state-le2 c =
-    let p2 = c in
-    let p3 = p2 in
-    let p4 = p3 in
-    rw (eqb_no _ 6 p4.if-state-eq6.false, eqb_no _ 7 p3.if-state-eq7.false, ← p2.is_digit.ensures, c.if-is_digit.true, le-leb _ 2 c.if-state-le2.true)
+    rw (eqb_no _ 6 c.if-state-eq6.false, eqb_no _ 7 c.if-state-eq7.false, ← c.is_digit.ensures, c.if-is_digit.true, le-leb _ 2 c.if-state-le2.true)
 
 pub returns-then-is_digit : goal.returns-then-is_digit
 unfolding step
 returns-then-is_digit c =
-    let p2 = c in
-    let p3 = p2 in
-    let p4 = p3 in
-    rw (eqb_no _ 6 p4.if-state-eq6.false, eqb_no _ 7 p3.if-state-eq7.false, ← p2.is_digit.ensures, c.if-is_digit.true, lt-leb _ 2 c.if-state-le2.false)
+    rw (eqb_no _ 6 c.if-state-eq6.false, eqb_no _ 7 c.if-state-eq7.false, ← c.is_digit.ensures, c.if-is_digit.true, lt-leb _ 2 c.if-state-le2.false)
 
 pub returns-then-b-eq46 : goal.returns-then-b-eq46
 unfolding step
 returns-then-b-eq46 c =
-    let p2 = c in
-    let p3 = p2 in
-    let p4 = p3 in
-    let p5 = p4 in
-    rw (eqb_no _ 6 p5.if-state-eq6.false, eqb_no _ 7 p4.if-state-eq7.false, ← p3.is_digit.ensures, p2.if-is_digit.false, c.if-b-eq46.true)
+    rw (eqb_no _ 6 c.if-state-eq6.false, eqb_no _ 7 c.if-state-eq7.false, ← c.is_digit.ensures, c.if-is_digit.false, c.if-b-eq46.true)
     c.point_step.ensures
 
 pub returns : goal.returns
 unfolding step
 returns c =
-    let p2 = c in
-    let p3 = p2 in
-    let p4 = p3 in
-    let p5 = p4 in
-    rw (eqb_no _ 6 p5.if-state-eq6.false, eqb_no _ 7 p4.if-state-eq7.false, ← p3.is_digit.ensures, p2.if-is_digit.false, eqb_no _ 0x2e c.if-b-eq46.false)
+    rw (eqb_no _ 6 c.if-state-eq6.false, eqb_no _ 7 c.if-state-eq7.false, ← c.is_digit.ensures, c.if-is_digit.false, eqb_no _ 0x2e c.if-b-eq46.false)
     c.first_step.ensures

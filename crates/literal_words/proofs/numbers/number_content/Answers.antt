@@ -32,7 +32,6 @@ slice_bounds-all_digits-end c =
 
 pub returns : goal.returns
 returns c digits =
-    let c5 = c in
-    let a = c5.args in
+    let a = c.args in
     ap₂ ◌&&◌ c.all_digits.ensures c.digits_after.ensures ∙ content_here a.word.now a.p a.signed c.start_of-from.result
-    c5.requires.0 c5.requires.1 c.start_of-from.ensures digits
+    c.requires.0 c.requires.1 c.start_of-from.ensures digits

@@ -22,27 +22,19 @@ returns-then-word-n-eq46 c = point_last c.args.word.now c.if-word-n-eq46.true
 
 pub row_of_number-row-requires : goal.row_of_number-row-requires
 row_of_number-row-requires c =
-    let c5 = c in
-    let c8 = c5 in
-    omega (arith, place-within c8.args.word.now, c.point_place-p.ensures, c5.if-n-gt20.false)
+    omega (arith, place-within c.args.word.now, c.point_place-p.ensures, c.if-n-gt20.false)
 
 pub returns-then-not-row_sound : goal.returns-then-not-row_sound
 returns-then-not-row_sound c = grind (arith, common_steps, length, row_unsound)
 
 pub returns-then-not-number_content : goal.returns-then-not-number_content
 returns-then-not-number_content c =
-    let c4 = c in
-    let c8 = c4 in
-    let c13 = c8 in
-    let word = c13.args.word.now in
-    by_content word c4.row_of_number-row.result (c4.row_of_number-row.ensures ∙ ap₂ (row_by (length word)) c4.point_place-p.ensures c4.is_sign-signed.ensures)
-    false (λ e. omega arith) (sym c.row_sound.ensures ∙ c.if-not-row_sound.false) (λ digits. sym c.if-not-number_content.true ∙ c.number_content.ensures digits ∙ ap (λ (s : Bool). valid_content (cond s 5 3) digits (without_point word)) c4.is_sign-signed.ensures)
+    let word = c.args.word.now in
+    by_content word c.row_of_number-row.result (c.row_of_number-row.ensures ∙ ap₂ (row_by (length word)) c.point_place-p.ensures c.is_sign-signed.ensures)
+    false (λ e. omega arith) (sym c.row_sound.ensures ∙ c.if-not-row_sound.false) (λ digits. sym c.if-not-number_content.true ∙ c.number_content.ensures digits ∙ ap (λ (s : Bool). valid_content (cond s 5 3) digits (without_point word)) c.is_sign-signed.ensures)
 
 pub returns : goal.returns
 returns c =
-    let c4 = c in
-    let c8 = c4 in
-    let c13 = c8 in
-    let word = c13.args.word.now in
-    by_content word c4.row_of_number-row.result (c4.row_of_number-row.ensures ∙ ap₂ (row_by (length word)) c4.point_place-p.ensures c4.is_sign-signed.ensures)
-    true (λ e. omega arith) (sym c.row_sound.ensures ∙ c.if-not-row_sound.false) (λ digits. sym c.if-not-number_content.false ∙ c.number_content.ensures digits ∙ ap (λ (s : Bool). valid_content (cond s 5 3) digits (without_point word)) c4.is_sign-signed.ensures)
+    let word = c.args.word.now in
+    by_content word c.row_of_number-row.result (c.row_of_number-row.ensures ∙ ap₂ (row_by (length word)) c.point_place-p.ensures c.is_sign-signed.ensures)
+    true (λ e. omega arith) (sym c.row_sound.ensures ∙ c.if-not-row_sound.false) (λ digits. sym c.if-not-number_content.false ∙ c.number_content.ensures digits ∙ ap (λ (s : Bool). valid_content (cond s 5 3) digits (without_point word)) c.is_sign-signed.ensures)

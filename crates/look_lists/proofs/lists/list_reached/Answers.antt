@@ -11,14 +11,9 @@ mark_reached-requires c = record {
 
 pub give_marked-requires : goal.give_marked-requires
 give_marked-requires c =
-    let at-mark-reached = c in
-    let start = at-mark-reached in
-    let few = few_runnable start.requires in
-    (omega (arith, marks_long start.args.items.now _ start.args.rows.now few at-mark-reached.mark_reached.ensures), few)
+    let few = few_runnable c.requires in
+    (omega (arith, marks_long c.args.items.now _ c.args.rows.now few c.mark_reached.ensures), few)
 
 pub returns : goal.returns
 returns c =
-    let at-give-marked = c in
-    let at-mark-reached = at-give-marked in
-    let start = at-mark-reached in
-    marks-listed start.args.items.now _ start.args.rows.now (few_runnable start.requires) at-mark-reached.mark_reached.ensures at-give-marked.give_marked.ensures
+    marks-listed c.args.items.now _ c.args.rows.now (few_runnable c.requires) c.mark_reached.ensures c.give_marked.ensures

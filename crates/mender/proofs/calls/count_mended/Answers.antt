@@ -45,18 +45,16 @@ next_row-v-requires-in-loop-v c =
 
 pub loop-v-smaller : goal.loop-v-smaller
 loop-v-smaller c =
-    let row = c in
-    less_left _ _ row.requires row.loop-v.invariant.0 row.loop-v-test.true row.row_at-row.ensures c.row_end-at.ensures
+    less_left _ _ c.requires c.loop-v.invariant.0 c.loop-v-test.true c.row_at-row.ensures c.row_end-at.ensures
 
 pub loop-v-preserved : goal.loop-v-preserved
 loop-v-preserved c =
-    let row = c in
-    let p = row.requires in
-    let w = row.loop-v.invariant.0 in
-    let taken = row.loop-v-test.true in (
-      walk_past _ _ p w taken row.row_at-row.ensures c.row_end-at.ensures c.next_row-v-in-loop-v.ensures,
-      count_past _ _ p w taken row.row_at-row.ensures c.row_end-at.ensures row.loop-v.invariant.1
-          (c.count_row-count.ensures ∙ ap (λ (r : Row). length (row_changes r row.args.«record».now)) row.row_at-row.ensures),
+    let p = c.requires in
+    let w = c.loop-v.invariant.0 in
+    let taken = c.loop-v-test.true in (
+      walk_past _ _ p w taken c.row_at-row.ensures c.row_end-at.ensures c.next_row-v-in-loop-v.ensures,
+      count_past _ _ p w taken c.row_at-row.ensures c.row_end-at.ensures c.loop-v.invariant.1
+          (c.count_row-count.ensures ∙ ap (λ (r : Row). length (row_changes r c.args.«record».now)) c.row_at-row.ensures),
     )
 
 pub returns : goal.returns

@@ -55,9 +55,7 @@ next_row-v-requires-in-loop-v c =
 
 pub loop-v-smaller : goal.loop-v-smaller
 loop-v-smaller c =
-    let row = c in
-    let start = row in
-    less_left _ _ start.requires.0 row.loop-v.invariant.0 row.loop-v-test.true row.row_at-row.ensures c.row_end-at.ensures
+    less_left _ _ c.requires.0 c.loop-v.invariant.0 c.loop-v-test.true c.row_at-row.ensures c.row_end-at.ensures
 
 pub loop-v-preserved : goal.loop-v-preserved
 loop-v-preserved c =
@@ -70,15 +68,13 @@ loop-v-preserved c =
     let few = count-step items content p.0 at-loop.invariant.0 taken in
     let room = room-step items content p.0 at-loop.invariant.0 taken in
     (omega (arith, few, at-loop.invariant.1), omega (arith, room, p.1, at-loop.invariant.1, at-loop.invariant.2))) in
-    let row = c in
-    let start = row in
-    let items = start.args.items.now in
-    let content = start.args.«record».now in
-    let list = start.args.list.now in
-    let p = start.requires.0 in
-    let l = row.loop-v in
-    let taken = row.loop-v-test.true in
-    let read = row.row_at-row.ensures in
+    let items = c.args.items.now in
+    let content = c.args.«record».now in
+    let list = c.args.list.now in
+    let p = c.requires.0 in
+    let l = c.loop-v in
+    let taken = c.loop-v-test.true in
+    let read = c.row_at-row.ensures in
     let end = c.row_end-at.ensures in
     let mended = c.mend_row-count in
     let before = seen content (mended_record items content) l.at in

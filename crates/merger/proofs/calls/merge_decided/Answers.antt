@@ -51,8 +51,7 @@ write_merged-requires c =
       bytes_fit copies a.verdict _ k a.merged.now a.contested.now room c.in_default.is,
       rows_fit copies a.verdict _ k a.merged.now a.contested.now room c.in_default.is,
     )) in
-    let start = c in
-    ready_for copies start.requires.0 (length-take-le (length start.args.old.now) start.args.merged.now fits.0)
+    ready_for copies c.requires.0 (length-take-le (length c.args.old.now) c.args.merged.now fits.0)
 
 pub write_contested-requires : goal.write_contested-requires
 write_contested-requires c = grind (arith, common_steps, length, contested_count_lem, bytes_fit, rows_fit)

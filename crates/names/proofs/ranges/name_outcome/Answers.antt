@@ -24,12 +24,11 @@ stop_at-requires c =
 
 pub some_range-requires : goal.some_range-requires
 some_range-requires c =
-    let start = c in
-    let fit = item_read_fit start.requires c.number_at.ensures c.row_at-row.ensures
+    let fit = item_read_fit c.requires c.number_at.ensures c.row_at-row.ensures
     c.row_part-part.ensures in
     record {
       fit = (fit, c.held-number.ensures);
-      literals = (name_literals start.requires, name_pairs_lem start.requires (omega (arith, start.requires.there)));
+      literals = (name_literals c.requires, name_pairs_lem c.requires (omega (arith, c.requires.there)));
     }
 
 pub returns-then-some_range : goal.returns-then-some_range

@@ -15,8 +15,7 @@ loop-k-init c = none_yet _
 
 pub returns-then-in_range : goal.returns-then-in_range
 returns-then-in_range c =
-    let start = c in
-    let a = start.args in
+    let a = c.args in
     let pairs : c.number_at-pairs.result ≡ name_pairs a.names.now a.v = c.number_at-pairs.ensures in
     let l : c.loop-k.k < name_pairs a.names.now a.v = omega arith in
     let test = lies (side true a.row a.part.now) a.literals.now a.bytes.now a.names.now a.v in
@@ -25,8 +24,7 @@ returns-then-in_range c =
 
 pub loop-k-preserved : goal.loop-k-preserved
 loop-k-preserved c =
-    let start = c in
-    let a = start.args in
+    let a = c.args in
     let test = lies (side true a.row a.part.now) a.literals.now a.bytes.now a.names.now a.v in
     let found = rw (c.number_at-low.ensures, c.number_at-high.ensures) at c.in_range.ensures in
     some_more test c.loop-k.k c.loop-k.invariant (sym found ∙ c.if-in_range.false)

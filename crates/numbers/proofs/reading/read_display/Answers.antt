@@ -17,73 +17,62 @@ rest_number e p = ap (λ (r : Number). r.digits) e ∙ ap (number_from 0) p
 
 pub returns-then-kind-eq-UNSIGNED : goal.returns-then-kind-eq-UNSIGNED
 returns-then-kind-eq-UNSIGNED c count =
-    let digits = c in
-    let bytes = digits.args.bytes.now in
-    rw (digits.read_digits-rest.ensures, digits.plain_digits.ensures, c.if-kind-eq-UNSIGNED.true, valid_digits 0 bytes, valid_digits count bytes)
+    let bytes = c.args.bytes.now in
+    rw (c.read_digits-rest.ensures, c.plain_digits.ensures, c.if-kind-eq-UNSIGNED.true, valid_digits 0 bytes, valid_digits count bytes)
 
 pub returns-then-kind-eq-SIGN_LEADING : goal.returns-then-kind-eq-SIGN_LEADING
 returns-then-kind-eq-SIGN_LEADING c count =
-    let digits = c in
-    let start = digits in
     rw (
       c.is_minus.ensures,
       c.is_sign.ensures,
-      digits.read_digits-rest.ensures,
-      digits.plain_digits.ensures,
+      c.read_digits-rest.ensures,
+      c.plain_digits.ensures,
       c.if-kind-eq-SIGN_LEADING.true,
       valid_digits,
-      valid_leading count start.args.bytes.now start.requires.in_bounds.0,
+      valid_leading count c.args.bytes.now c.requires.in_bounds.0,
     )
 
 pub overflow_mul-result : goal.overflow_mul-result
 overflow_mul-result c =
-    let digits = c in
-    let start = digits in
-    let bytes = start.args.bytes.now in
+    let bytes = c.args.bytes.now in
     let four = c.if-kind-eq-SIGNED.true in
-    let few = rw four at start.requires.in_bounds.1 in
-    omega (arith, few, number-room bytes (length bytes - 1) (omega arith) few, rest_number digits.read_digits-rest.ensures (rw four at digits.plain_digits.ensures))
+    let few = rw four at c.requires.in_bounds.1 in
+    omega (arith, few, number-room bytes (length bytes - 1) (omega arith) few, rest_number c.read_digits-rest.ensures (rw four at c.plain_digits.ensures))
 
 pub overflow_add-result : goal.overflow_add-result
 overflow_add-result c =
-    let digits = c in
-    let start = digits in
-    let bytes = start.args.bytes.now in
+    let bytes = c.args.bytes.now in
     let four = c.if-kind-eq-SIGNED.true in
-    let few = rw four at start.requires.in_bounds.1 in
-    let rest = rest_number digits.read_digits-rest.ensures (rw four at digits.plain_digits.ensures) in
+    let few = rw four at c.requires.in_bounds.1 in
+    let rest = rest_number c.read_digits-rest.ensures (rw four at c.plain_digits.ensures) in
     omega (arith, few, number-room bytes (length bytes - 1) (omega arith) few, rest)
 
 pub returns-then-kind-eq-SIGNED : goal.returns-then-kind-eq-SIGNED
 returns-then-kind-eq-SIGNED c count =
-    let digits = c in
-    let start = digits in
-    let bytes = start.args.bytes.now in
+    let bytes = c.args.bytes.now in
     let four = c.if-kind-eq-SIGNED.true in
-    let rest = rest_number digits.read_digits-rest.ensures (rw four at digits.plain_digits.ensures) in
-    let number = ap (λ (m : ℕ). m * 10 + get_or bytes (length bytes - 1) 0 % 16) rest ∙ number_last bytes start.requires.in_bounds.0 in
+    let rest = rest_number c.read_digits-rest.ensures (rw four at c.plain_digits.ensures) in
+    let number = ap (λ (m : ℕ). m * 10 + get_or bytes (length bytes - 1) 0 % 16) rest ∙ number_last bytes c.requires.in_bounds.0 in
     rw (
       number,
       c.is_minus-then-kind-eq-SIGNED.ensures,
       c.is_signed_digit.ensures,
-      digits.read_digits-rest.ensures,
-      digits.plain_digits.ensures,
+      c.read_digits-rest.ensures,
+      c.plain_digits.ensures,
       four,
       valid_digits,
-      valid_signed count bytes start.requires.in_bounds.0,
+      valid_signed count bytes c.requires.in_bounds.0,
     )
 
 pub returns : goal.returns
 returns c count =
-    let digits = c in
-    let start = digits in
-    let six : start.args.row.kind ≡ 6 = omega arith in
+    let six : c.args.row.kind ≡ 6 = omega arith in
     rw (
       c.is_minus-2.ensures,
       c.is_sign-2.ensures,
-      digits.read_digits-rest.ensures,
-      digits.plain_digits.ensures,
+      c.read_digits-rest.ensures,
+      c.plain_digits.ensures,
       six,
       valid_digits,
-      valid_trailing count start.args.bytes.now start.requires.in_bounds.0,
+      valid_trailing count c.args.bytes.now c.requires.in_bounds.0,
     )

@@ -10,31 +10,27 @@ use Rattle.numbers.proofs.reading.read_packed.Goals as goal
 
 pub overflow_mul-result : goal.overflow_mul-result
 overflow_mul-result c =
-    let pairs = c in
-    let bytes = pairs.args.bytes.now in
-    omega (arith, ap (λ (r : Number). r.digits) pairs.read_pairs-pairs.ensures, packed-room bytes (length bytes - 1) 9 (omega arith) (omega arith))
+    let bytes = c.args.bytes.now in
+    omega (arith, ap (λ (r : Number). r.digits) c.read_pairs-pairs.ensures, packed-room bytes (length bytes - 1) 9 (omega arith) (omega arith))
 
 pub overflow_add-result : goal.overflow_add-result
 overflow_add-result c =
-    let pairs = c in
-    let bytes = pairs.args.bytes.now in
+    let bytes = c.args.bytes.now in
     omega (
       arith,
       c.left_half.ensures,
-      ap (λ (r : Number). r.digits) pairs.read_pairs-pairs.ensures,
+      ap (λ (r : Number). r.digits) c.read_pairs-pairs.ensures,
       packed-room bytes (length bytes - 1) 9 (omega arith) (omega arith),
     )
 
 pub returns : goal.returns
 returns c =
-    let pairs = c in
-    let start = pairs in
     rw (
       c.left_half.ensures,
       c.is_minus.ensures,
       c.may_lead.ensures,
       c.digit_and_sign.ensures,
-      pairs.read_pairs-pairs.ensures,
-      start.requires.kind_value,
-      valid_packed start.args.row.kind start.args.row.digits start.args.bytes.now start.requires.in_bounds.0 start.requires.kind_value,
+      c.read_pairs-pairs.ensures,
+      c.requires.kind_value,
+      valid_packed c.args.row.kind c.args.row.digits c.args.bytes.now c.requires.in_bounds.0 c.requires.kind_value,
     )

@@ -11,16 +11,14 @@ is_faulty-requires c = some_bytes c.requires.fit.0
 
 pub stop_at-requires : goal.stop_at-requires
 stop_at-requires c =
-    let start = c in
-    let s = side start.args.item1 start.args.row1 start.args.left.now in
-    (fit_near start.requires.fit.0, invalid_there (is_group start.args.row2) s (sym c.is_faulty.ensures ∙ c.if-is_faulty.true))
+    let s = side c.args.item1 c.args.row1 c.args.left.now in
+    (fit_near c.requires.fit.0, invalid_there (is_group c.args.row2) s (sym c.is_faulty.ensures ∙ c.if-is_faulty.true))
 
 pub returns-then-is_faulty : goal.returns-then-is_faulty
 returns-then-is_faulty c =
-    let start = c in
-    let s = side start.args.item1 start.args.row1 start.args.left.now in
-    let o = side start.args.item2 start.args.row2 start.args.right.now in
-    subject_stops start.args.word start.args.negated {s = s} {s' = s} {o = o} {o' = o} refl refl
+    let s = side c.args.item1 c.args.row1 c.args.left.now in
+    let o = side c.args.item2 c.args.row2 c.args.right.now in
+    subject_stops c.args.word c.args.negated {s = s} {s' = s} {o = o} {o' = o} refl refl
     (sym c.is_faulty.ensures ∙ c.if-is_faulty.true) c.stop_at.ensures
 
 pub is_faulty-requires-2 : goal.is_faulty-requires-2
@@ -28,24 +26,20 @@ is_faulty-requires-2 c = some_bytes c.requires.fit.1
 
 pub stop_at-requires-then-is_faulty-2 : goal.stop_at-requires-then-is_faulty-2
 stop_at-requires-then-is_faulty-2 c =
-    let start = c in
-    let o = side start.args.item2 start.args.row2 start.args.right.now in
-    (fit_near start.requires.fit.1, invalid_there (is_group start.args.row1) o (sym c.is_faulty-2.ensures ∙ c.if-is_faulty-2.true))
+    let o = side c.args.item2 c.args.row2 c.args.right.now in
+    (fit_near c.requires.fit.1, invalid_there (is_group c.args.row1) o (sym c.is_faulty-2.ensures ∙ c.if-is_faulty-2.true))
 
 pub returns-then-is_faulty-2 : goal.returns-then-is_faulty-2
 returns-then-is_faulty-2 c =
-    let start = c in
-    let s = side start.args.item1 start.args.row1 start.args.left.now in
-    let o = side start.args.item2 start.args.row2 start.args.right.now in
-    object-stops start.args.word start.args.negated {s = s} {s' = s} {o = o} {o' = o} refl refl
+    let s = side c.args.item1 c.args.row1 c.args.left.now in
+    let o = side c.args.item2 c.args.row2 c.args.right.now in
+    object-stops c.args.word c.args.negated {s = s} {s' = s} {o = o} {o' = o} refl refl
     (sym c.is_faulty.ensures ∙ c.if-is_faulty.false) (sym c.is_faulty-2.ensures ∙ c.if-is_faulty-2.true) c.stop_at-then-is_faulty-2.ensures
 
 pub returns : goal.returns
 returns c =
-    let c4 = c in
-    let start = c4 in
-    let s = side start.args.item1 start.args.row1 start.args.left.now in
-    let o = side start.args.item2 start.args.row2 start.args.right.now in
-    rw c.relation_holds.ensures at c.truth_value.ensures ∙ relation_goes start.args.word start.args.negated {s = s} {s' = s}
-    {o = o} {o' = o} refl refl (sym c4.is_faulty.ensures ∙ c4.if-is_faulty.false) (sym c4.is_faulty-2.ensures ∙ c.if-is_faulty-2.false)
+    let s = side c.args.item1 c.args.row1 c.args.left.now in
+    let o = side c.args.item2 c.args.row2 c.args.right.now in
+    rw c.relation_holds.ensures at c.truth_value.ensures ∙ relation_goes c.args.word c.args.negated {s = s} {s' = s}
+    {o = o} {o' = o} refl refl (sym c.is_faulty.ensures ∙ c.if-is_faulty.false) (sym c.is_faulty-2.ensures ∙ c.if-is_faulty-2.false)
     c.compare_sides-order.ensures

@@ -8,30 +8,25 @@ use Rattle.outcomes.proofs.sides.value_outcome.Goals as goal
 
 pub returns-then-right_stops : goal.returns-then-right_stops
 returns-then-right_stops c =
-    let two = c in
-    let start = two in
-    let a = start.args in
+    let a = c.args in
     let s = side a.item1 a.row1 a.bytes1.now in
     let o = side a.item2 a.row2 a.bytes2.now in
-    let one = number_faulty s o.row start.requires.1.kind two.read_number-left.ensures in
-    let other = number_faulty o s.row start.requires.0.kind two.read_number-right.ensures in
+    let one = number_faulty s o.row c.requires.1.kind c.read_number-left.ensures in
+    let other = number_faulty o s.row c.requires.0.kind c.read_number-right.ensures in
     object-stops a.word a.negated {s = s} {s' = s} {o = o} {o' = o} refl refl
     (sym one ∙ c.if-left_stops.false) (sym other ∙ c.if-right_stops.true) c.stop_at-then-right_stops.ensures
 
 pub returns : goal.returns
 returns c =
-    let go = c in
-    let two = go in
-    let start = two in
-    let a = start.args in
+    let a = c.args in
     let s = side a.item1 a.row1 a.bytes1.now in
     let o = side a.item2 a.row2 a.bytes2.now in
-    let m = start.requires.0.kind in
-    let n = start.requires.1.kind in
-    let one = two.read_number-left.ensures in
-    let other = two.read_number-right.ensures in
+    let m = c.requires.0.kind in
+    let n = c.requires.1.kind in
+    let one = c.read_number-left.ensures in
+    let other = c.read_number-right.ensures in
     let order = rw (one, other) at c.compare_scaled-order.ensures in
     rw c.relation_holds.ensures at c.truth_value.ensures
     ∙ relation_goes a.word a.negated {s = s} {s' = s} {o = o} {o' = o} refl refl
-    (sym (number_faulty s o.row n one) ∙ go.if-left_stops.false) (sym (number_faulty o s.row m other) ∙ go.if-right_stops.false)
+    (sym (number_faulty s o.row n one) ∙ c.if-left_stops.false) (sym (number_faulty o s.row m other) ∙ c.if-right_stops.false)
     (order ∙ sym (by_value s o m n))

@@ -20,23 +20,17 @@ slice_bounds-sketched-start c =
 pub overflow_add-k : goal.overflow_add-k
 overflow_add-k c =
     let begins : (c.next_ink-p.result ≤ length c.args.text.now) = (ink_within _ _ _ c.next_ink-p.ensures c.requires.0) in
-    let inked = c in
-    omega (arith, sketch_le inked.args.text.now inked.next_ink-p.result begins c.sketched-s.ensures)
+    omega (arith, sketch_le c.args.text.now c.next_ink-p.result begins c.sketched-s.ensures)
 
 pub drawn_end-requires : goal.drawn_end-requires
 drawn_end-requires c =
     let begins : (c.next_ink-p.result ≤ length c.args.text.now) = (ink_within _ _ _ c.next_ink-p.ensures c.requires.0) in
-    let inked = c in
-    let start = inked in
-    let text = start.args.text.now in
-    let p = inked.next_ink-p.result in
+    let text = c.args.text.now in
+    let p = c.next_ink-p.result in
     let drawn = c.sketched-s.ensures in
-    (sketch_small (take (length text - p) (drop p text)) drawn, omega (arith, sketch_le text p begins drawn, start.requires.1))
+    (sketch_small (take (length text - p) (drop p text)) drawn, omega (arith, sketch_le text p begins drawn, c.requires.1))
 
 pub returns : goal.returns
 returns c =
-    let drawn = c in
-    let inked = drawn in
-    let start = inked in
-    picture_some start.args.text.now start.args.n inked.next_ink-p.result drawn.sketched-s.result c.period_at.result
-    inked.next_ink-p.ensures drawn.if-p-n.false drawn.sketched-s.ensures c.period_at.ensures c.drawn_end.ensures
+    picture_some c.args.text.now c.args.n c.next_ink-p.result c.sketched-s.result c.period_at.result
+    c.next_ink-p.ensures c.if-p-n.false c.sketched-s.ensures c.period_at.ensures c.drawn_end.ensures

@@ -21,19 +21,18 @@ loop-k-init c = rw (begun_none c.args.plan.now) (front_none _)
 
 pub write_row-requires : goal.write_row-requires
 write_row-requires c =
-    let room : (c.loop-k.k * 5 + 5 ≤ length c.args.out.now) = (let start = c in omega (arith, start.requires, converted_length start.args.plan.now)) in
+    let room : (c.loop-k.k * 5 + 5 ≤ length c.args.out.now) = (omega (arith, c.requires, converted_length c.args.plan.now)) in
     let l = c.loop-k in
     let out = c.args.out.now in
     rw (front_rest l.invariant) (omega (arith, room, length-drop (l.k * 5) out))
 
 pub loop-k-preserved : goal.loop-k-preserved
 loop-k-preserved c =
-    let room : (c.loop-k.k * 5 + 5 ≤ length c.args.out.now) = (let start = c in omega (arith, start.requires, converted_length start.args.plan.now)) in
-    let t = c in
-    let l = t.loop-k in
-    let plan = t.args.plan.now in
+    let room : (c.loop-k.k * 5 + 5 ≤ length c.args.out.now) = (omega (arith, c.requires, converted_length c.args.plan.now)) in
+    let l = c.loop-k in
+    let plan = c.args.plan.now in
     let r = on_row (plan_row plan l.k) in
-    let row : t.on_row-row.result ≡ r = t.on_row-row.ensures ∙ ap on_row t.plan_row.ensures in
+    let row : c.on_row-row.result ≡ r = c.on_row-row.ensures ∙ ap on_row c.plan_row.ensures in
     let z : (l.k + 1) * 5 ≡ l.k * 5 + 5 = omega arith in
     let w = c.write_row in
     let more = front_part l.invariant (flat (r ∷ [])) w.new.out 5 (five r) room (rw row at w.ensures) in

@@ -8,22 +8,20 @@ use Rattle.quoting.proofs.parts.put_doubled.Goals as goal
 
 pub bounds-out-n : goal.bounds-out-n
 bounds-out-n c =
-    let c5 = c in
     omega (
       arith,
       doubles_left c.loop-b.invariant c.loop-b-test.true _ refl,
       copied-length c.loop-b.invariant.copied,
-      c5.requires,
+      c.requires,
     )
 
 pub bounds-out-n-in-loop-b : goal.bounds-out-n-in-loop-b
 bounds-out-n-in-loop-b c =
-    let c6 = c in
     simp length-set (omega (
       arith,
       doubles_left c.loop-b.invariant c.loop-b-test.true c.stride-n.result c.stride-n.ensures,
       copied-length c.loop-b.invariant.copied,
-      c6.requires,
+      c.requires,
     ))
 
 pub loop-b-preserved : goal.loop-b-preserved

@@ -8,11 +8,8 @@ use Rattle.ranges.proofs.ends.above_by_value.Goals as goal
 
 pub returns : goal.returns
 returns c =
-    let p2 = c in
-    let p3 = p2 in
-    let p6 = p3 in
-    let a = p6.args in
+    let a = c.args in
     let s = side false a.low a.left.now in
     let o = side false a.high a.right.now in
-    let order = rw (p3.read_number-one.ensures, p2.read_number-other.ensures) at c.compare_scaled-order.ensures in
-    c.relation_holds.ensures ∙ ap is_greater (order ∙ sym (by_value s o p6.requires.0.kind p6.requires.1.kind))
+    let order = rw (c.read_number-one.ensures, c.read_number-other.ensures) at c.compare_scaled-order.ensures in
+    c.relation_holds.ensures ∙ ap is_greater (order ∙ sym (by_value s o c.requires.0.kind c.requires.1.kind))

@@ -6,8 +6,6 @@ use Rattle.ranges.proofs.ends.is_above.Goals as goal
 
 pub above_by_value-requires : goal.above_by_value-requires
 above_by_value-requires c =
-    let p2 = c in
-    let p5 = p2 in
-    let k = and_both (is_numeric p5.args.low) (is_numeric p5.args.high) (rw (p2.is_numeric.ensures, c.is_numeric-2.ensures) at
+    let k = and_both (is_numeric c.args.low) (is_numeric c.args.high) (rw (c.is_numeric.ensures, c.is_numeric-2.ensures) at
     c.if-is_numeric.true) in
-    (numeral p5.requires.0 k.0, numeral p5.requires.1 k.1)
+    (numeral c.requires.0 k.0, numeral c.requires.1 k.1)

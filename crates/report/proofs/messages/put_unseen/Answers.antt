@@ -7,10 +7,8 @@ use Rattle.report.proofs.messages.put_unseen.Goals as goal
 
 pub returns : goal.returns
 returns c =
-    let lead = c in
-    let L = lead.put-lead.ensures in
+    let L = c.put-lead.ensures in
     let H = c.put_hex-told.ensures in
     let F = c.put-2.ensures in
-    let tested = lead in
-    let hidden : is_seen tested.args.byte ≡ false = tested.if-byte.false in
+    let hidden : is_seen c.args.byte ≡ false = c.if-byte.false in
     rw hidden (joined (joined L H) F)

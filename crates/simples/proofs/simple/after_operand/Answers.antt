@@ -59,12 +59,11 @@ pub returns-then-is_order : goal.returns-then-is_order
 returns-then-is_order c =
     let not_relation : (let a = c.args in
     Here a.tokens.now (a.at + 1) c.peek-stated.result 262149 262151) = (word_here _ _ _ _ c.peek-stated.ensures (omega arith) (c.is_order-then-word-eq-NOT.ensures ∙ order-within _) c.if-is_order.true) in
-    let b = c in
-    let e = b.peek-word.ensures in
-    let a = b.args in
+    let e = c.peek-word.ensures in
+    let a = c.args in
     let all = not_relation in let l = all.0 in let h = all.1 in let i = all.2 in record {
       reads = reads_on _ 0 _ _ _ 1 _ c.read_object-then-is_order.result
-          (at_not_order _ _ e c.peek-stated.ensures (carry_of a.carry) _ b.if-word-eq-NOT.true l h)
+          (at_not_order _ _ e c.peek-stated.ensures (carry_of a.carry) _ c.if-word-eq-NOT.true l h)
           (omega arith) (omega arith) c.read_object-then-is_order.ensures.reads;
       settled = c.read_object-then-is_order.ensures.settled;
     }
@@ -80,11 +79,10 @@ returns-then-is_test-2 c = grind (arith, common_steps, test_within, Here, word_h
 
 pub returns-then-word-eq-NOT : goal.returns-then-word-eq-NOT
 returns-then-word-eq-NOT c =
-    let b = c in
-    let e = b.peek-word.ensures in
-    let a = b.args in record {
+    let e = c.peek-word.ensures in
+    let a = c.args in record {
       reads = reads_stuck _ 0 _ _
-          (at_not_stuck _ _ e c.peek-stated.ensures (carry_of a.carry) _ b.if-word-eq-NOT.true
+          (at_not_stuck _ _ e c.peek-stated.ensures (carry_of a.carry) _ c.if-word-eq-NOT.true
           (within_false _ _ _ (sym (c.is_order-then-word-eq-NOT.ensures ∙ order-within _) ∙ c.if-is_order.false))
           (within_false _ _ _ (sym (c.is_test-then-word-eq-NOT.ensures ∙ test_within _) ∙ c.if-is_test-2.false)))
           (omega arith) (omega (arith, inside _ _ e (omega arith)));
@@ -93,8 +91,7 @@ returns-then-word-eq-NOT c =
 
 pub returns-then-relation-eq0 : goal.returns-then-relation-eq0
 returns-then-relation-eq0 c =
-    let neither : (let x = c.peek-word.result in 262149 ≤ x → 262160 < x) = (let b = c in
-    no_word _ _ _ _ (b.is_order.ensures ∙ order-within _) (b.is_bound.ensures ∙ bound_within _) b.if-is_order-is_bound.false (c.is_test.ensures
+    let neither : (let x = c.peek-word.result in 262149 ≤ x → 262160 < x) = (no_word _ _ _ _ (c.is_order.ensures ∙ order-within _) (c.is_bound.ensures ∙ bound_within _) c.if-is_order-is_bound.false (c.is_test.ensures
     ∙ test_within _) c.if-is_test.false) in
     record {
       reads = reads_stuck _ 0 _ _
@@ -105,8 +102,7 @@ returns-then-relation-eq0 c =
 
 pub returns : goal.returns
 returns c =
-    let neither : (let x = c.peek-word.result in 262149 ≤ x → 262160 < x) = (let b = c in
-    no_word _ _ _ _ (b.is_order.ensures ∙ order-within _) (b.is_bound.ensures ∙ bound_within _) b.if-is_order-is_bound.false (c.is_test.ensures
+    let neither : (let x = c.peek-word.result in 262149 ≤ x → 262160 < x) = (no_word _ _ _ _ (c.is_order.ensures ∙ order-within _) (c.is_bound.ensures ∙ bound_within _) c.if-is_order-is_bound.false (c.is_test.ensures
     ∙ test_within _) c.if-is_test.false) in
     record {
       reads = reads_row _ 0 _ _ _

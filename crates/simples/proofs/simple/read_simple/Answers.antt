@@ -14,9 +14,8 @@ after_operand-requires c = omega (arith, stands _ _ c.peek-token.ensures (is_a_t
 
 pub returns-then-is_operand : goal.returns-then-is_operand
 returns-then-is_operand c =
-    let t = c in
     let i = is_a_true c.is_operand.ensures c.if-is_operand.true in record {
-      reads = reads_on _ 1 _ _ _ 0 _ c.after_operand.result (at_operand _ _ t.peek-token.ensures (carry_of t.args.carry) i)
+      reads = reads_on _ 1 _ _ _ 0 _ c.after_operand.result (at_operand _ _ c.peek-token.ensures (carry_of c.args.carry) i)
           (omega arith) (omega arith) c.after_operand.ensures.reads;
       settled = c.after_operand.ensures.settled;
     }
@@ -29,8 +28,7 @@ returns-then-is_name c = grind (arith, common_steps, stands, is_a_true, carries_
 
 pub read_object-requires : goal.read_object-requires
 read_object-requires c =
-    let short : (let t = c in
-    Here t.args.tokens.now t.args.at t.peek-token.result 262152 262153 × (t.args.carry.relation ≡ 0 → ⊥)) = (short_here _ _ _ _ _ _ c.peek-token.ensures (omega arith)
+    let short : (Here c.args.tokens.now c.args.at c.peek-token.result 262152 262153 × (c.args.carry.relation ≡ 0 → ⊥)) = (short_here _ _ _ _ _ _ c.peek-token.ensures (omega arith)
     (c.is_bound.ensures ∙ bound_within _) c.if-is_bound-relation.true) in
     omega (arith, short.0)
 
@@ -39,27 +37,24 @@ returns-then-is_bound-relation c =
     let short : (let t = c in
     Here t.args.tokens.now t.args.at t.peek-token.result 262152 262153 × (t.args.carry.relation ≡ 0 → ⊥)) = (short_here _ _ _ _ _ _ c.peek-token.ensures (omega arith)
     (c.is_bound.ensures ∙ bound_within _) c.if-is_bound-relation.true) in
-    let u = c in
-    let t = u in
     let ((l, h, i), n) = short in record {
       reads = reads_on _ 1 _ _ _ 1 _ c.read_object.result
-          (at_bound _ _ t.peek-token.ensures t.args.carry
-          (is_a_false u.is_operand.ensures u.if-is_operand.false)
-          (is_a_false u.is_switch.ensures u.if-is_switch.false)
-          (is_a_false u.is_name.ensures u.if-is_name.false) n l h)
+          (at_bound _ _ c.peek-token.ensures c.args.carry
+          (is_a_false c.is_operand.ensures c.if-is_operand.false)
+          (is_a_false c.is_switch.ensures c.if-is_switch.false)
+          (is_a_false c.is_name.ensures c.if-is_name.false) n l h)
           (omega arith) (omega arith) c.read_object.ensures.reads;
       settled = c.read_object.ensures.settled;
     }
 
 pub returns : goal.returns
 returns c =
-    let u = c in
-    let t = u in record {
+    record {
       reads = reads_stuck _ 1 _ _
-          (at_no_simple _ _ t.peek-token.ensures t.args.carry
-          (is_a_false u.is_operand.ensures u.if-is_operand.false)
-          (is_a_false u.is_switch.ensures u.if-is_switch.false)
-          (is_a_false u.is_name.ensures u.if-is_name.false)
+          (at_no_simple _ _ c.peek-token.ensures c.args.carry
+          (is_a_false c.is_operand.ensures c.if-is_operand.false)
+          (is_a_false c.is_switch.ensures c.if-is_switch.false)
+          (is_a_false c.is_name.ensures c.if-is_name.false)
           (no_short _ _ _ _ (c.is_bound.ensures ∙ bound_within _) c.if-is_bound-relation.false))
           (omega arith) (omega arith);
       settled = tt;
@@ -67,7 +62,6 @@ returns c =
 
 pub overflow_sub-token : goal.overflow_sub-token
 overflow_sub-token c =
-    let short : (let t = c in
-    Here t.args.tokens.now t.args.at t.peek-token.result 262152 262153 × (t.args.carry.relation ≡ 0 → ⊥)) = (short_here _ _ _ _ _ _ c.peek-token.ensures (omega arith)
+    let short : (Here c.args.tokens.now c.args.at c.peek-token.result 262152 262153 × (c.args.carry.relation ≡ 0 → ⊥)) = (short_here _ _ _ _ _ _ c.peek-token.ensures (omega arith)
     (c.is_bound.ensures ∙ bound_within _) c.if-is_bound-relation.true) in
     omega (arith, short.0)

@@ -20,27 +20,25 @@ loop-j-init c = (omega arith, omega arith, omega arith, refl)
 pub judged_at-judged-requires : goal.judged_at-judged-requires
 judged_at-judged-requires c =
     let l = c.loop-j in
-    let start = c in
-    let a = start.args in
+    let a = c.args in
     let lent = lend_names a.items.now a.literals.now a.bytes.now a.names.now in
-    let within : l.base + a.block.size ≤ length a.records.now = omega (arith, l.invariant.1, inside start.requires.part l.j (omega arith)) in
+    let within : l.base + a.block.size ≤ length a.records.now = omega (arith, l.invariant.1, inside c.requires.part l.j (omega arith)) in
     let width : l.base + a.block.size - l.base ≡ a.block.size = omega arith in record {
-      runnable = runnable lent a.plan.now a.records.now a.block.size a.switches start.requires.sweepable l.base within;
-      settled = rw (width, l.invariant.1) (start.requires.at_len.2.settled l.j (omega arith));
+      runnable = runnable lent a.plan.now a.records.now a.block.size a.switches c.requires.sweepable l.base within;
+      settled = rw (width, l.invariant.1) (c.requires.at_len.2.settled l.j (omega arith));
     }
 
 pub put_answer-requires : goal.put_answer-requires
 put_answer-requires c =
     let l = c.loop-j in
-    let start = c in
-    let a = start.args in
+    let a = c.args in
     let lent = lend_names a.items.now a.literals.now a.bytes.now a.names.now in
-    let within : l.base + a.block.size ≤ length a.records.now = omega (arith, l.invariant.1, inside start.requires.part l.j (omega arith)) in (
-      rw (ran lent a.plan.now a.records.now a.block.size a.switches start.requires.sweepable l.base within c.judged_at-judged.ensures) (run_fits _ _ _ _),
+    let within : l.base + a.block.size ≤ length a.records.now = omega (arith, l.invariant.1, inside c.requires.part l.j (omega arith)) in (
+      rw (ran lent a.plan.now a.records.now a.block.size a.switches c.requires.sweepable l.base within c.judged_at-judged.ensures) (run_fits _ _ _ _),
       omega (
         arith,
         l.invariant.2,
-        start.requires.part.fits,
+        c.requires.part.fits,
         ap length l.invariant.3,
         length-sets a.answers.now a.out (answers_of (λ content. run_gives lent a.plan.now content a.switches) (laid l.j a.block.size
             (drop a.block.from a.records.now))),
@@ -50,13 +48,12 @@ put_answer-requires c =
 pub loop-j-preserved : goal.loop-j-preserved
 loop-j-preserved c =
     let l = c.loop-j in
-    let start = c in
-    let a = start.args in
+    let a = c.args in
     let lent = lend_names a.items.now a.literals.now a.bytes.now a.names.now in
     let within : l.base + a.block.size ≤ length a.records.now = omega (
       arith,
       l.invariant.1,
-      inside start.requires.part l.j
+      inside c.requires.part l.j
           (omega arith),
     ) in (
       omega arith,
@@ -65,5 +62,5 @@ loop-j-preserved c =
       answered (λ content. run_gives lent a.plan.now content a.switches) a.records.now a.answers.now l.answers c.put_answer.new.answers a.block.size
           a.block.from a.out l.j l.base l.to
           l.invariant.1 l.invariant.2 l.invariant.3 (c.put_answer.ensures ∙ ap (λ v. sets l.answers l.to (answer_of v)) (ran lent a.plan.now a.records.now
-          a.block.size a.switches start.requires.sweepable l.base within c.judged_at-judged.ensures)),
+          a.block.size a.switches c.requires.sweepable l.base within c.judged_at-judged.ensures)),
     )

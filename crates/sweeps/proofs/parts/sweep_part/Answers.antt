@@ -14,9 +14,8 @@ use Rattle.sweeps.proofs.parts.sweep_part.Goals.{then-block-ge-FEW, else-block-g
 pub walk_block-requires : goal.walk_block-requires
 walk_block-requires c =
     let lent : (Lent) = (lend_names c.args.items.now c.args.literals.now c.args.bytes.now c.args.names.now) in
-    let s = c in
     record {
-      walkable = walkable s.requires.part lent s.args.plan.now s.args.switches s.requires.sweepable;
+      walkable = walkable c.requires.part lent c.args.plan.now c.args.switches c.requires.sweepable;
       at_len = (refl, refl);
     }
 

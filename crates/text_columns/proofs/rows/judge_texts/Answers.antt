@@ -48,14 +48,12 @@ compare_texts-requires c =
       object = rw c.row_of-row2.ensures at (sym c.fits_text-2.ensures ∙ t.1);
     }) in
     let filled : (c.filled_size-filled.result ≡ longer lent c.args.condition) = (rw (c.row_of-row1.ensures, c.row_of-row2.ensures) at c.filled_size-filled.ensures) in
-    let e = c in
-    let s = c in
-    let J = s.requires.judgeable.0 in
+    let J = c.requires.judgeable.0 in
     let h = short texts in
     let i = sym c.is_item.ensures ∙ c.if-is_item.true in
     let j = sym c.is_item-then-is_item.ensures ∙ c.if-is_item-2.true in record {
-      laid = (J.laid, s.requires.judgeable.1, s.requires.judgeable.2);
-      text_of = rw (e.row_of-row1.ensures, e.row_of-row2.ensures, filled)
+      laid = (J.laid, c.requires.judgeable.1, c.requires.judgeable.2);
+      text_of = rw (c.row_of-row1.ensures, c.row_of-row2.ensures, filled)
           (text_of J sides.0 i (omega arith) h, text_of J sides.1 j (omega arith) h);
     }
 
@@ -72,19 +70,15 @@ returns-then-is_item-2 c =
     let filled : (c.filled_size-filled.result ≡ longer lent c.args.condition) = (rw (c.row_of-row1.ensures, c.row_of-row2.ensures) at c.filled_size-filled.ensures) in
     let in_file : (Bytes c.args.records.now × Bytes c.args.bytes.now) = (let c8 = c in
     (bytes_of _ (λ i. (c8.type_inv.records i).fits), bytes_of _ (λ i. (c8.type_inv.bytes i).fits))) in
-    let order = c in
-    let c5 = order in
-    let c8 = c5 in
-    let e = c8 in
-    let s = c in
-    let i = sym c8.is_item.ensures ∙ c5.if-is_item.true in
-    let j = sym c5.is_item-then-is_item.ensures ∙ c5.if-is_item-2.true in
+    let e = c in
+    let i = sym c.is_item.ensures ∙ c.if-is_item.true in
+    let j = sym c.is_item-then-is_item.ensures ∙ c.if-is_item-2.true in
     record {
-      judges_all = λ _. items-judged s.requires.judgeable.0 s.requires.relation_value (text_word (longer lent s.args.condition)) (λ _. true) s.args.switches
-          (λ k l _ _. by_texts_lem s.requires.judgeable.0 s.args.switches in_file.0 in_file.1 s.requires.relation_value texts k l) i j (rw (
+      judges_all = λ _. items-judged c.requires.judgeable.0 c.requires.relation_value (text_word (longer lent c.args.condition)) (λ _. true) c.args.switches
+          (λ k l _ _. by_texts_lem c.requires.judgeable.0 c.args.switches in_file.0 in_file.1 c.requires.relation_value texts k l) i j (rw (
             e.row_of-row1.ensures,
             e.row_of-row2.ensures,
-            order.order_bits-order.ensures,
+            c.order_bits-order.ensures,
             e.asked_of-asked.ensures,
             filled,
           ) at c.compare_texts.ensures);
@@ -104,13 +98,11 @@ relate_literal-requires c =
       object = rw c.row_of-row2.ensures at (sym c.fits_text-2.ensures ∙ t.1);
     }) in
     let filled : (c.filled_size-filled.result ≡ longer lent c.args.condition) = (rw (c.row_of-row1.ensures, c.row_of-row2.ensures) at c.filled_size-filled.ensures) in
-    let e = c in
-    let s = c in
-    let J = s.requires.judgeable.0 in
+    let J = c.requires.judgeable.0 in
     let h = short texts in
     let i = sym c.is_item.ensures ∙ c.if-is_item.true in record {
-      laid = (J.laid, s.requires.judgeable.1, s.requires.judgeable.2);
-      text_of = (rw (e.row_of-row1.ensures, filled) (text_of J sides.0 i (omega arith) h), first-within J);
+      laid = (J.laid, c.requires.judgeable.1, c.requires.judgeable.2);
+      text_of = (rw (c.row_of-row1.ensures, filled) (text_of J sides.0 i (omega arith) h), first-within J);
       within = (within_unnamed sides.1, rw filled (literal_of_lem sides.1 (omega arith) h));
     }
 
@@ -125,15 +117,13 @@ returns-then-is_item c =
       object = rw c.row_of-row2.ensures at (sym c.fits_text-2.ensures ∙ t.1);
     }) in
     let filled : (c.filled_size-filled.result ≡ longer lent c.args.condition) = (rw (c.row_of-row1.ensures, c.row_of-row2.ensures) at c.filled_size-filled.ensures) in
-    let in_file : (Bytes c.args.records.now × Bytes c.args.bytes.now) = (let c8 = c in
-    (bytes_of _ (λ i. (c8.type_inv.records i).fits), bytes_of _ (λ i. (c8.type_inv.bytes i).fits))) in
+    let in_file : (Bytes c.args.records.now × Bytes c.args.bytes.now) = ((bytes_of _ (λ i. (c.type_inv.records i).fits), bytes_of _ (λ i. (c.type_inv.bytes i).fits))) in
     let e = c in
-    let s = c in
     let i = sym c.is_item.ensures ∙ c.if-is_item.true in
     let j = sym c.is_item-then-is_item.ensures ∙ c.if-is_item-2.false in
     record {
-      judges_all = λ _. object-judged s.requires.judgeable.0 s.requires.relation_value (text_word (longer lent s.args.condition)) (λ _. true) s.args.switches
-          (λ k l _ _. by_texts_lem s.requires.judgeable.0 s.args.switches in_file.0 in_file.1 s.requires.relation_value texts k l) first i j refl
+      judges_all = λ _. object-judged c.requires.judgeable.0 c.requires.relation_value (text_word (longer lent c.args.condition)) (λ _. true) c.args.switches
+          (λ k l _ _. by_texts_lem c.requires.judgeable.0 c.args.switches in_file.0 in_file.1 c.requires.relation_value texts k l) first i j refl
           (rw (e.row_of-row1.ensures, e.asked_of-asked.ensures, filled) at c.relate_literal.ensures);
       truths_unchanged = λ e. absurd (true≢false e);
       value = (sym (by_both texts ∙ rw i));
@@ -151,13 +141,11 @@ relate_literal-requires-then-is_item-3 c =
       object = rw c.row_of-row2.ensures at (sym c.fits_text-2.ensures ∙ t.1);
     }) in
     let filled : (c.filled_size-filled.result ≡ longer lent c.args.condition) = (rw (c.row_of-row1.ensures, c.row_of-row2.ensures) at c.filled_size-filled.ensures) in
-    let e = c in
-    let s = c in
-    let J = s.requires.judgeable.0 in
+    let J = c.requires.judgeable.0 in
     let h = short texts in
     let j = sym c.is_item-2.ensures ∙ c.if-is_item-3.true in record {
-      laid = (J.laid, s.requires.judgeable.1, s.requires.judgeable.2);
-      text_of = (rw (e.row_of-row2.ensures, filled) (text_of J sides.1 j (omega arith) h), first-within J);
+      laid = (J.laid, c.requires.judgeable.1, c.requires.judgeable.2);
+      text_of = (rw (c.row_of-row2.ensures, filled) (text_of J sides.1 j (omega arith) h), first-within J);
       within = (within_unnamed sides.0, rw filled (literal_of_lem sides.0 (omega arith) h));
     }
 
@@ -172,15 +160,13 @@ returns-then-is_item-3 c =
       object = rw c.row_of-row2.ensures at (sym c.fits_text-2.ensures ∙ t.1);
     }) in
     let filled : (c.filled_size-filled.result ≡ longer lent c.args.condition) = (rw (c.row_of-row1.ensures, c.row_of-row2.ensures) at c.filled_size-filled.ensures) in
-    let in_file : (Bytes c.args.records.now × Bytes c.args.bytes.now) = (let c8 = c in
-    (bytes_of _ (λ i. (c8.type_inv.records i).fits), bytes_of _ (λ i. (c8.type_inv.bytes i).fits))) in
+    let in_file : (Bytes c.args.records.now × Bytes c.args.bytes.now) = ((bytes_of _ (λ i. (c.type_inv.records i).fits), bytes_of _ (λ i. (c.type_inv.bytes i).fits))) in
     let e = c in
-    let s = c in
     let i = sym c.is_item.ensures ∙ c.if-is_item.false in
     let j = sym c.is_item-2.ensures ∙ c.if-is_item-3.true in
     record {
-      judges_all = λ _. subject_judged s.requires.judgeable.0 s.requires.relation_value (text_word (longer lent s.args.condition)) (λ _. true) s.args.switches
-          (λ k l _ _. by_texts_lem s.requires.judgeable.0 s.args.switches in_file.0 in_file.1 s.requires.relation_value texts k l) first i j refl
+      judges_all = λ _. subject_judged c.requires.judgeable.0 c.requires.relation_value (text_word (longer lent c.args.condition)) (λ _. true) c.args.switches
+          (λ k l _ _. by_texts_lem c.requires.judgeable.0 c.args.switches in_file.0 in_file.1 c.requires.relation_value texts k l) first i j refl
           (rw (e.row_of-row2.ensures, e.asked_of-asked.ensures, filled) at c.relate_literal-then-is_item-3.ensures);
       truths_unchanged = λ e. absurd (true≢false e);
       value = (sym (by_both texts ∙ rw (i, j)));

@@ -4,5 +4,4 @@ use Rattle.text_words.proofs.texts.fill.Goals as goal
 
 pub returns : goal.returns
 returns c =
-    let start = c in
-    fill_is start.args.size start.args.n start.requires.1 start.requires.2 start.requires.3 c.spaces.ensures
+    fill_is c.args.size c.args.n c.requires.1 c.requires.2 c.requires.3 c.spaces.ensures

@@ -6,7 +6,6 @@ use Rattle.text_words.proofs.texts.filled_text.Goals as goal
 
 pub returns : goal.returns
 returns c =
-    let start = c in
-    let bytes = bytes_of start.args.bytes.now (λ i. (c.shared_slice_known-1.given i).fits) in
-    text-filled bytes start.args.end start.args.size start.requires.le_end.0 start.requires.le_end.1 (omega arith)
-    c.word_before.ensures c.mask.ensures start.args.n c.fill.ensures
+    let bytes = bytes_of c.args.bytes.now (λ i. (c.shared_slice_known-1.given i).fits) in
+    text-filled bytes c.args.end c.args.size c.requires.le_end.0 c.requires.le_end.1 (omega arith)
+    c.word_before.ensures c.mask.ensures c.args.n c.fill.ensures

@@ -13,15 +13,13 @@ loop-b-init c = refl
 pub overflow_mul-word : goal.overflow_mul-word
 overflow_mul-word c =
     let l = c.loop-b in
-    let start = c in
-    let bytes = bytes_of start.args.bytes.now (λ i. (c.type_inv.bytes i).fits) in
+    let bytes = bytes_of c.args.bytes.now (λ i. (c.type_inv.bytes i).fits) in
     omega (arith, l.invariant, plain-room bytes l.b-index c.loop-b-test.true (omega arith))
 
 pub overflow_add-word : goal.overflow_add-word
 overflow_add-word c =
     let l = c.loop-b in
-    let start = c in
-    let bytes = bytes_of start.args.bytes.now (λ i. (c.type_inv.bytes i).fits) in
+    let bytes = bytes_of c.args.bytes.now (λ i. (c.type_inv.bytes i).fits) in
     omega (arith, l.invariant, plain-room bytes l.b-index c.loop-b-test.true (omega arith), (c.type_inv.bytes l.b-index).fits)
 
 pub loop-b-preserved : goal.loop-b-preserved
@@ -32,11 +30,9 @@ loop-b-preserved c =
 
 pub fill-requires : goal.fill-requires
 fill-requires c =
-    let start = c in
-    let bytes = bytes_of start.args.bytes.now (λ i. (c.type_inv.bytes i).fits) in
-    (start.requires.0, start.requires.1, start.requires.2, plain_end bytes c.loop-b.invariant c.loop-b-test.false)
+    let bytes = bytes_of c.args.bytes.now (λ i. (c.type_inv.bytes i).fits) in
+    (c.requires.0, c.requires.1, c.requires.2, plain_end bytes c.loop-b.invariant c.loop-b-test.false)
 
 pub returns : goal.returns
 returns c =
-    let start = c in
-    plain-filled start.args.bytes.now start.args.n c.loop-b.invariant c.loop-b-test.false c.fill.ensures
+    plain-filled c.args.bytes.now c.args.n c.loop-b.invariant c.loop-b-test.false c.fill.ensures

@@ -32,11 +32,7 @@ read_named-requires c = let f = book-found c.book_of-named.result
 
 pub returns-in-Ok : goal.returns-in-Ok
 returns-in-Ok c =
-    let c8 = c in
-    let c16 = c8 in
-    let c21 = c16 in
-    let c30 = c21 in
-    as_reading (named-reading c21.book_of-named.result c21.book_of-named.ensures c30.args.condition.now c16.in-Ok.is) c8.read_named.ensures
+    as_reading (named-reading c.book_of-named.result c.book_of-named.ensures c.args.condition.now c.in-Ok.is) c.read_named.ensures
 
 pub returns-in-Err : goal.returns-in-Err
 returns-in-Err c = refused_reading (undescribed_reading c.book_of-named.result

@@ -14,8 +14,7 @@ returns-then-subject-eq-NAME c = grind (arith, common_steps, eq-eqb)
 
 pub relation_outcome-requires : goal.relation_outcome-requires
 relation_outcome-requires c =
-    let t = c in
-    let s = read_relation t.requires (sym t.test_of-test.ensures ∙ c.in-Relation.is) in
+    let s = read_relation c.requires (sym c.test_of-test.ensures ∙ c.in-Relation.is) in
     record {
       sided = side_unnamed s.0;
       sided_2 = side_unnamed s.1;
@@ -23,13 +22,11 @@ relation_outcome-requires c =
 
 pub class_outcome-requires : goal.class_outcome-requires
 class_outcome-requires c =
-    let t = c in
-    side_unnamed (read-class t.requires (sym t.test_of-test.ensures ∙ c.in-Class.is))
+    side_unnamed (read-class c.requires (sym c.test_of-test.ensures ∙ c.in-Class.is))
 
 pub sign_outcome-requires : goal.sign_outcome-requires
 sign_outcome-requires c =
-    let t = c in
-    let s = read_sign t.requires (sym t.test_of-test.ensures ∙ c.in-Sign.is) in
+    let s = read_sign c.requires (sym c.test_of-test.ensures ∙ c.in-Sign.is) in
     record {
       sided = side_unnamed s.0;
       subject_value = s.1;
@@ -38,11 +35,9 @@ sign_outcome-requires c =
 pub returns-else-subject-eq-NAME : goal.returns-else-subject-eq-NAME
 unfolding outcome switch_holds
 returns-else-subject-eq-NAME c =
-    let told = c in
-    let t = told in
-    let test = sym t.test_of-test.ensures ∙ told.in-Alone.is in
+    let test = sym c.test_of-test.ensures ∙ c.in-Alone.is in
     let no_name = ne_eqb _ 5 c.if-subject-eq-NAME.false in
-    let on = (read-switch t.requires refl test no_name).0 in
+    let on = (read-switch c.requires refl test no_name).0 in
     rw (test, no_name, on) (c.truth_value.ensures ∙ ap truth c.switch_on.ensures)
 
 pub returns-in-Relation : goal.returns-in-Relation

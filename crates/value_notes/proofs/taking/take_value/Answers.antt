@@ -4,5 +4,4 @@ use Rattle.value_notes.proofs.taking.take_value.Goals as goal
 
 pub returns-in-Barred : goal.returns-in-Barred
 returns-in-Barred c =
-    let p5 = c in
-    same_weight c.in-Barred.is (barred-over p5.args.found p5.args.tally _ _ c.passed.result c.passed.ensures)
+    same_weight c.in-Barred.is (barred-over c.args.found c.args.tally _ _ c.passed.result c.passed.ensures)

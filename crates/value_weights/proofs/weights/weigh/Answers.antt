@@ -13,29 +13,20 @@ returns-then-not-may_compare c = grind (arith, common_steps, alone-apart, value-
 
 pub weigh_high-requires : goal.weigh_high-requires
 weigh_high-requires c =
-    let p2 = c in
-    let p4 = p2 in
-    let p6 = p4 in
-    let p9 = p6 in record {
-      stands = (p9.requires, c.if-found.true);
-      written = written_is _ _ p9.requires.low (sym p6.literal_row.ensures ∙ p4.in-Some.is);
-      mid_value = alone_fine (literal_in p9.args.text.now p9.args.found.low p9.args.found.mid) _ (sym p6.literal_row.ensures ∙ p4.in-Some.is) p9.args.item (sym
-          p2.may_compare.ensures ∙ c.if-not-may_compare.false);
+    record {
+      stands = (c.requires, c.if-found.true);
+      written = written_is _ _ c.requires.low (sym c.literal_row.ensures ∙ c.in-Some.is);
+      mid_value = alone_fine (literal_in c.args.text.now c.args.found.low c.args.found.mid) _ (sym c.literal_row.ensures ∙ c.in-Some.is) c.args.item (sym
+          c.may_compare.ensures ∙ c.if-not-may_compare.false);
     }
 
 pub returns-else-found : goal.returns-else-found
 returns-else-found c =
-    let p2 = c in
-    let p4 = p2 in
-    let p6 = p4 in
-    let p9 = p6 in
-    value_single p9.args.text.now p9.args.item p9.args.found c.if-found.false (alone_fine (literal_in p9.args.text.now
-    p9.args.found.low p9.args.found.mid) _ (sym p6.literal_row.ensures ∙ p4.in-Some.is) p9.args.item (sym
-    p2.may_compare.ensures ∙ c.if-not-may_compare.false)) _ (sym p6.literal_row.ensures ∙ p4.in-Some.is)
+    value_single c.args.text.now c.args.item c.args.found c.if-found.false (alone_fine (literal_in c.args.text.now
+    c.args.found.low c.args.found.mid) _ (sym c.literal_row.ensures ∙ c.in-Some.is) c.args.item (sym
+    c.may_compare.ensures ∙ c.if-not-may_compare.false)) _ (sym c.literal_row.ensures ∙ c.in-Some.is)
 
 pub returns-in-None : goal.returns-in-None
 returns-in-None c =
-    let p2 = c in
-    let p5 = p2 in
-    value-barred p5.args.text.now p5.args.item p5.args.found (alone-unfit (literal_in p5.args.text.now p5.args.found.low
-    p5.args.found.mid) p5.args.item (sym p2.literal_row.ensures ∙ c.in-None.is))
+    value-barred c.args.text.now c.args.item c.args.found (alone-unfit (literal_in c.args.text.now c.args.found.low
+    c.args.found.mid) c.args.item (sym c.literal_row.ensures ∙ c.in-None.is))

@@ -13,20 +13,17 @@ compared_part-requires-2 c = some_bytes c.requires.fit.1
 
 pub compare_characters-requires : goal.compare_characters-requires
 compare_characters-requires c =
-    let p = c in
-    let pre = p.requires.fit in (
-      rw p.compared_part.ensures (some-compared pre.0 p.gives_digits-digits1.result),
-      rw c.compared_part-2.ensures (some-compared pre.1 p.gives_digits-digits2.result),
+    let pre = c.requires.fit in (
+      rw c.compared_part.ensures (some-compared pre.0 c.gives_digits-digits1.result),
+      rw c.compared_part-2.ensures (some-compared pre.1 c.gives_digits-digits2.result),
     )
 
 pub returns : goal.returns
 unfolding comparison
 returns c =
-    let d = c in
-    let start = d in
-    let a = start.args in
+    let a = c.args in
     let s = side a.item1 a.row1 a.bytes1.now in
     let o = side a.item2 a.row2 a.bytes2.now in
-    let left = part-characters s o d.gives_digits-digits1.ensures c.compared_part.ensures in
+    let left = part-characters s o c.gives_digits-digits1.ensures c.compared_part.ensures in
     let right = part-characters o s c.gives_digits-digits2.ensures c.compared_part-2.ensures in
-    rw start.requires.row2_value (c.compare_characters.ensures ∙ ap₂ character_order left right)
+    rw c.requires.row2_value (c.compare_characters.ensures ∙ ap₂ character_order left right)

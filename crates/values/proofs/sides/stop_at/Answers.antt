@@ -5,6 +5,5 @@ use Rattle.values.proofs.sides.stop_at.Goals as goal
 
 pub overflow_add-byte : goal.overflow_add-byte
 overflow_add-byte c =
-    let start = c in
-    let inside = wrong_within start.args.row.kind start.args.row.digits start.args.bytes.now c.first_wrong.ensures in
-    record { fits = omega (arith, inside, start.requires.0.offset, start.requires.0.most) }
+    let inside = wrong_within c.args.row.kind c.args.row.digits c.args.bytes.now c.first_wrong.ensures in
+    record { fits = omega (arith, inside, c.requires.0.offset, c.requires.0.most) }

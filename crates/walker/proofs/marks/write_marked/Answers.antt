@@ -11,8 +11,4 @@ list_row-count-requires c = (omega arith, omega arith, listing-fits c.loop-v.inv
 
 pub loop-v-preserved : goal.loop-v-preserved
 loop-v-preserved c =
-    let at-list-row = c in
-    let at-loop-test = at-list-row in
-    let at-loop = at-loop-test in
-    let start = at-loop in
-    listing_more at-loop.loop-v.invariant (omega arith) start.requires.2 at-list-row.list_row-count.ensures.list_after at-list-row.list_row-count.ensures.value
+    listing_more c.loop-v.invariant (omega arith) c.requires.2 c.list_row-count.ensures.list_after c.list_row-count.ensures.value
