@@ -251,30 +251,24 @@ module _ (text flat stack rows places notes : List ℕ) (depth waiting count at 
 
         module _ {step : NameStep} (w : (1152 ≤ length rows) × (64 ≤ length places))
             (N : NameBy text p flat count s rows places notes (Ok step) rows' places' notes' nrow') where
-          abbrev r' : Names
-          r' = step.names
-
-          abbrev k : ℕ
-          k = step.end
-
           abbrev c : Condition
           c = condition (length es - 1) p (inked text (p + 2)) N.values
 
-          name_joins : read_text text ≡ joined text k (level g (parts es (G.conditions ++ c ∷ [])))
+          name_joins : read_text text ≡ joined text step.end (level g (parts es (G.conditions ++ c ∷ [])))
           name_joins = name_leads ∙ N.by.0 (naming g p d)
 
-          kept_name : Kept text es (G.conditions ++ c ∷ []) r' rows' places' notes'
+          kept_name : Kept text es (G.conditions ++ c ∷ []) step.names rows' places' notes'
           kept_name =
-              kept_more G.kept p count flat y N.values r' rows' places' notes' nrow' own there
+              kept_more G.kept p count flat y N.values step.names rows' places' notes' nrow' own there
               (omega (arith, map-length G.exact, G.counted)) (omega (arith, map-length G.exact, G.counted, some_item)) w N.by.3
 
           pub name_beyond : {flat₀ stack₀ rows₀ places₀ notes₀ nrow : List ℕ} → Beyond (found count true 0 s) flat₀ stack₀ rows₀ places₀ notes₀ flat stack rows places notes nrow →
-              length nrow' ≡ 18 → Beyond (found count true 0 r') flat₀ stack₀ rows₀ places₀ notes₀ flat stack rows' places' notes' nrow'
+              length nrow' ≡ 18 → Beyond (found count true 0 step.names) flat₀ stack₀ rows₀ places₀ notes₀ flat stack rows' places' notes' nrow'
           name_beyond B l =
-              beyond_step B p flat N.by.3 (literals_more G.kept p count flat y N.values r' rows' places' notes' nrow' own there
+              beyond_step B p flat N.by.3 (literals_more G.kept p count flat y N.values step.names rows' places' notes' nrow' own there
               (omega (arith, map-length G.exact, G.counted)) (omega (arith, map-length G.exact, G.counted, some_item)) w N.by.3) l
 
-          pub name_stops : parted (drop k text) ≡ false → {z : Found} → z ≡ found count false k r' → Reads text flat rows' places' notes' z
+          pub name_stops : parted (drop step.end text) ≡ false → {z : Found} → z ≡ found count false step.end step.names → Reads text flat rows' places' notes' z
           name_stops b q =
               rw q
               (record {
@@ -289,7 +283,7 @@ module _ (text flat stack rows places notes : List ℕ) (depth waiting count at 
                 all = kept_name.all;
               })
 
-          pub name_goes : parted (drop k text) ≡ true → Going text flat stack rows' places' notes' depth waiting count k r'
+          pub name_goes : parted (drop step.end text) ≡ true → Going text flat stack rows' places' notes' depth waiting count step.end step.names
           name_goes b =
               record {
                 exact = G.exact;
@@ -305,7 +299,7 @@ module _ (text flat stack rows places notes : List ℕ) (depth waiting count at 
                 kept = kept_name;
               }
 
-          pub name_further : (at < k) × (k ≤ length text)
+          pub name_further : (at < step.end) × (step.end ≤ length text)
           name_further = (omega (arith, N.by.2, e), N.by.1)
 
     -- An entry that is whole: the exact one.

@@ -52,12 +52,9 @@ module _ {text : List ℕ} {p : ℕ} {flat : List ℕ} {count : ℕ} {s : Names}
         (leb-false 64 s.count (or_right s.over (leb 64 s.count) a), (h.left o).few)
 
     module _ {w : NameRead} (u : r ≡ Ok w) {next : Names} where
-      abbrev t : Tally
-      t = w.tally
-
-      stepped : next ≡ cond t.over (passed_by s p) (names false 0 (s.count + 1) t.literals t.bytes) → {rows-after places-after row_last : List ℕ} →
-          (t.over ≡ false → NameStored s.count (count - 1) t.values (inked text (p + 2)) rows places row-after rows-after places-after row_last) →
-          (t.over ≡ true → NotStored s rows places notes rows-after places-after notes-after row_last) →
+      stepped : next ≡ cond w.tally.over (passed_by s p) (names false 0 (s.count + 1) w.tally.literals w.tally.bytes) → {rows-after places-after row_last : List ℕ} →
+          (w.tally.over ≡ false → NameStored s.count (count - 1) w.tally.values (inked text (p + 2)) rows places row-after rows-after places-after row_last) →
+          (w.tally.over ≡ true → NotStored s rows places notes rows-after places-after notes-after row_last) →
           NameBy text p flat count s rows places notes (Ok (record { names = next; end = w.end })) rows-after places-after notes-after row_last
       stepped m f g =
           let y = whole u in
@@ -67,16 +64,16 @@ module _ {text : List ℕ} {p : ℕ} {flat : List ℕ} {count : ℕ} {s : Names}
               y.reads,
               y.held.0,
               y.held.1,
-              record { tallied = t; row = row-after; held = y.held.2; is = m; stored = f; beyond = y.held.3; passed = g },
+              record { tallied = w.tally; row = row-after; held = y.held.2; is = m; stored = f; beyond = y.held.3; passed = g },
             );
           }
 
-      pub named_step : t.over ≡ false → next ≡ names false 0 (s.count + 1) t.literals t.bytes → {rows-after places-after row_last : List ℕ} →
-          NameStored s.count (count - 1) t.values (inked text (p + 2)) rows places row-after rows-after places-after row_last →
+      pub named_step : w.tally.over ≡ false → next ≡ names false 0 (s.count + 1) w.tally.literals w.tally.bytes → {rows-after places-after row_last : List ℕ} →
+          NameStored s.count (count - 1) w.tally.values (inked text (p + 2)) rows places row-after rows-after places-after row_last →
           NameBy text p flat count s rows places notes (Ok (record { names = next; end = w.end })) rows-after places-after notes-after row_last
       named_step o m f = stepped (m ∙ sym (rw o)) (λ _. f) (λ x. apart x o)
 
-      pub named-over : t.over ≡ true → next ≡ passed_by s p → NameBy text p flat count s rows places notes (Ok (record { names = next; end = w.end })) rows places notes-after row-after
+      pub named-over : w.tally.over ≡ true → next ≡ passed_by s p → NameBy text p flat count s rows places notes (Ok (record { names = next; end = w.end })) rows places notes-after row-after
       named-over o m =
           stepped (m ∙ sym (rw o)) (λ x. apart o x) (λ _. record { named = refl; placed = refl; spared = (whole u).spared })
 
