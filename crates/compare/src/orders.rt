@@ -2,8 +2,8 @@
 ghost use Rattle.std.specs.Prelude.{◌≡◌};
 ghost use Rattle.compare.specs.Order.{order, relation_holds, sign_holds};
 
-use std::cmp::Ordering;
 use content::relations::{EQUAL, GREATER, GREATER_OR_EQUAL, LESS, NEGATIVE, POSITIVE};
+use std::cmp::Ordering;
 
 pub fn order_of(a: u64, b: u64) -> Ordering
     ensures { result ≡ order a b }
