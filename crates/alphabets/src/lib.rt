@@ -41,6 +41,7 @@ fn alphabet_blocks(marks: &[u64; 16], word: u32, bytes: &[u8]) -> usize
     ensures { (result ≤ length bytes.now) × (all (in_alphabet word) (take result bytes.now) ≡ true) }
 {
     let mut i: usize = 0;
+    // By place: where the block begins is the answer.
     while 16 <= bytes.len() - i {
         if !block_in_alphabet(marks, word, &bytes[i..]) {
             return i;
