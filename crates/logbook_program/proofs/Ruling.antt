@@ -13,9 +13,7 @@ use Rattle.merging.specs.declared.Merged.{Merged}
 use Rattle.merging.specs.Merge.{Copies, copies_of, merged_record, contested, desk_lines, room_lines, merge_by, merge_gives}
 use Rattle.merging.proofs.Accepted.{desk_fine, merged_long}
 use Rattle.merger.specs.Desk.{Leaves}
-use Rattle.logbook_program.specs.Ruled.{status_of, merge_status, Fits, Merges, Mends}
-use Rattle.logbook_program.specs.declared.files.Loaded.{Loaded}
-use Rattle.logbook_program.specs.declared.files.Loaded.TheVariants.{Bytes}
+use Rattle.logbook_program.specs.Ruled.{status_of, merge_status, Merges, Mends}
 use Rattle.std.specs.Prelude.{Err, Ok}
 
 pub status_of_lem : {given gives : Judged} {v : Verdict} → given ≡ gives → given.verdict ≡ v → status_of v ≡ status_of gives.verdict
@@ -41,12 +39,6 @@ mended items content list {answer} {n} {new} a q w e =
         → new ≡ (mend_by line (mended_record items content) (changes items content) content list).content → new ≡ mended_record items content
     by (Ok _) f w = w
     by (Err refusal) f w = absurd (let z : ◌≡◌ {A = ℕ} 0 1 = cc in omega arith)
-
--- a file that was loaded is no longer than its room
-pub loaded_short : {r : Loaded} {n room : ℕ} (bytes : List ℕ) → Fits r room → r ≡ Bytes n → length (take n bytes) ≤ room
-loaded_short {r} {n} {room} bytes f e =
-    let few : n < room = subst (λ (l : Loaded). Fits l room) e f in
-    omega (arith, length-take n bytes, few)
 
 -- a record that is copied whole
 pub copied : {out text after : List ℕ} {end : ℕ} → Puts out 0 text end after → length text ≤ length out → take end after ≡ text

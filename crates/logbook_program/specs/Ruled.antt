@@ -1,13 +1,11 @@
 -- What the program says and saves, by the rules. A file's bytes are free: they are what the system reads.
-use Rattle.std.specs.Prelude.{◌≡◌, ℕ, ◌<◌, cond, List, ◌==◌}
+use Rattle.std.specs.Prelude.{◌≡◌, ℕ, ◌<◌, cond, List, ◌==◌, Option, Some, None}
 use Rattle.tables.specs.declared.Verdict.{Verdict}
 use Rattle.tables.specs.declared.Verdict.TheVariants.{True, False, Refused}
 use Rattle.tables.specs.Operands.{Lent}
 use Rattle.rules.specs.Calls.{run_gives}
 use Rattle.mending.specs.Mend.{mended_record}
 use Rattle.merging.specs.Merge.{copies_of, merged_record, contested}
-use Rattle.logbook_program.specs.declared.files.Loaded.{Loaded}
-use Rattle.logbook_program.specs.declared.files.Loaded.TheVariants.{Bytes, Failed}
 
 -- the status of a verdict: 0 true, 1 false, 2 where nothing could be judged
 abbrev pub status_of : Verdict → ℕ
@@ -20,9 +18,9 @@ abbrev pub merge_status : ℕ → ℕ
 merge_status count = cond (count == 0) 0 1
 
 -- a file that was loaded left room, so that it is whole
-abbrev pub Fits : Loaded → ℕ → Type 0
-Fits (Bytes n) room = n < room
-Fits Failed room = Unit {0}
+abbrev pub Fits : Option ℕ → ℕ → Type 0
+Fits (Some n) room = n < room
+Fits None room = Unit {0}
 
 -- What is shown and saved of three copies is what the rules merge, and the rows that they list as contested.
 pub record Merges (lent : Lent) (plan : List ℕ) (switches : ℕ) (old first second merged list : List ℕ) : Type 0 where

@@ -1,7 +1,7 @@
 // Items of two copies side by side.
 ghost use Rattle.std.specs.Prelude.{◌≡◌, take, drop};
 
-use crate::files::{back_bytes, wide};
+use crate::files::back_bytes;
 use crate::print::text;
 use crate::wording::item_name;
 use change_lines::changes::put_change;
@@ -15,7 +15,7 @@ const LINE: usize = 2048;
 pub(crate) fn part(row: Row, record: &[u8]) -> &[u8]
     ensures { result.now ≡ take row.size (drop row.offset «record».now) }
 {
-    front_bytes(back_bytes(record, wide(row.offset)), wide(row.size))
+    front_bytes(back_bytes(record, row.offset as usize), row.size as usize)
 }
 
 // What an item was and is: a line of its name, a word or two, the old content and the new.

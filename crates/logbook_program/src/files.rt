@@ -12,13 +12,6 @@ use std::fs::File;
 use std::io;
 use std::io::{ErrorKind, Read, Write};
 
-// How many bytes a file has, or that a message was given.
-#[derive(Clone, Copy)]
-pub enum Loaded {
-    Bytes(usize),
-    Failed,
-}
-
 // No item ends after byte 131,070; a part of a file, and the words of a rule, have the same room.
 const LARGE: usize = 131072;
 
@@ -27,13 +20,6 @@ pub(crate) fn large() -> [u8; LARGE]
     ensures { 131072 ≡ length result }
 {
     [0u8; LARGE]
-}
-
-// A number of a table as an index.
-pub(crate) fn wide(number: u32) -> usize
-    ensures { result ≡ number }
-{
-    number as usize
 }
 
 // The bytes from n on.
@@ -73,22 +59,21 @@ pub(crate) fn at_end(rt: HostRuntime, i: usize, file: &mut File) -> bool {
     false
 }
 
-// All of the file that argument i names. The room is one byte more than it may have.
-pub(crate) fn load(rt: HostRuntime, i: usize, bytes: &mut [u8]) -> Loaded
+// All of the file that argument i names, and how many bytes that is; None where a message was given. The room is one byte more than it
+// may have.
+pub(crate) fn load(rt: HostRuntime, i: usize, bytes: &mut [u8]) -> Option<usize>
     ensures { Fits result (length bytes.old) }
 {
-    let Some(mut file) = open(rt, i) else {
-        return Loaded::Failed;
-    };
+    let mut file = open(rt, i)?;
     let count = read_full(&mut file, bytes);
     if count < bytes.len() {
         if at_end(rt, i, &mut file) {
-            return Loaded::Bytes(count);
+            return Some(count);
         }
-        return Loaded::Failed;
+        return None;
     }
     complaint(rt, i, b": this file is too long\n");
-    Loaded::Failed
+    None
 }
 
 // Whether nothing has the name that argument i gives, so that a new file may take it.

@@ -4,7 +4,7 @@ ghost use Rattle.tables.specs.Operands.{lend_names};
 ghost use Rattle.rules.specs.Calls.{run_gives};
 ghost use Rattle.logbook_program.specs.Ruled.{status_of};
 
-use crate::files::{Loaded, large, load};
+use crate::files::{large, load};
 use crate::refusals::{numbered, of_record};
 use crate::verdicts::{judged, stop, verdict};
 use conditions::calls::run;
@@ -117,10 +117,9 @@ pub(crate) fn judge_record(
     ensures { result ≤ 2 }
 {
     let mut record = large();
-    let loaded = load(rt, 4, &mut record);
-    match loaded {
-        Loaded::Failed => 2,
-        Loaded::Bytes(n) => judge_loaded(
+    match load(rt, 4, &mut record) {
+        None => 2,
+        Some(n) => judge_loaded(
             rt,
             description,
             items,

@@ -2,7 +2,7 @@
 ghost use Rattle.std.specs.Prelude.{◌≤◌};
 
 use crate::changes::{change, part};
-use crate::files::{Loaded, large, load, wide};
+use crate::files::{large, load};
 use crate::refusals::of_record;
 use content::Row;
 use differences::calls::differ;
@@ -92,8 +92,7 @@ fn lines(
 ) -> u32
     ensures { result ≤ 2 }
 {
-    let mut at: usize = 0;
-    while list.len() - at >= 2 {
+    for pair in list.chunks_exact(2) {
         marked(
             rt,
             description,
@@ -101,12 +100,11 @@ fn lines(
             places,
             first,
             second,
-            wide(list[at]),
-            list[at + 1],
+            pair[0] as usize,
+            pair[1],
         );
-        at += 2;
     }
-    if at == 0 {
+    if list.len() < 2 {
         return 0;
     }
     1
@@ -151,10 +149,9 @@ fn with_second(
     ensures { result ≤ 2 }
 {
     let mut second = large();
-    let loaded = load(rt, 4, &mut second);
-    match loaded {
-        Loaded::Failed => 2,
-        Loaded::Bytes(n) => compared(
+    match load(rt, 4, &mut second) {
+        None => 2,
+        Some(n) => compared(
             rt,
             description,
             items,
@@ -174,9 +171,8 @@ pub(crate) fn list_differences(
     ensures { result ≤ 2 }
 {
     let mut first = large();
-    let loaded = load(rt, 3, &mut first);
-    match loaded {
-        Loaded::Failed => 2,
-        Loaded::Bytes(n) => with_second(rt, description, items, places, front_bytes(&first, n)),
+    match load(rt, 3, &mut first) {
+        None => 2,
+        Some(n) => with_second(rt, description, items, places, front_bytes(&first, n)),
     }
 }

@@ -1,7 +1,6 @@
 // items: a table of what a description says.
 ghost use Rattle.std.specs.Prelude.{◌≤◌};
 
-use crate::files::wide;
 use crate::print::text;
 use crate::wording::{item_name, name_at, words};
 use content::Row;
@@ -60,12 +59,11 @@ fn values(rt: HostRuntime, description: &[u8], literals: &[u32], bytes: &[u8], n
     if name.len() < NAME_WIDTH {
         return;
     }
-    let count = wide(name[1]);
+    let count = name[1] as usize;
     if 8 < count {
         return;
     }
-    let mut i: usize = 0;
-    while i < count {
+    for i in 0..count {
         value(
             rt,
             description,
@@ -74,7 +72,6 @@ fn values(rt: HostRuntime, description: &[u8], literals: &[u32], bytes: &[u8], n
             name[2 * i + 2],
             name[2 * i + 3],
         );
-        i += 1;
     }
 }
 
@@ -114,10 +111,8 @@ fn name_of(
     bytes: &[u8],
     v: usize,
 ) {
-    if name.len() > 0 {
-        if wide(name[0]) == v {
-            name_line(rt, description, place, name, literals, bytes);
-        }
+    if name.len() > 0 && name[0] as usize == v {
+        name_line(rt, description, place, name, literals, bytes);
     }
 }
 
@@ -131,19 +126,16 @@ fn names_of(
     bytes: &[u8],
     v: usize,
 ) {
-    let mut k: usize = 0;
-    while k < name_places.len() {
-        let place = wide(name_places[k]);
+    for (k, place) in name_places.iter().enumerate() {
         name_of(
             rt,
             description,
-            place,
+            *place as usize,
             names_from(names, k),
             literals,
             bytes,
             v,
         );
-        k += 1;
     }
 }
 
@@ -159,11 +151,9 @@ fn row_lines(
     bytes: &[u8],
 ) {
     let rows = items.len() / Row::WIDTH;
-    let mut v: usize = 0;
-    while v < rows {
+    for v in 0..rows {
         row_line(rt, description, places, v, row_at(items, v));
         names_of(rt, description, names, name_places, literals, bytes, v);
-        v += 1;
     }
 }
 

@@ -23,7 +23,7 @@ use console::arguments::{argument, argument_count};
 use content::Row;
 use describing::Described;
 use descriptions::calls::describe;
-use files::{Loaded, load};
+use files::load;
 use forms::calls::plan;
 use fronts::{front, front_bytes};
 use item_parts::parts::same_bytes;
@@ -59,7 +59,7 @@ const TOKENS: usize = 256;
 const PLAN: usize = 640;
 
 // What is asked for; Unknown where it is nothing of these.
-#[derive(Clone, Copy)]
+#[derive(Clone, Copy, Debug, PartialEq, Eq)]
 enum Command {
     Items,
     Rule,
@@ -114,49 +114,26 @@ fn command_of(word: &[u8], count: usize) -> Command {
     Command::Unknown
 }
 
-// The bit of switch i, from the left.
-fn bit(i: usize) -> u8 {
-    match i {
-        0 => 0x80,
-        1 => 0x40,
-        2 => 0x20,
-        3 => 0x10,
-        4 => 0x08,
-        5 => 0x04,
-        6 => 0x02,
-        _ => 0x01,
-    }
-}
-
-// A switch byte as eight digits, each 0 or 1; or that it is none.
-#[derive(Clone, Copy)]
-enum Switches {
-    Byte(u8),
-    Wrong,
-}
-
-fn switches_of(digits: &[u8]) -> Switches {
+// A switch byte as eight digits, each 0 or 1, the first for the highest bit.
+fn switches_of(digits: &[u8]) -> Option<u8> {
     if digits.len() != 8 {
-        return Switches::Wrong;
+        return None;
     }
     let mut byte: u8 = 0;
-    let mut i: usize = 0;
-    while i < 8 {
-        let digit = digits[i];
-        if digit == b'1' {
-            byte = byte | bit(i);
-        } else if digit != b'0' {
-            return Switches::Wrong;
+    for (i, digit) in digits.iter().enumerate() {
+        match *digit {
+            b'0' => {}
+            b'1' => byte |= 0x80 >> i,
+            _ => return None,
         }
-        i += 1;
     }
-    Switches::Byte(byte)
+    Some(byte)
 }
 
 // Argument 5 of judge; all off where it is left out.
-fn given_switches(rt: HostRuntime) -> Switches {
+fn given_switches(rt: HostRuntime) -> Option<u8> {
     if argument_count(&rt) < 6 {
-        return Switches::Byte(0);
+        return Some(0);
     }
     let mut digits = [0u8; 16];
     let n = argument(&rt, 5, &mut digits);
@@ -191,9 +168,8 @@ fn planned(
             plan,
         ),
         Command::Judge => {
-            let given = given_switches(rt);
-            match given {
-                Switches::Byte(byte) => judge_record(
+            match given_switches(rt) {
+                Some(byte) => judge_record(
                     rt,
                     description,
                     items,
@@ -204,7 +180,7 @@ fn planned(
                     plan,
                     byte,
                 ),
-                Switches::Wrong => usage(rt),
+                None => usage(rt),
             }
         }
         Command::Sweep => sweep_file(
@@ -323,10 +299,9 @@ fn load_rule(
     ensures { result ≤ 2 }
 {
     let mut rule = [0u8; RULE];
-    let loaded = load(rt, 3, &mut rule);
-    match loaded {
-        Loaded::Failed => 2,
-        Loaded::Bytes(n) => with_rule(
+    match load(rt, 3, &mut rule) {
+        None => 2,
+        Some(n) => with_rule(
             rt,
             command,
             description,
@@ -412,10 +387,9 @@ fn load_description(rt: HostRuntime, command: Command) -> u32
     ensures { result ≤ 2 }
 {
     let mut description = [0u8; DESCRIPTION];
-    let loaded = load(rt, 2, &mut description);
-    match loaded {
-        Loaded::Failed => 2,
-        Loaded::Bytes(n) => with_description(rt, command, front_bytes(&description, n)),
+    match load(rt, 2, &mut description) {
+        None => 2,
+        Some(n) => with_description(rt, command, front_bytes(&description, n)),
     }
 }
 

@@ -3,7 +3,7 @@ ghost use Rattle.std.specs.Prelude.{◌≡◌, ◌≤◌, length};
 ghost use Rattle.logbook_program.specs.Ruled.{Mends};
 
 use crate::changes::{change, part};
-use crate::files::{Loaded, is_free, large, load, save};
+use crate::files::{is_free, large, load, save};
 use crate::print::{argument, text};
 use crate::refusals::of_record;
 use content::Row;
@@ -24,10 +24,7 @@ fn row_line(
     old: &[u8],
     new: &[u8],
 ) {
-    if is_group(row) {
-        return;
-    }
-    if same_bytes(part(row, old), part(row, new)) {
+    if is_group(row) || same_bytes(part(row, old), part(row, new)) {
         return;
     }
     change(
@@ -50,10 +47,8 @@ fn listing(
     new: &[u8],
 ) {
     let rows = items.len() / Row::WIDTH;
-    let mut v: usize = 0;
-    while v < rows {
+    for v in 0..rows {
         row_line(rt, description, places, v, row_at(items, v), old, new);
-        v += 1;
     }
 }
 
@@ -127,9 +122,8 @@ pub(crate) fn mend_record(rt: HostRuntime, description: &[u8], items: &[u32], pl
         return 2;
     }
     let mut old = large();
-    let loaded = load(rt, 3, &mut old);
-    match loaded {
-        Loaded::Failed => 2,
-        Loaded::Bytes(n) => mend_copy(rt, description, items, places, front_bytes(&old, n)),
+    match load(rt, 3, &mut old) {
+        None => 2,
+        Some(n) => mend_copy(rt, description, items, places, front_bytes(&old, n)),
     }
 }

@@ -4,7 +4,7 @@ ghost use Rattle.tables.specs.Operands.{lend_names};
 ghost use Rattle.logbook_program.specs.Ruled.{merge_status, Merges};
 
 use crate::changes::{change, part};
-use crate::files::{Loaded, is_free, large, load, save, wide};
+use crate::files::{is_free, large, load, save};
 use crate::judge_record::refused;
 use crate::print::text;
 use crate::refusals::of_record;
@@ -25,14 +25,7 @@ const LINE: usize = 4224;
 
 // Whether a row is in the list.
 fn is_listed(list: &[u32], v: usize) -> bool {
-    let mut i: usize = 0;
-    while i < list.len() {
-        if wide(list[i]) == v {
-            return true;
-        }
-        i += 1;
-    }
-    false
+    list.iter().any(|row| *row as usize == v)
 }
 
 // An item that both changed, and not alike: what the rule gave it.
@@ -164,8 +157,7 @@ fn listing(
     merged: &[u8],
 ) {
     let rows = items.len() / Row::WIDTH;
-    let mut v: usize = 0;
-    while v < rows {
+    for v in 0..rows {
         let row = row_at(items, v);
         row_line(
             rt,
@@ -179,7 +171,6 @@ fn listing(
             second,
             merged,
         );
-        v += 1;
     }
 }
 
@@ -354,10 +345,9 @@ fn with_second<'a>(
     ensures { result ≤ 2 }
 {
     let mut second = large();
-    let loaded = load(rt, 6, &mut second);
-    match loaded {
-        Loaded::Failed => 2,
-        Loaded::Bytes(n) => merge_loaded(
+    match load(rt, 6, &mut second) {
+        None => 2,
+        Some(n) => merge_loaded(
             rt,
             description,
             items,
@@ -389,10 +379,9 @@ fn with_first<'a>(
     ensures { result ≤ 2 }
 {
     let mut first = large();
-    let loaded = load(rt, 5, &mut first);
-    match loaded {
-        Loaded::Failed => 2,
-        Loaded::Bytes(n) => with_second(
+    match load(rt, 5, &mut first) {
+        None => 2,
+        Some(n) => with_second(
             rt,
             description,
             items,
@@ -425,10 +414,9 @@ pub(crate) fn merge_copies(
         return 2;
     }
     let mut old = large();
-    let loaded = load(rt, 4, &mut old);
-    match loaded {
-        Loaded::Failed => 2,
-        Loaded::Bytes(n) => with_first(
+    match load(rt, 4, &mut old) {
+        None => 2,
+        Some(n) => with_first(
             rt,
             description,
             items,

@@ -84,13 +84,9 @@ fn put_numbers(out: &mut [u32; NAMES], at: usize, numbers: &[u32]) -> usize {
     if at > NAMES {
         return at;
     }
-    let room = NAMES - at;
-    let mut i: usize = 0;
-    while (i < numbers.len()) & (i < room) {
-        out[at + i] = numbers[i];
-        i += 1;
-    }
-    at + i
+    let count = numbers.len().min(NAMES - at);
+    out[at..at + count].copy_from_slice(&numbers[..count]);
+    at + count
 }
 
 // A refusal of a rule whose words are known, at the word that it means. Names are at these places of the description, the items' first.

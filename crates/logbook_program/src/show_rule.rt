@@ -1,7 +1,7 @@
 // rule: the rule as read, in full, as a plan, and the items that it may look at.
 ghost use Rattle.std.specs.Prelude.{◌≤◌};
 
-use crate::files::{large, wide};
+use crate::files::large;
 use crate::print::text;
 use crate::refusals::sentence;
 use crate::verdicts::condition;
@@ -73,10 +73,8 @@ fn row_line(
 
 fn plan_lines(rt: HostRuntime, description: &[u8], literals: &[u32], bytes: &[u8], plan: &[u32]) {
     let rows = plan.len() / 5;
-    let mut k: usize = 0;
-    while k < rows {
+    for k in 0..rows {
         row_line(rt, description, literals, bytes, k, plan_row(plan, k));
-        k += 1;
     }
 }
 
@@ -87,10 +85,8 @@ fn name_line(rt: HostRuntime, description: &[u8], places: &[u32], v: usize) {
 
 // A line for each of these items.
 fn name_lines(rt: HostRuntime, description: &[u8], places: &[u32], rows: &[u32]) {
-    let mut i: usize = 0;
-    while i < rows.len() {
-        name_line(rt, description, places, wide(rows[i]));
-        i += 1;
+    for row in rows {
+        name_line(rt, description, places, *row as usize);
     }
 }
 

@@ -1,7 +1,7 @@
 // sweep: one rule over a file of entries of the description's length, read in parts that are whole entries.
 ghost use Rattle.std.specs.Prelude.{◌≤◌};
 
-use crate::files::{at_end, large, open, wide};
+use crate::files::{at_end, large, open};
 use crate::print::{complaint, number, text};
 use crate::refusals::{of_record, sentence};
 use crate::verdicts::stop;
@@ -10,7 +10,6 @@ use content::Row;
 use entry_lines::entries::{put_entry, put_totals};
 use fronts::{front, front_bytes};
 use std::fs::File;
-use std::num::{wrapping_add_usize, wrapping_sub_usize};
 use sweeper::calls::sweep;
 use sweeps::Unswept;
 use tables::rows::row_at;
@@ -33,6 +32,7 @@ const OFTEN: usize = 64;
 const LINE: usize = 128;
 
 // How many entries there were so far, and of what kind; whether something was refused, and whether the file has ended.
+// Two flags: an enum of what may be would say no more, and each is asked alone.
 #[derive(Clone, Copy)]
 pub struct Totals {
     pub entries: usize,
@@ -43,38 +43,13 @@ pub struct Totals {
     pub ended: bool,
 }
 
-fn one_more(n: usize) -> usize {
-    wrapping_add_usize(n, 1)
-}
-
-fn larger(a: usize, b: usize) -> usize {
-    if a < b {
-        return b;
-    }
-    a
-}
-
-fn smaller(a: usize, b: usize) -> usize
-    ensures { (result ≤ a) × (result ≤ b) }
-{
-    if a < b {
-        return a;
-    }
-    b
-}
-
 // Where the last item ends.
 fn entry_size(items: &[u32]) -> usize {
     let rows = items.len() / Row::WIDTH;
     let mut size: usize = 0;
-    let mut v: usize = 0;
-    while v < rows {
+    for v in 0..rows {
         let row = row_at(items, v);
-        size = larger(
-            size,
-            wrapping_add_usize(row.offset as usize, row.size as usize),
-        );
-        v += 1;
+        size = size.max((row.offset as usize).wrapping_add(row.size as usize));
     }
     size
 }
@@ -84,18 +59,7 @@ fn entries_at_once(size: usize) -> usize {
     if size == 0 {
         return 0;
     }
-    smaller(ENTRIES, PART / size)
-}
-
-// The bytes of so many entries.
-fn bytes_of(count: usize, size: usize) -> usize {
-    let mut bytes: usize = 0;
-    let mut left = count;
-    while left > 0 {
-        bytes = wrapping_add_usize(bytes, size);
-        left -= 1;
-    }
-    bytes
+    ENTRIES.min(PART / size)
 }
 
 // A part of the records, as far as they go.
@@ -113,21 +77,17 @@ fn entry_number(rt: HostRuntime, n: usize) {
 }
 
 fn one_more_if(n: usize, counts: bool) -> usize {
-    if counts {
-        return one_more(n);
-    }
-    n
+    n.wrapping_add(usize::from(counts))
 }
 
 // The totals with one entry more.
 fn counted(totals: Totals, answer: u32) -> Totals {
     Totals {
-        entries: one_more(totals.entries),
+        entries: totals.entries.wrapping_add(1),
         held: one_more_if(totals.held, answer == 1),
         failed: one_more_if(totals.failed, answer == 0),
         stopped: one_more_if(totals.stopped, answer > 1),
-        refused: totals.refused,
-        ended: totals.ended,
+        ..totals
     }
 }
 
@@ -186,9 +146,8 @@ fn lines(
     }
     let mut totals = before;
     let mut from: usize = 0;
-    let mut at: usize = 0;
-    while answers.len() - at >= 4 {
-        totals = counted(totals, answers[at]);
+    for answer in answers.chunks_exact(4) {
+        totals = counted(totals, answer[0]);
         entry_line(
             rt,
             description,
@@ -199,12 +158,11 @@ fn lines(
             plan,
             entry_from(records, from, size),
             totals.entries,
-            answers[at],
-            wide(answers[at + 1]),
-            wide(answers[at + 2]),
+            answer[0],
+            answer[1] as usize,
+            answer[2] as usize,
         );
-        from = wrapping_add_usize(from, size);
-        at += 4;
+        from = from.wrapping_add(size);
     }
     totals
 }
@@ -220,12 +178,9 @@ fn progress(rt: HostRuntime, left: usize, done: usize) {
 
 fn with_refusal(totals: Totals) -> Totals {
     Totals {
-        entries: totals.entries,
-        held: totals.held,
-        failed: totals.failed,
-        stopped: totals.stopped,
         refused: true,
         ended: true,
+        ..totals
     }
 }
 
@@ -241,12 +196,8 @@ fn rest_of(n: usize, size: usize) -> usize {
 fn checked_end(rt: HostRuntime, totals: Totals, size: usize, rest: usize) -> Totals {
     if rest == 0 {
         return Totals {
-            entries: totals.entries,
-            held: totals.held,
-            failed: totals.failed,
-            stopped: totals.stopped,
-            refused: totals.refused,
             ended: true,
+            ..totals
         };
     }
     sentence(rt, 21);
@@ -347,7 +298,7 @@ fn one_part(
         bytes,
         plan,
         switches,
-        front_bytes(&records, wrapping_sub_usize(n, rest)),
+        front_bytes(&records, n.wrapping_sub(rest)),
         size,
         totals,
     );
@@ -374,10 +325,9 @@ fn parts(
     file: &mut File,
     size: usize,
 ) -> Totals {
-    let wanted = bytes_of(entries_at_once(size), size);
+    let wanted = entries_at_once(size).wrapping_mul(size);
     let mut totals = none();
-    let mut left = PARTS;
-    while left > 0 {
+    for left in (0..PARTS).rev() {
         totals = one_part(
             rt,
             description,
@@ -396,7 +346,6 @@ fn parts(
         if totals.ended {
             return totals;
         }
-        left -= 1;
         progress(rt, left, totals.entries);
     }
     with_refusal(totals)

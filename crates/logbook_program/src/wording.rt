@@ -2,7 +2,6 @@
 ghost use Rattle.std.specs.Prelude.{◌≡◌, drop};
 ghost use Rattle.logbook_program.specs.Worded.{ends_name, name_in, place_of_row, name_of_row, has_byte, item_with, Words};
 
-use crate::files::wide;
 use content::Row;
 use fronts::front_bytes;
 use printouts::printing::print;
@@ -19,12 +18,10 @@ fn ends_name(byte: u8) -> bool
 fn first_word(rest: &[u8]) -> &[u8]
     ensures { result.now ≡ name_in rest.now }
 {
-    let mut end: usize = 0;
-    while end < rest.len() {
-        if ends_name(rest[end]) {
+    for (end, byte) in rest.iter().enumerate() {
+        if ends_name(*byte) {
             return front_bytes(rest, end);
         }
-        end += 1;
     }
     rest
 }
@@ -44,7 +41,7 @@ fn place_of_row(description: &[u8], places: &[u32], v: usize) -> usize
     ensures { result ≡ place_of_row description.now places.now v }
 {
     if v < places.len() {
-        return wide(places[v]);
+        return places[v] as usize;
     }
     description.len()
 }
@@ -75,11 +72,8 @@ pub(crate) fn words(
 fn holds(row: Row, byte: usize) -> bool
     ensures { result ≡ has_byte row byte }
 {
-    let start = wide(row.offset);
-    if byte < start {
-        return false;
-    }
-    byte - start < wide(row.size)
+    let start = row.offset as usize;
+    start <= byte && byte - start < row.size as usize
 }
 
 // The elementary item that has a byte of the record, of at most 64; 64 where none has it.
@@ -90,15 +84,13 @@ pub(crate) fn item_with(items: &[u32], byte: usize) -> usize
     if 64 < count {
         return 64;
     }
-    let mut v: usize = 0;
-    while v < count {
+    for v in 0..count {
         let row = row_at(items, v);
         if !is_group(row) {
             if holds(row, byte) {
                 return v;
             }
         }
-        v += 1;
     }
     64
 }

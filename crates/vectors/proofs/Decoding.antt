@@ -1,8 +1,6 @@
--- Words of four bytes, one after the other; and lists that are the same so far.
+-- Words of four bytes, one after the other.
 use Rattle.std.proofs.Common.{◌≡◌, ℕ, zero, suc, ◌+◌, ◌-◌, ◌<◌, ◌≤◌, true, false, List, [], ◌∷◌, ◌++◌, length, get_or, take, drop, set, sym, refl, ap, ◌∙◌, ap₂, add-one, arith, length-drop, length-set, length-take-le, take_all, drop-cons, take-suc, drop-drop}
-use mathlib.Core.Bool.{false≢true}
 use Rattle.vectors.specs.Parts.{word_of, words_of, Decodes}
-use Rattle.vectors.specs.Sums.{SameNumbers}
 
 -- no word is left in fewer than four bytes
 short : (raw : List ℕ) → length raw < 4 → words_of raw ≡ []
@@ -98,17 +96,3 @@ module _ {raw words₀ words : List ℕ} {count at : ℕ} (G : Going raw words�
         counted = sym (ap length fits ∙ e);
         stands = G.stands ∙ ap (λ (l : List ℕ). l ++ drop count words₀) (so_far ∙ sym fits);
       }
-
--- Lists that are the same so far.
-module _ (one other : List ℕ) where
-  pub other_length : (length one ≡ length other → ⊥) → SameNumbers one other false
-  other_length h = record { told = λ e. absurd (false≢true e); same = λ e. absurd (h (ap length e)) }
-
-  pub other_number : (i : ℕ) → (get_or one i 0 ≡ get_or other i 0 → ⊥) → SameNumbers one other false
-  other_number i h = record { told = λ e. absurd (false≢true e); same = λ e. absurd (h (ap (λ (l : List ℕ). get_or l i 0) e)) }
-
-  pub same_more : (i : ℕ) → i < length one → i < length other → get_or one i 0 ≡ get_or other i 0 → take i one ≡ take i other → take (i + 1) one ≡ take (i + 1) other
-  same_more i h l e f = rw (add-one i) (take-suc one i 0 h ∙ ap₂ (λ (v : List ℕ) (n : ℕ). v ++ (n ∷ [])) f e ∙ sym (take-suc other i 0 l))
-
-  pub all_same : (i : ℕ) → length one ≤ i → length other ≤ i → take i one ≡ take i other → SameNumbers one other true
-  all_same i h l f = record { told = λ _. sym (take_all i one h) ∙ f ∙ take_all i other l; same = λ _. refl }

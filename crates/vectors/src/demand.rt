@@ -16,17 +16,7 @@ const ENOUGH: usize = 640;
 fn same_numbers(one: &[u32], other: &[u32]) -> bool
     ensures { SameNumbers one.now other.now result }
 {
-    if one.len() != other.len() {
-        return false;
-    }
-    let mut i: usize = 0;
-    while i < one.len() {
-        if one[i] != other[i] {
-            return false;
-        }
-        i += 1;
-    }
-    true
+    one == other
 }
 
 fn has_plan(words: &[u32], bytes: &[u8], tokens: &[u32], rows: &[u32]) -> bool

@@ -12,7 +12,10 @@ const RAW: usize = 8192;
 fn word(first: u8, second: u8, third: u8, fourth: u8) -> u32
     ensures { result ≡ word_of first second third fourth }
 {
-    first as u32 + second as u32 * 256 + third as u32 * 65536 + fourth as u32 * 16777216
+    u32::from(first)
+        + u32::from(second) * 256
+        + u32::from(third) * 65536
+        + u32::from(fourth) * 16777216
 }
 
 // 0 where the input has ended. Free: any other word, which is the input's.
@@ -31,17 +34,15 @@ pub(crate) fn read_word(input: &mut impl Read) -> u32
 fn decode(raw: &[u8], words: &mut [u32]) -> usize
     ensures { Decodes raw.now words.old result words.new }
 {
-    let mut count: usize = 0;
     let mut at: usize = 0;
-    while count < words.len() {
+    for count in 0..words.len() {
         if raw.len() - at < 4 {
             return count;
         }
         words[count] = word(raw[at], raw[at + 1], raw[at + 2], raw[at + 3]);
-        count += 1;
         at += 4;
     }
-    count
+    words.len()
 }
 
 fn read_raw(input: &mut impl Read, raw: &mut [u8], words: &mut [u32]) -> usize

@@ -45,11 +45,10 @@ fn next_case(rt: &impl Print, input: &mut impl Read) -> bool {
 
 fn main(rt: HostRuntime) {
     let mut input = rt.stdin();
-    let mut left = input::read_word(&mut input);
-    while left > 0 {
+    let cases = input::read_word(&mut input);
+    for _ in 0..cases {
         if !next_case(&rt, &mut input) {
             return;
         }
-        left -= 1;
     }
 }

@@ -9,28 +9,24 @@ pub(crate) fn fill(output: &mut [u32])
     ensures { output.new ≡ filled (length output.old) }
 {
     let mut next: u32 = 3000000000;
-    let mut i: usize = 0;
-    while i < output.len() {
-        output[i] = next;
+    for number in output.iter_mut() {
+        *number = next;
         next = wrapping_add_u32(next, 1);
-        i += 1;
     }
 }
 
 fn times_prime(x: u32) -> u32
     ensures { result ≡ x * 16777619 % 4294967296 }
 {
-    (x as u64 * 16777619 % 4294967296) as u32
+    (u64::from(x) * 16777619 % 4294967296) as u32
 }
 
 pub(crate) fn checksum(output: &[u32]) -> u32
     ensures { result ≡ checksum_of output.now }
 {
     let mut sum: u32 = 2166136261;
-    let mut i: usize = 0;
-    while i < output.len() {
-        sum = times_prime(sum ^ output[i]);
-        i += 1;
+    for number in output {
+        sum = times_prime(sum ^ *number);
     }
     sum
 }

@@ -33,12 +33,6 @@ pub const PLAN_ROOM: usize = 2;
 
 const SETTINGS: usize = 3;
 
-fn wide(x: u32) -> usize
-    ensures { result ≡ x }
-{
-    x as usize
-}
-
 // The words from a place on.
 fn rest(words: &[u32], at: usize) -> &[u32]
     ensures { result.now ≡ drop at words.now }
@@ -54,7 +48,7 @@ fn part_end(words: &[u32], at: usize) -> usize
     ensures { PartEnds words.now at result }
 {
     if at < words.len() {
-        let count = wide(words[at]);
+        let count = words[at] as usize;
         if count < words.len() - at {
             return at + 1 + count;
         }
@@ -67,10 +61,8 @@ fn start(words: &[u32], part: usize) -> usize
     ensures { Starts words.now part result }
 {
     let mut at: usize = 0;
-    let mut passed: usize = 0;
-    while passed < part {
+    for passed in 0..part {
         at = part_end(words, at);
-        passed += 1;
     }
     at
 }
@@ -92,7 +84,7 @@ pub(crate) fn setting(words: &[u32], number: usize) -> usize
 {
     let settings = rest(words, start(words, PARTS));
     if number < settings.len() {
-        return wide(settings[number]);
+        return settings[number] as usize;
     }
     WORDS
 }

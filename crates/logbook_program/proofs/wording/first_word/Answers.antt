@@ -6,12 +6,11 @@ use Rattle.logbook_program.proofs.wording.first_word.Goals as goal
 pub returns-then-ends_name : goal.returns-then-ends_name
 returns-then-ends_name c =
     c.front_bytes.ensures
-    ∙ name_ends c.args.rest.now c.loop-end.end c.loop-end.invariant.1 c.loop-end-test.true (sym c.ends_name.ensures ∙ c.if-ends_name.true)
+    ∙ name_ends c.args.rest.now c.loop-end.end c.loop-end.invariant (omega arith) (sym c.ends_name.ensures ∙ c.if-ends_name.true)
 
 pub loop-end-preserved : goal.loop-end-preserved
 loop-end-preserved c =
-    let going = c.loop-end-test.true in
-    (omega (arith, going), name_goes_on c.args.rest.now c.loop-end.end c.loop-end.invariant.1 going (sym c.ends_name.ensures ∙ c.if-ends_name.false))
+    name_goes_on c.args.rest.now c.loop-end.end c.loop-end.invariant (omega arith) (sym c.ends_name.ensures ∙ c.if-ends_name.false)
 
 pub returns : goal.returns
-returns c = name_is_all c.args.rest.now c.loop-end.end c.loop-end.invariant.1 c.loop-end-test.false
+returns c = name_is_all c.args.rest.now c.loop-end.end c.loop-end.invariant (omega arith)

@@ -8,4 +8,4 @@ returns-then-raw-at-lt4 c = no_word c.loop-count.invariant c.if-raw-at-lt4.true
 
 pub loop-count-preserved : goal.loop-count-preserved
 loop-count-preserved c =
-    one_more c.loop-count.invariant c.word.result (omega (arith, c.loop-count.invariant.sized, c.loop-count-test.true)) c.if-raw-at-lt4.false c.word.ensures
+    one_more c.loop-count.invariant c.word.result (omega (arith, c.loop-count.invariant.sized)) c.if-raw-at-lt4.false c.word.ensures

@@ -1,10 +1,6 @@
 -- `decode` meets its contract.
-use Rattle.std.proofs.Common.{◌-◌, length}
 use Rattle.vectors.proofs.Decoding.{Going}
 use Rattle.vectors.proofs.input.decode.Given as goal
 
 abbrev pub invariant-loop-count : goal.invariant-loop-count
 invariant-loop-count l = Going l.raw l.initial.words l.words l.count l.at
-
-abbrev pub decreases-loop-count : goal.decreases-loop-count
-decreases-loop-count l = length l.initial.words - l.count

@@ -3,12 +3,10 @@ use Rattle.std.proofs.Common.{arith}
 use Rattle.vectors.proofs.Summing.{sum-next, sum_last}
 use Rattle.vectors.proofs.output.checksum.Goals as goal
 
-pub loop-i-preserved : goal.loop-i-preserved
-loop-i-preserved c =
-    let l = c.loop-i in (
-      omega (arith, c.loop-i-test.true),
-      sum-next c.args.output.now l.sum l.i c.times_prime-sum.result c.loop-i-test.true c.times_prime-sum.ensures l.invariant.1,
-    )
+pub loop-number-preserved : goal.loop-number-preserved
+loop-number-preserved c =
+    let l = c.loop-number in
+    sum-next c.args.output.now l.sum l.number-index c.times_prime-sum.result (omega arith) c.times_prime-sum.ensures l.invariant
 
 pub returns : goal.returns
-returns c = sum_last c.args.output.now c.loop-i.sum c.loop-i.i c.loop-i-test.false c.loop-i.invariant.0 c.loop-i.invariant.1
+returns c = sum_last c.args.output.now c.loop-number.sum c.loop-number.number-index (omega arith) (omega arith) c.loop-number.invariant
