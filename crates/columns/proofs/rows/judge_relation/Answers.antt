@@ -41,12 +41,13 @@ relate_fields-requires c =
     let lent = lend_names c.args.items.now c.args.literals.now c.args.bytes.now c.args.names.now in
     let first = take (c.args.block.from + c.args.block.size - c.args.block.from) (drop c.args.block.from c.args.records.now) in
     let sides : (Sided lent first c.args.condition.subject × Sided lent first c.args.condition.object) = (first_sides c.requires.judgeable.0 c.requires.relation_value) in
-    let worded : (Worded lent c.args.condition) = (let t = both _ _ c.if-not-fits_word-row1.false in
+    let worded : (Worded lent c.args.condition) = (let rows = c in
+    let t = both _ _ c.if-not-fits_word-row1.false in
     let u = both _ _ t.0 in
     record {
-      subject = rw c.row_of-row1.ensures at (sym c.fits_word.ensures ∙ u.0);
-      object = rw c.row_of-row2.ensures at (sym c.fits_word-2.ensures ∙ u.1);
-      scale = rw (c.row_of-row1.ensures, c.row_of-row2.ensures) at (eqb-true c.row_of-row1.result.scale c.row_of-row2.result.scale t.1);
+      subject = rw rows.row_of-row1.ensures at (sym c.fits_word.ensures ∙ u.0);
+      object = rw rows.row_of-row2.ensures at (sym c.fits_word-2.ensures ∙ u.1);
+      scale = rw (rows.row_of-row1.ensures, rows.row_of-row2.ensures) at (eqb-true rows.row_of-row1.result.scale rows.row_of-row2.result.scale t.1);
     }) in
     let J = c.requires.judgeable.0 in
     let m = sizes worded in
@@ -91,12 +92,13 @@ relate_literal-requires c =
     let lent = lend_names c.args.items.now c.args.literals.now c.args.bytes.now c.args.names.now in
     let first = take (c.args.block.from + c.args.block.size - c.args.block.from) (drop c.args.block.from c.args.records.now) in
     let sides : (Sided lent first c.args.condition.subject × Sided lent first c.args.condition.object) = (first_sides c.requires.judgeable.0 c.requires.relation_value) in
-    let worded : (Worded lent c.args.condition) = (let t = both _ _ c.if-not-fits_word-row1.false in
+    let worded : (Worded lent c.args.condition) = (let rows = c in
+    let t = both _ _ c.if-not-fits_word-row1.false in
     let u = both _ _ t.0 in
     record {
-      subject = rw c.row_of-row1.ensures at (sym c.fits_word.ensures ∙ u.0);
-      object = rw c.row_of-row2.ensures at (sym c.fits_word-2.ensures ∙ u.1);
-      scale = rw (c.row_of-row1.ensures, c.row_of-row2.ensures) at (eqb-true c.row_of-row1.result.scale c.row_of-row2.result.scale t.1);
+      subject = rw rows.row_of-row1.ensures at (sym c.fits_word.ensures ∙ u.0);
+      object = rw rows.row_of-row2.ensures at (sym c.fits_word-2.ensures ∙ u.1);
+      scale = rw (rows.row_of-row1.ensures, rows.row_of-row2.ensures) at (eqb-true rows.row_of-row1.result.scale rows.row_of-row2.result.scale t.1);
     }) in
     let J = c.requires.judgeable.0 in
     let m = sizes worded in
@@ -110,12 +112,13 @@ pub returns-then-is_item : goal.returns-then-is_item
 returns-then-is_item c =
     let lent = lend_names c.args.items.now c.args.literals.now c.args.bytes.now c.args.names.now in
     let first = take (c.args.block.from + c.args.block.size - c.args.block.from) (drop c.args.block.from c.args.records.now) in
-    let worded : (Worded lent c.args.condition) = (let t = both _ _ c.if-not-fits_word-row1.false in
+    let worded : (Worded lent c.args.condition) = (let rows = c in
+    let t = both _ _ c.if-not-fits_word-row1.false in
     let u = both _ _ t.0 in
     record {
-      subject = rw c.row_of-row1.ensures at (sym c.fits_word.ensures ∙ u.0);
-      object = rw c.row_of-row2.ensures at (sym c.fits_word-2.ensures ∙ u.1);
-      scale = rw (c.row_of-row1.ensures, c.row_of-row2.ensures) at (eqb-true c.row_of-row1.result.scale c.row_of-row2.result.scale t.1);
+      subject = rw rows.row_of-row1.ensures at (sym c.fits_word.ensures ∙ u.0);
+      object = rw rows.row_of-row2.ensures at (sym c.fits_word-2.ensures ∙ u.1);
+      scale = rw (rows.row_of-row1.ensures, rows.row_of-row2.ensures) at (eqb-true rows.row_of-row1.result.scale rows.row_of-row2.result.scale t.1);
     }) in
     let in_file : (Bytes c.args.records.now × Bytes c.args.bytes.now) = ((bytes_of _ (λ i. (c.type_inv.records i).fits), bytes_of _ (λ i. (c.type_inv.bytes i).fits))) in
     let E = c.relate_literal.ensures in
@@ -136,12 +139,13 @@ relate_literal-requires-then-is_item-3 c =
     let lent = lend_names c.args.items.now c.args.literals.now c.args.bytes.now c.args.names.now in
     let first = take (c.args.block.from + c.args.block.size - c.args.block.from) (drop c.args.block.from c.args.records.now) in
     let sides : (Sided lent first c.args.condition.subject × Sided lent first c.args.condition.object) = (first_sides c.requires.judgeable.0 c.requires.relation_value) in
-    let worded : (Worded lent c.args.condition) = (let t = both _ _ c.if-not-fits_word-row1.false in
+    let worded : (Worded lent c.args.condition) = (let rows = c in
+    let t = both _ _ c.if-not-fits_word-row1.false in
     let u = both _ _ t.0 in
     record {
-      subject = rw c.row_of-row1.ensures at (sym c.fits_word.ensures ∙ u.0);
-      object = rw c.row_of-row2.ensures at (sym c.fits_word-2.ensures ∙ u.1);
-      scale = rw (c.row_of-row1.ensures, c.row_of-row2.ensures) at (eqb-true c.row_of-row1.result.scale c.row_of-row2.result.scale t.1);
+      subject = rw rows.row_of-row1.ensures at (sym c.fits_word.ensures ∙ u.0);
+      object = rw rows.row_of-row2.ensures at (sym c.fits_word-2.ensures ∙ u.1);
+      scale = rw (rows.row_of-row1.ensures, rows.row_of-row2.ensures) at (eqb-true rows.row_of-row1.result.scale rows.row_of-row2.result.scale t.1);
     }) in
     let J = c.requires.judgeable.0 in
     let m = sizes worded in
@@ -155,12 +159,13 @@ pub returns-then-is_item-3 : goal.returns-then-is_item-3
 returns-then-is_item-3 c =
     let lent = lend_names c.args.items.now c.args.literals.now c.args.bytes.now c.args.names.now in
     let first = take (c.args.block.from + c.args.block.size - c.args.block.from) (drop c.args.block.from c.args.records.now) in
-    let worded : (Worded lent c.args.condition) = (let t = both _ _ c.if-not-fits_word-row1.false in
+    let worded : (Worded lent c.args.condition) = (let rows = c in
+    let t = both _ _ c.if-not-fits_word-row1.false in
     let u = both _ _ t.0 in
     record {
-      subject = rw c.row_of-row1.ensures at (sym c.fits_word.ensures ∙ u.0);
-      object = rw c.row_of-row2.ensures at (sym c.fits_word-2.ensures ∙ u.1);
-      scale = rw (c.row_of-row1.ensures, c.row_of-row2.ensures) at (eqb-true c.row_of-row1.result.scale c.row_of-row2.result.scale t.1);
+      subject = rw rows.row_of-row1.ensures at (sym c.fits_word.ensures ∙ u.0);
+      object = rw rows.row_of-row2.ensures at (sym c.fits_word-2.ensures ∙ u.1);
+      scale = rw (rows.row_of-row1.ensures, rows.row_of-row2.ensures) at (eqb-true rows.row_of-row1.result.scale rows.row_of-row2.result.scale t.1);
     }) in
     let in_file : (Bytes c.args.records.now × Bytes c.args.bytes.now) = ((bytes_of _ (λ i. (c.type_inv.records i).fits), bytes_of _ (λ i. (c.type_inv.bytes i).fits))) in
     let E = c.relate_literal-then-is_item-3.ensures in

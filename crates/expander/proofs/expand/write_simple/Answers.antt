@@ -51,7 +51,8 @@ bounds-out-end c =
     let related : (let a = c.args in
     let w = c.write_relation-end in
     let now = set a.out.now 0 a.subject in
-    Front (a.subject ∷ stated a.relation) a.out.now (1 + w.result) (put_mid 1 (length now - 1) now w.new.out)) = (let a = c.args in
+    Front (a.subject ∷ stated a.relation) a.out.now (1 + w.result) (put_mid 1 (length now - 1) now w.new.out)) = (let b = c in
+    let a = b.args in
     let w = c.write_relation-end in
     let e = w.ensures.value in let g = w.ensures.out_after in
     front_part begun (stated a.relation) w.new.out w.result e (omega (arith, room)) g) in
@@ -73,9 +74,10 @@ returns-then-relation-lt10 c =
     let w = c.write_relation-end in
     let e = w.ensures.value in let g = w.ensures.out_after in
     front_part begun (stated a.relation) w.new.out w.result e (omega (arith, room)) g) in
-    let object-room : (1 + c.write_relation-end.result < length c.args.out.now) = (let a = c.args in
-    let e = ap length (full-object a.subject a.relation a.object c.if-relation-eq0.false c.if-relation-lt10.true) in
-    omega (arith, related.size, c.requires.1, length-append (stated a.relation) (a.object ∷ []))) in
+    let object-room : (1 + c.write_relation-end.result < length c.args.out.now) = (let b = c in
+    let a = b.args in
+    let e = ap length (full-object a.subject a.relation a.object b.if-relation-eq0.false c.if-relation-lt10.true) in
+    omega (arith, related.size, b.requires.1, length-append (stated a.relation) (a.object ∷ []))) in
     let a = c.args in
     let f = front_store related a.object object-room in
     rw (full-object a.subject a.relation a.object c.if-relation-eq0.false c.if-relation-lt10.true) (record {
@@ -91,7 +93,8 @@ returns c =
     let related : (let a = c.args in
     let w = c.write_relation-end in
     let now = set a.out.now 0 a.subject in
-    Front (a.subject ∷ stated a.relation) a.out.now (1 + w.result) (put_mid 1 (length now - 1) now w.new.out)) = (let a = c.args in
+    Front (a.subject ∷ stated a.relation) a.out.now (1 + w.result) (put_mid 1 (length now - 1) now w.new.out)) = (let b = c in
+    let a = b.args in
     let w = c.write_relation-end in
     let e = w.ensures.value in let g = w.ensures.out_after in
     front_part begun (stated a.relation) w.new.out w.result e (omega (arith, room)) g) in

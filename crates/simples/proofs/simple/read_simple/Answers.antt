@@ -34,7 +34,8 @@ read_object-requires c =
 
 pub returns-then-is_bound-relation : goal.returns-then-is_bound-relation
 returns-then-is_bound-relation c =
-    let short : (Here c.args.tokens.now c.args.at c.peek-token.result 262152 262153 × (c.args.carry.relation ≡ 0 → ⊥)) = (short_here _ _ _ _ _ _ c.peek-token.ensures (omega arith)
+    let short : (let t = c in
+    Here t.args.tokens.now t.args.at t.peek-token.result 262152 262153 × (t.args.carry.relation ≡ 0 → ⊥)) = (short_here _ _ _ _ _ _ c.peek-token.ensures (omega arith)
     (c.is_bound.ensures ∙ bound_within _) c.if-is_bound-relation.true) in
     let ((l, h, i), n) = short in record {
       reads = reads_on _ 1 _ _ _ 1 _ c.read_object.result

@@ -22,9 +22,10 @@ sweep_part-requires c =
     let run : (List ℕ → Judged) = (λ content. let a = c.args in
     run_gives (lend_names a.items.now a.literals.now a.bytes.now a.names.now) a.plan.now content a.switches) in
     let next : (Part c.args.records.now c.args.size c.loop-left.from
-    c.part_records-n.result c.loop-left.out (length c.loop-left.answers)) = (let a = c.args in
+    c.part_records-n.result c.loop-left.out (length c.loop-left.answers)) = (let start = c in
+    let a = start.args in
     let told = c.part_records-n.ensures in
-    part run a.records.now a.size a.answers.now c.requires.sizes c.requires.fits c.loop-left.invariant c.part_records-n.result
+    part run a.records.now a.size a.answers.now start.requires.sizes start.requires.fits c.loop-left.invariant c.part_records-n.result
     told.1 told.0 told.2) in
     let as_many : (length c.loop-left.answers ≡ length c.args.answers.now) = (let a = c.args in
     long run a.records.now a.size a.answers.now c.requires.sizes c.requires.fits c.loop-left.invariant) in

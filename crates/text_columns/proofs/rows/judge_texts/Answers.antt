@@ -68,7 +68,8 @@ returns-then-is_item-2 c =
       object = rw c.row_of-row2.ensures at (sym c.fits_text-2.ensures ∙ t.1);
     }) in
     let filled : (c.filled_size-filled.result ≡ longer lent c.args.condition) = (rw (c.row_of-row1.ensures, c.row_of-row2.ensures) at c.filled_size-filled.ensures) in
-    let in_file : (Bytes c.args.records.now × Bytes c.args.bytes.now) = ((bytes_of _ (λ i. (c.type_inv.records i).fits), bytes_of _ (λ i. (c.type_inv.bytes i).fits))) in
+    let in_file : (Bytes c.args.records.now × Bytes c.args.bytes.now) = (let c8 = c in
+    (bytes_of _ (λ i. (c8.type_inv.records i).fits), bytes_of _ (λ i. (c8.type_inv.bytes i).fits))) in
     let e = c in
     let i = sym c.is_item.ensures ∙ c.if-is_item.true in
     let j = sym c.is_item-then-is_item.ensures ∙ c.if-is_item-2.true in
