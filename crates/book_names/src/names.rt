@@ -10,7 +10,7 @@ use outputs::copies::copy_numbers;
 use tables::rows::NAME_TABLE;
 
 // The places of the names, or FILLER, of a description's rows, those of its conditions after them; and its literals. Beyond what is
-// counted the buffers stay as they were, and where the description is refused.
+// counted the buffers stay as they were, and where the description is refused; then the answer is the place of 14.
 pub fn book_of(
     description: &[u8],
     places: &mut [u32],

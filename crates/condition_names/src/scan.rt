@@ -50,7 +50,7 @@ fn thru_at(text: &[u8], low: usize, mid: usize) -> Result<ValueRead, usize>
     high_at(text, low, mid, k)
 }
 
-// The value after a blank at n. THRU begins with a T, and no literal does.
+// The value after a blank at n, or the first faulty byte. THRU begins with a T, and no literal does.
 pub fn value_at(text: &[u8], n: usize) -> Result<ValueRead, usize>
     requires { n ≤ length text.now }
     ensures { result ≡ value_at text.now n }

@@ -38,6 +38,7 @@ fn stopped(n: u32) -> u32
     if 65536 < n { 65536 } else { n }
 }
 
+// As an entry keeps them: sizes, scales and counts of digits stop at 65,536.
 fn ended(x: Clauses) -> Clauses
     ensures { result ≡ cap_ended x }
 {

@@ -71,7 +71,7 @@ fn named_at(text: &[u8], level: u32, depth: usize, p: usize) -> Result<EntryRead
     }
 }
 
-// The entry at p. `named`: 88 may stand here.
+// The entry at p, or the first faulty byte. `named`: 88 may stand here.
 pub fn entry_at(
     stack: &[u32],
     depth: usize,

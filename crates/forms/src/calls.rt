@@ -8,7 +8,7 @@ use expander::expand::write_expanded;
 use preparer::prepare::prepare;
 use tables::Refusal;
 
-// The expanded form of a condition, written from the start of the output.
+// The expanded form of a condition, written from the start of the output: the count of numbers written, or a refusal.
 pub fn expand(
     items: &[u32],
     literals: &[u32],

@@ -47,7 +47,7 @@ fn begins_with(stack: &[u32], depth: usize, waiting: u32, a: u8) -> bool
     false
 }
 
-// The level number at place p. `named`: 88 may stand here.
+// The level number at place p, or the first faulty byte. `named`: 88 may stand here.
 pub fn level_at(
     stack: &[u32],
     depth: usize,

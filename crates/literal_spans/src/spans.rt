@@ -14,7 +14,7 @@ fn is_whole(state: u32) -> bool
     (state == 2) | (state == 5) | (state == 7)
 }
 
-// The literal after a blank at n. The point of digits and a point was the period.
+// The literal after a blank at n, or the first faulty byte. The point of digits and a point was the period.
 pub fn spelled_at(text: &[u8], n: usize) -> Result<Spelled, usize>
     requires { n ≤ length text.now }
     ensures { result ≡ spelled_at text.now n }

@@ -43,7 +43,7 @@ fn read_values(
     }
 }
 
-// The entry whose level number ends at n: its name, VALUE and its values. `row` is for their pairs. What is free of it and
+// The entry whose level number ends at n: its name, VALUE and its values; or the first faulty byte. `row` is for their pairs. What is free of it and
 // of `notes` afterwards: `Spared`.
 pub fn read_name(
     text: &[u8],

@@ -8,6 +8,7 @@ use crate::{Drawn, Pending, Tally};
 use content::Row;
 use description::{Clauses, Pictured};
 
+// How often a repeated character stands, where no count is being read.
 fn total(t: Tally) -> Option<u32>
     requires { Small t }
     ensures { result ≡ total_of t }

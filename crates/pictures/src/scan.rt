@@ -26,7 +26,7 @@ fn sketched(rest: &[u8]) -> Sketch
     }
 }
 
-// The picture of an item, after a blank at n. Its counts stop at 131,072.
+// The picture of an item, after a blank at n, or the first faulty byte. Its counts stop at 131,072.
 pub fn picture_at(text: &[u8], n: usize) -> Result<Pictured, usize>
     requires { (n ≤ length text.now) × (length text.now ≤ 4096) }
     ensures { result ≡ cap_pictured (picture_at text.now n) }

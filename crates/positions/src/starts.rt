@@ -33,6 +33,7 @@ pub(crate) fn token_place(
 {
     let mut left = k;
     let mut past: usize = 0;
+    // The step depends on what is read.
     while past < text.len() {
         let Some(word) = next_word(text, past) else {
             return text_end(text);

@@ -25,7 +25,7 @@ pub enum Met {
     Literal(Row),
 }
 
-// With the place after them; or a refusal's number.
+// That, or a refusal's number; and the place after the word and those that join it.
 #[derive(Clone, Copy)]
 pub struct Piece {
     pub met: Result<Met, u32>,

@@ -86,7 +86,7 @@ fn store_name(
     places[i] = named as u32;
 }
 
-// The level 88 entry at p, of the last of `count` entries. `row` is for its pairs. What is free of it
+// The level 88 entry at p, of the last of `count` entries; or the first faulty byte. `row` is for its pairs. What is free of it
 // and of `notes` afterwards: `NotStored`.
 pub fn name_step(
     text: &[u8],

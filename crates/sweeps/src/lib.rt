@@ -6,7 +6,7 @@ use tables::Refusal;
 mod answers; // what is told of one record
 pub mod parts; // a block of records after the other
 
-// Why nothing was written: the records are of another size, or a refusal of run's, or 10.
+// Why nothing was written: records of this size do not fill the file; or a refusal of run's, or 10.
 #[derive(Clone, Copy)]
 pub enum Unswept {
     Uneven,

@@ -19,7 +19,7 @@ fn common_length(word: &[u8], rest: &[u8]) -> usize
     word.len()
 }
 
-// This word, after a blank at n.
+// This word, after a blank at n: where it ends, or the first byte that it cannot have.
 pub fn literal(word: &[u8], text: &[u8], n: usize) -> Result<usize, usize>
     requires { n ≤ length text.now }
     ensures { result ≡ literal_at word.now text.now n }

@@ -101,7 +101,7 @@ pub fn period_at(text: &[u8], k: usize) -> bool
     text[k] == 0x2e
 }
 
-// The name or FILLER of an entry, after a blank at n.
+// The name or FILLER of an entry, after a blank at n, or the first faulty byte.
 pub fn name_at(level: u32, text: &[u8], n: usize) -> Result<Called, usize>
     requires { n ≤ length text.now }
     ensures { result ≡ name_at level text.now n }
@@ -122,7 +122,7 @@ pub fn name_at(level: u32, text: &[u8], n: usize) -> Result<Called, usize>
     }
 }
 
-// The name of a level 88 entry, after a blank at n: no FILLER, no period.
+// The name of a level 88 entry, after a blank at n: no FILLER, no period. Where it ends, or the first faulty byte.
 pub fn label_at(text: &[u8], n: usize) -> Result<usize, usize>
     requires { n ≤ length text.now }
     ensures { result ≡ label_at text.now n }
