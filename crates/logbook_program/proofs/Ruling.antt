@@ -47,6 +47,15 @@ copied {out} {text} {after} {end} P h =
     let size : length text ≡ end = sym (P.ends ∙ ap (λ (l : List ℕ). 0 + length l) whole ∙ (omega arith)) in
     ap (take end) (P.stands ∙ ap (λ (l : List ℕ). l ++ drop end out) whole) ∙ take_at text (drop end out) end size
 
+-- what a merge counted, 0 where it was refused
+abbrev bytes_of : Result Merged Refusal → ℕ
+bytes_of (Ok merged) = merged.bytes
+bytes_of (Err refusal) = 0
+
+abbrev rows_of : Result Merged Refusal → ℕ
+rows_of (Ok merged) = merged.rows
+rows_of (Err refusal) = 0
+
 -- a merge that gave counts
 module _ (lent : Lent) (plan : List ℕ) (switches : ℕ) (old first second out list : List ℕ) {answer : Result Merged Refusal} {content rows : List ℕ} {n m : ℕ}
     (L : Leaves (merge_gives lent plan switches old first second out list) answer content rows) (q : answer ≡ Ok (record { bytes = n; rows = m })) where
@@ -71,8 +80,8 @@ module _ (lent : Lent) (plan : List ℕ) (switches : ℕ) (old first second out 
           let desk : first_of (desk_lines lent plan old first second) ≡ Ok tt =
           (lines_sound (first_of (desk_lines lent plan old first second) ∷ lines) (sym (lines_before (desk_lines lent plan old first second) lines) ∙ s)).0 in
           let size : length (merged_record copies verdict) ≡ n =
-          merged_long copies verdict (desk_fine lent plan old first second desk) ∙ (let e : length old ≡ n = cc in e) in
-          let count : length (contested copies verdict) ≡ m = cc in
+          merged_long copies verdict (desk_fine lent plan old first second desk) ∙ ap bytes_of a in
+          let count : length (contested copies verdict) ≡ m = ap rows_of a in
           record {
             saved = ap (take n) c ∙ take_at (merged_record copies verdict) (drop (length old) out) n size;
             listed = ap (take m) r ∙ take_at (contested copies verdict) (drop (length (contested copies verdict)) list) m count;
