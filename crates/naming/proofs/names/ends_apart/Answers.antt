@@ -1,8 +1,4 @@
--- `ends_apart` meets its contract: a word that is the name has its last byte too.
--- src/names.rt:24:10
--- src/names.rt:24:5
--- src/names.rt:24:25
--- src/names.rt:24:20
+-- `ends_apart` meets its contract: a word that is the name has its first and its last byte too.
 use native.Mathlib.Omega.{arith}
 use Prim.Native.Nat.{◌-◌}
 use lib.ListN.{length}
@@ -10,7 +6,10 @@ use Rattle.naming.proofs.Finding.{byte_differs}
 use borrow.Author.Tests.{eqb-false, not-true}
 use Rattle.naming.proofs.names.ends_apart.Goals as goal
 
--- src/names.rt:16:1
+pub returns-then-rest-word : goal.returns-then-rest-word
+returns-then-rest-word c e =
+    byte_differs c.args.word.now c.args.rest.now 0 (omega (arith, c.if-n-eq0.false)) c.if-rest-word.true
+
 pub returns : goal.returns
 returns c e =
     let word = c.args.word.now in

@@ -11,18 +11,18 @@ use Rattle.naming.proofs.names.same_name.Goals as goal
 pub returns-then-rest-word : goal.returns-then-rest-word
 returns-then-rest-word c = too_short c.args.word.now c.args.rest.now c.if-rest-word.true
 
-pub returns-then-starts_with : goal.returns-then-starts_with
-returns-then-starts_with c =
+pub returns-then-eq : goal.returns-then-eq
+returns-then-eq c =
     let word = c.args.word.now in
     let rest = c.args.rest.now in
-    let there : pointwise eqb word (take (length word) rest) ≡ true = sym c.starts_with.ensures.value ∙ c.if-starts_with.true in
+    let there : pointwise eqb word (take (length word) rest) ≡ true = sym c.eq.ensures ∙ c.if-eq.true in
     let h = heads word rest c.requires in
     ap not (c.is_name_byte.ensures ∙ ap is_name_byte c.byte_at.ensures) ∙ (rw there at h)
 
-pub returns-else-starts_with : goal.returns-else-starts_with
-returns-else-starts_with c =
+pub returns-else-eq : goal.returns-else-eq
+returns-else-eq c =
     let word = c.args.word.now in
     let rest = c.args.rest.now in
-    let other : pointwise eqb word (take (length word) rest) ≡ false = sym c.starts_with.ensures.value ∙ c.if-starts_with.false in
+    let other : pointwise eqb word (take (length word) rest) ≡ false = sym c.eq.ensures ∙ c.if-eq.false in
     let h = heads word rest c.requires in
-    c.if-starts_with.false ∙ (rw other at h)
+    c.if-eq.false ∙ (rw other at h)
