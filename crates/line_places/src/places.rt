@@ -32,9 +32,11 @@ pub fn line_start(before: &[u8]) -> usize
 pub fn line_rest(rest: &[u8]) -> usize
     ensures { result ≡ line_rest rest.now }
 {
-    rest.iter()
-        .position(|byte| *byte == 0x0A)
-        .unwrap_or(rest.len())
+    // Not `unwrap_or`: a must-fail edit of the place would be refused for a name alone, and not for the value.
+    match rest.iter().position(|byte| *byte == 0x0A) {
+        Some(i) => i,
+        None => rest.len(),
+    }
 }
 
 // What follows the characters with ink: the end of a word, or what nobody sees in it.

@@ -1,6 +1,7 @@
 -- Rests on what the callees return, by the kind: the digits beside the sign are those of a field of kind 3.
 use mathlib.Core.Path.{◌≡◌, ap, ◌∙◌}
 use mathlib.Core.List.{List}
+use mathlib.Core.Bool.{◌&&◌}
 use Prim.Native.Nat.{ℕ, ◌+◌, ◌-◌, ◌*◌, ◌%◌}
 use native.Mathlib.Omega.{arith}
 use lib.ListN.{length, get_or}
@@ -53,8 +54,8 @@ returns-then-kind-eq-SIGNED c count =
     let four = c.if-kind-eq-SIGNED.true in
     let rest = rest_number c.read_digits-rest.ensures (rw four at c.plain_digits.ensures) in
     let number = ap (λ (m : ℕ). m * 10 + get_or bytes (length bytes - 1) 0 % 16) rest ∙ number_last bytes c.requires.in_bounds.0 in
-    rw (
-      number,
+    let with : ℕ → Number = λ d. record { valid = c.read_digits-rest.result.valid && c.is_signed_digit.result; minus = c.is_minus-then-kind-eq-SIGNED.result; digits = d } in
+    ap with number ∙ rw (
       c.is_minus-then-kind-eq-SIGNED.ensures,
       c.is_signed_digit.ensures,
       c.read_digits-rest.ensures,
