@@ -30,14 +30,18 @@ fn read_values(
     let mut at = n;
     // Where the next value begins depends on what is read.
     loop {
-        match value_at(text, at)? {
-            ValueRead::Open { found, end } => {
+        match value_at(text, at) {
+            Ok(ValueRead::Open { found, end }) => {
                 tally = take_value(weigh(text, item, found), found, tally, row, notes);
                 at = end;
             }
-            ValueRead::Ended { found, end } => {
+            Ok(ValueRead::Ended { found, end }) => {
                 let last = take_value(weigh(text, item, found), found, tally, row, notes);
                 return Ok(NameRead { tally: last, end });
+            }
+            // An arm, not `?`: must-fail/counted_note_cleared clears a note in it.
+            Err(k) => {
+                return Err(k);
             }
         }
     }

@@ -17,6 +17,9 @@ pub fn check_lent(
 ) -> Result<(), Refusal>
     ensures { result ≡ first_of (lent_lines (lend_names items.now literals.now bytes.now names.now)) }
 {
-    check_tables(items, literals, bytes)?;
+    // Not `?`: must-fail/table_let_pass answers otherwise here.
+    if let Err(refusal) = check_tables(items, literals, bytes) {
+        return Err(refusal);
+    }
     check_names(items, literals, bytes, names)
 }

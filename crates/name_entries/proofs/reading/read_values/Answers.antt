@@ -1,9 +1,7 @@
 -- `read_values` meets its contract: from the laws of proofs/ and what its callees ensure. Assumes nothing.
 use native.Mathlib.Omega.{arith}
 use mathlib.Core.Path.{sym, ap, subst, ◌∙◌}
-use Prim.Native.Nat.{◌-◌}
 use Rattle.std.proofs.Common.{Ok}
-use Rattle.std.proofs.lemmas.Result.{err_from_is_err_and}
 use Rattle.value_notes.specs.Taking.{Small}
 use Rattle.value_notes.proofs.Taken.{same_weight}
 use Rattle.name_entries.proofs.Holding.{small_weighed}
@@ -16,38 +14,35 @@ loop-found-init c =
     c.requires.1
 
 pub weigh-requires : goal.weigh-requires
-weigh-requires c = (stands c.loop-found.invariant (sym (ap Ok c.in-Open.is) ∙ c.in_ok-found.ensures)).0
+weigh-requires c = (stands c.loop-found.invariant (sym (c.in-Ok-Open.is ∙ ap Ok c.in-Ok-Open.field-0-is) ∙ c.value_at.ensures)).0
 
 pub take_value-tally-requires : goal.take_value-tally-requires
 take_value-tally-requires c =
-    let s = (stands c.loop-found.invariant (sym (ap Ok c.in-Open.is) ∙ c.in_ok-found.ensures)).0 in
+    let s = (stands c.loop-found.invariant (sym (c.in-Ok-Open.is ∙ ap Ok c.in-Ok-Open.field-0-is) ∙ c.value_at.ensures)).0 in
     (rooms c.loop-found.invariant c.requires.1 s, subst Small (sym c.weigh.ensures) (small_weighed c.args.text.now c.args.item _ s))
 
 pub loop-found-smaller : goal.loop-found-smaller
 loop-found-smaller c =
-    let s = stands c.loop-found.invariant (sym (ap Ok c.in-Open.is) ∙ c.in_ok-found.ensures) in
+    let s = stands c.loop-found.invariant (sym (c.in-Ok-Open.is ∙ ap Ok c.in-Ok-Open.field-0-is) ∙ c.value_at.ensures) in
     omega (arith, s.1, s.2)
 
 pub loop-found-preserved : goal.loop-found-preserved
 loop-found-preserved c =
-    going_more c.loop-found.invariant (omega (arith, c.loop-found.invariant.rest.spared.long, c.requires.1.long)) (same_weight (sym c.weigh.ensures) c.take_value-tally.ensures) (sym (ap Ok c.in-Open.is) ∙
-    c.in_ok-found.ensures)
+    going_more c.loop-found.invariant (omega (arith, c.loop-found.invariant.rest.spared.long, c.requires.1.long)) (same_weight (sym c.weigh.ensures) c.take_value-tally.ensures) (sym (c.in-Ok-Open.is ∙ ap Ok c.in-Ok-Open.field-0-is) ∙ c.value_at.ensures)
 
-pub weigh-requires-in-Ended : goal.weigh-requires-in-Ended
-weigh-requires-in-Ended c =
-    (stands_ended c.loop-found.invariant (sym (ap Ok c.in-Ended.is) ∙ c.in_ok-found.ensures)).0
+pub weigh-requires-in-Ok-Ended : goal.weigh-requires-in-Ok-Ended
+weigh-requires-in-Ok-Ended c =
+    (stands_ended c.loop-found.invariant (sym (c.in-Ok-Ended.is ∙ ap Ok c.in-Ok-Ended.field-0-is) ∙ c.value_at.ensures)).0
 
 pub take_value-last-requires : goal.take_value-last-requires
 take_value-last-requires c =
-    let s = (stands_ended c.loop-found.invariant (sym (ap Ok c.in-Ended.is) ∙ c.in_ok-found.ensures)).0 in
-    (rooms c.loop-found.invariant c.requires.1 s, subst Small (sym c.weigh-in-Ended.ensures) (small_weighed c.args.text.now c.args.item _ s))
+    let s = (stands_ended c.loop-found.invariant (sym (c.in-Ok-Ended.is ∙ ap Ok c.in-Ok-Ended.field-0-is) ∙ c.value_at.ensures)).0 in
+    (rooms c.loop-found.invariant c.requires.1 s, subst Small (sym c.weigh-in-Ok-Ended.ensures) (small_weighed c.args.text.now c.args.item _ s))
 
-pub returns-in-Ended : goal.returns-in-Ended
-returns-in-Ended c =
+pub returns-in-Ok-Ended : goal.returns-in-Ok-Ended
+returns-in-Ok-Ended c =
     going_ended c.loop-found.invariant (omega (arith, c.loop-found.invariant.rest.spared.long, c.requires.1.long))
-    (same_weight (sym c.weigh-in-Ended.ensures) c.take_value-last.ensures) (sym (ap Ok c.in-Ended.is) ∙ c.in_ok-found.ensures)
+    (same_weight (sym c.weigh-in-Ok-Ended.ensures) c.take_value-last.ensures) (sym (c.in-Ok-Ended.is ∙ ap Ok c.in-Ok-Ended.field-0-is) ∙ c.value_at.ensures)
 
-pub returns-in_err-found : goal.returns-in_err-found
-returns-in_err-found c =
-    let p = err_from_is_err_and c.from_residual.result c.from_residual.ensures.1 in
-    rw (p.1, p.2) (going_fault c.loop-found.invariant c.in_err-found.ensures)
+pub returns-in-Err : goal.returns-in-Err
+returns-in-Err c = going_fault c.loop-found.invariant (sym c.in-Err.is ∙ c.value_at.ensures)

@@ -10,14 +10,14 @@ returns-in-Some c =
     past_word c.args.text.now c.args.word.now c.args.from next.at next.end found.0
     found.1 found.2 found.3 (sym c.same_bytes.ensures ∙ c.if-same_bytes.true)
 
-pub returns-in_default : goal.returns-in_default
-returns-in_default c =
+pub returns-in-Some-2 : goal.returns-in-Some-2
+returns-in-Some-2 c =
     let next = c.in-Some.next in
     let found = found-next c.next_word.result next c.next_word.ensures c.in-Some.is in
     not_past c.args.text.now c.args.word.now c.args.from next.at next.end c.requires
     found.3 (sym c.same_bytes.ensures ∙ c.if-same_bytes.false)
 
-pub returns-in_default-2 : goal.returns-in_default-2
-returns-in_default-2 c =
+pub returns-in-None : goal.returns-in-None
+returns-in-None c =
     none_past c.args.text.now c.args.word.now c.args.from c.requires
-    (found_end c.next_word.result c.next_word.ensures c.in_default.is)
+    (found_end c.next_word.result c.next_word.ensures c.in-None.is)
