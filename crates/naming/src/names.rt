@@ -32,7 +32,7 @@ fn same_name(word: &[u8], rest: &[u8]) -> bool
     if ends_apart(word, rest) {
         return false;
     }
-    // Not `starts_with` or `==`, which look at more than the first byte that differs: most names here do so early.
+    // Not `starts_with` or `==`, which look past the first byte that differs.
     for k in 0..word.len() {
         if rest[k] != word[k] {
             return false;
